@@ -1,0 +1,5 @@
+pub mod BoundedList
+pub mod Reply
+pub mod ReplyRoom
+pub mod Request
+pub mod Status
