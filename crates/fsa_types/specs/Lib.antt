@@ -1,4 +1,5 @@
 pub mod BoundedList
+pub mod CaseTable
 pub mod Reply
 pub mod ReplyRoom
 pub mod Request
