@@ -4,3 +4,4 @@ pub mod Reply
 pub mod ReplyRoom
 pub mod Request
 pub mod Status
+pub mod StreamBytes
