@@ -1,2 +1,14 @@
+pub mod Close
+pub mod Create
+pub mod Edits
+pub mod History
+pub mod Lookups
+pub mod Outcome
+pub mod Read
+pub mod Schedule
 pub mod Setup
+pub mod Sharing
+pub mod Text
+pub mod Turn
 pub mod Volume
+pub mod Write

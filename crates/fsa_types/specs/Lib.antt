@@ -1,7 +1,9 @@
+pub mod Access
 pub mod BoundedList
 pub mod CaseTable
 pub mod Reply
 pub mod ReplyRoom
 pub mod Request
+pub mod Sharing
 pub mod Status
 pub mod StreamBytes
