@@ -1,3 +1,4 @@
 pub mod Faults
+pub mod MemorySource
 pub mod Sink
 pub mod Source
