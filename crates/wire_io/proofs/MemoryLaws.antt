@@ -9,11 +9,13 @@ pub HasRead-copied : (bytes : List ℕ) (place n : ℕ) (copied behind : List �
 HasRead-copied bytes place n copied behind is within =
     let count : place + n - place ≡ n = omega arith in
     let same : copied ≡ take n (drop place bytes) = is ∙ ap (λ k. take k (drop place bytes)) count in
-    let long : length copied ≡ n = omega (arith, ap length same, length-take n (drop place bytes), length-drop place bytes) in
-    (drop (place + n) bytes, refl,
+    let long : length copied ≡ n = omega (arith, ap length same, length-take n (drop place bytes), length-drop place bytes) in (
+      drop (place + n) bytes,
+      refl,
       sym (take-append-drop n (drop place bytes))
-      ∙ ap (λ xs. xs ++ drop n (drop place bytes)) (sym (take_at copied behind n long ∙ same))
-      ∙ ap (λ xs. take n (copied ++ behind) ++ xs) (drop-drop n place bytes))
+          ∙ ap (λ xs. xs ++ drop n (drop place bytes)) (sym (take_at copied behind n long ∙ same))
+          ∙ ap (λ xs. take n (copied ++ behind) ++ xs) (drop-drop n place bytes),
+    )
 
 -- a call with room gives nothing only at the end
 pub drop-at_end : (bytes : List ℕ) (place n room piece : ℕ) → n ≡ min (min room piece) (length bytes - place) → 0 < piece → 0 < room → n ≡ 0

@@ -4,11 +4,11 @@ use Rattle.std.specs.List.{list_any}
 use Rattle.wire_io.specs.Faults.{one_more}
 
 pub record Supply : Type 0 where
-  pub left : List ℕ          -- the bytes that were not given yet
-  pub piece : ℕ              -- how many bytes a call gives at most
-  pub failing : List ℕ       -- the numbers of the calls that fail
-  pub calls : ℕ              -- how many calls were made
-  pub faults : ℕ             -- how many of them failed
+  pub left : List ℕ  -- the bytes that were not given yet
+  pub piece : ℕ  -- how many bytes a call gives at most
+  pub failing : List ℕ  -- the numbers of the calls that fail
+  pub calls : ℕ  -- how many calls were made
+  pub faults : ℕ  -- how many of them failed
 
 -- a new source: no call was made
 abbrev pub begun : List ℕ → ℕ → List ℕ → Supply
