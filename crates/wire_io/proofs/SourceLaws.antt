@@ -26,6 +26,12 @@ pub HasMoreThan-read : (limit : ℕ) (old new : Option (List ℕ)) (bytes : List
 HasMoreThan-read limit None new bytes read more = tt
 HasMoreThan-read limit (Some all) new bytes read more = omega (arith, ap length read.2, length-append bytes read.0)
 
+-- so had one of which some bytes were read, and then more
+pub HasMoreThan-append : (limit : ℕ) (old mid new : Option (List ℕ)) (read piece : List ℕ)
+    → HasRead old mid read → HasRead mid new piece → limit < length read + length piece → HasMoreThan limit old
+HasMoreThan-append limit old mid new read piece first second more =
+    HasMoreThan-read limit old new (read ++ piece) (HasRead-append old mid new read piece first second) (omega (arith, length-append read piece))
+
 -- what was read, and then a piece within what may still come
 pub HasReadAtMost-append : (most : ℕ) (old mid new : Option (List ℕ)) (read piece : List ℕ)
     → HasRead old mid read → HasRead mid new piece → length read + length piece ≤ most → HasReadAtMost most old new

@@ -25,9 +25,9 @@ pub struct MemorySink {
 
 impl Model for MemorySink {
     ghost use Rattle.std.specs.Prelude.{◌<◌, ◌≤◌, vec_len, vec_capacity};
-    ghost use Rattle.wire_io.specs.MemorySink.{Store};
+    ghost use Rattle.wire_io.specs.MemorySink.{SinkState};
 
-    ghost Value = { Store };
+    ghost Value = { SinkState };
 
     ghost view = { λ s. record { written = s.bytes.items; room = s.room; piece = s.piece; failing = s.failing.items; calls = s.calls; faults = s.faults } };
 

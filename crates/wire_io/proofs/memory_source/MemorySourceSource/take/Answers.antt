@@ -4,7 +4,7 @@ use Rattle.wire_io.proofs.memory_source.MemorySourceSource.take.Goals as goal
 
 pub returns-clause-bytes : goal.returns-clause-bytes
 returns-clause-bytes c =
-    let supply = c.self.inside in (
-      rw (← c.self.view_is) (HasRead-copied supply.bytes.items supply.place c.min-count.result c.copy_from_slice.new.self _ (cc (c.copy_from_slice.ensures.after, c.deref-2.ensures.value)) (omega arith)),
-      λ none wide. drop-at_end supply.bytes.items supply.place c.min-count.result (length c.args.buf.now) supply.piece (omega arith) c.self.invariant.1 (omega (arith, length-append {A = ℕ}, length-drop {A = ℕ}, c.copy_from_slice.ensures.len)) none,
+    let source = c.self.inside in (
+      rw (← c.self.view_is) (HasRead-copied source.bytes.items source.place c.min-count.result c.copy_from_slice.new.self _ (cc (c.copy_from_slice.ensures.after, c.deref-2.ensures.value)) (omega arith)),
+      λ none wide. drop-at_end source.bytes.items source.place c.min-count.result (length c.args.buf.now) source.piece (omega arith) c.self.invariant.1 (omega (arith, length-append {A = ℕ}, length-drop {A = ℕ}, c.copy_from_slice.ensures.len)) none,
     )
