@@ -4,7 +4,7 @@ ghost use Rattle.wire_io.specs.Faults.{HasCause};
 ghost use Rattle.wire_io.specs.Sink.{Puts};
 ghost use Rattle.wire_io.specs.MemorySink.{begun, fails_next, count_taken, after_put, after_fault};
 
-use super::faults::Failed;
+use super::faults::{Failed, one_more};
 use super::sinks::Sink;
 use fsa_types::NoMemory;
 use std::alloc::Global;
@@ -69,8 +69,8 @@ impl MemorySink {
     fn fault(&mut self) -> Failed
         ensures { self.new ≡ after_fault self.old }
     {
-        self.calls = self.calls.saturating_add(1);
-        self.faults = self.faults.saturating_add(1);
+        self.calls = one_more(self.calls);
+        self.faults = one_more(self.faults);
         Failed
     }
 }
@@ -99,7 +99,7 @@ impl Sink for MemorySink {
         ensures never { self.old.failing ≡ [] → length self.old.written + length bytes.now ≤ self.old.room
             → self.new.faults ≡ self.old.faults }
     {
-        let number = self.calls.saturating_add(1);
+        let number = one_more(self.calls);
         if self.failing.contains(&number) {
             return Err(self.fault());
         }

@@ -4,7 +4,7 @@ ghost use Rattle.wire_io.specs.Faults.{HasCause};
 ghost use Rattle.wire_io.specs.Source.{Takes};
 ghost use Rattle.wire_io.specs.MemorySource.{begun, fails_next, count_given, after_take, after_fault};
 
-use super::faults::Failed;
+use super::faults::{Failed, one_more};
 use super::sources::Source;
 use fsa_types::NoMemory;
 use std::alloc::Global;
@@ -79,9 +79,9 @@ impl Source for MemorySource {
         // With no failing call the count never rises.
         ensures never { self.old.failing ≡ [] → self.new.faults ≡ self.old.faults }
     {
-        self.calls = self.calls.saturating_add(1);
+        self.calls = one_more(self.calls);
         if self.failing.contains(&self.calls) {
-            self.faults = self.faults.saturating_add(1);
+            self.faults = one_more(self.faults);
             return Err(Failed);
         }
         let count = buf.len().min(self.piece).min(self.bytes.len() - self.place);

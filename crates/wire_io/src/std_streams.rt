@@ -4,7 +4,7 @@ ghost use Rattle.wire_io.specs.Faults.{one_more, HasCause};
 ghost use Rattle.wire_io.specs.Sink.{Puts};
 ghost use Rattle.wire_io.specs.Source.{Takes};
 
-use super::faults::Failed;
+use super::faults::{Failed, one_more};
 use super::sinks::Sink;
 use super::sources::Source;
 use std::io::{Read, Write};
@@ -50,7 +50,7 @@ impl<I: Read> Source for StdSource<I> {
         ensures err { OnErr result (self.new ≡ one_more self.old) }
     {
         let Ok(count) = self.input.read(buf) else {
-            self.faults = self.faults.saturating_add(1);
+            self.faults = one_more(self.faults);
             return Err(Failed);
         };
         Ok(count)
@@ -101,7 +101,7 @@ impl<O: Write> Sink for StdSink<O> {
         match hand_on(&mut self.output, bytes) {
             Some(count) => Ok(count),
             None => {
-                self.faults = self.faults.saturating_add(1);
+                self.faults = one_more(self.faults);
                 Err(Failed)
             }
         }
