@@ -1,5 +1,5 @@
 -- Laws on counts of faults, over one call after another.
-use Rattle.std.proofs.Common.{◌≡◌, ℕ, ◌+◌, ◌-◌, ◌^◌, ◌<◌, ◌≤◌, min, arith}
+use Rattle.std.proofs.Common.{ℕ, ◌-◌, ◌^◌, ◌<◌, ◌≤◌, arith}
 use Rattle.wire_io.specs.Faults.{one_more, Rose}
 
 -- a count that never falls and rises once has risen in all

@@ -1,5 +1,5 @@
 -- What a source over bytes in memory has, and what one call makes of it. No public standard speaks of this.
-use Rattle.std.specs.Prelude.{ℕ, ◌+◌, ◌==◌, Bool, min, List, length, drop}
+use Rattle.std.specs.Prelude.{ℕ, ◌==◌, Bool, min, List, length, drop}
 use Rattle.std.specs.List.{list_any}
 use Rattle.wire_io.specs.Faults.{one_more}
 

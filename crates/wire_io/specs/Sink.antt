@@ -11,7 +11,8 @@ Appends (Some written) new bytes = new ≡ Some (written ++ bytes)
 abbrev pub AppendsFront : Option (List ℕ) → Option (List ℕ) → List ℕ → Type 0
 AppendsFront old new bytes = (front back : List ℕ) × (bytes ≡ front ++ back) × Appends old new front
 
--- one put: the first n bytes of the piece were written; a put that failed has written a prefix of it
+-- one put: the first n bytes of the piece were written; a put that failed has written a prefix of
+-- the piece
 abbrev pub Puts : Option (List ℕ) → Option (List ℕ) → Result ℕ Failed → List ℕ → Type 0
 Puts old new (Ok n) piece = Appends old new (take n piece)
 Puts old new (Err failed) piece = AppendsFront old new piece

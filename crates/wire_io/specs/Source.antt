@@ -1,5 +1,5 @@
 -- What is read of a source that tells its bytes. No public standard speaks of this.
-use Rattle.std.specs.Prelude.{◌≡◌, ℕ, ◌+◌, ◌<◌, ◌≤◌, List, [], ◌++◌, length, take, Option, Some, None, Result, Ok, Err}
+use Rattle.std.specs.Prelude.{◌≡◌, ℕ, ◌<◌, ◌≤◌, List, [], ◌++◌, length, take, Option, Some, None, Result, Ok, Err}
 use Rattle.wire_io.specs.declared.faults.Failed.{Failed}
 
 -- these bytes were read, and the others are left
@@ -16,7 +16,8 @@ IsAtEnd (Some left) = left ≡ []
 abbrev pub HasReadAtMost : ℕ → Option (List ℕ) → Option (List ℕ) → Type 0
 HasReadAtMost most old new = (bytes : List ℕ) × (length bytes ≤ most) × HasRead old new bytes
 
--- one take: the next n bytes stand at the buffer's front, none of them only at the end or for an empty buffer; a take that failed has lost no more than it asked for
+-- one take: the next n bytes stand at the buffer's front, none of them only at the end or for an
+-- empty buffer; a take that failed has lost no more bytes than it asked for
 abbrev pub Takes : Option (List ℕ) → Option (List ℕ) → Result ℕ Failed → List ℕ → Type 0
 Takes old new (Ok n) buffer = HasRead old new (take n buffer) × (n ≡ 0 → 0 < length buffer → IsAtEnd new)
 Takes old new (Err failed) buffer = HasReadAtMost (length buffer) old new

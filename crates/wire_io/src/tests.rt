@@ -115,8 +115,13 @@ fn passes_bytes_and_faults(rt: HostRuntime) -> Result<(), Fail> {
     Ok(())
 }
 
+/// Passes a gate that threads may share.
+fn pass_shared<G: Gate + Sync>(gate: &G) {
+    gate.pass(0, 1);
+}
+
 /// The open gate returns.
 #[test]
 fn passes_the_open_gate() {
-    OpenGate.pass(0, 1);
+    pass_shared(&OpenGate);
 }

@@ -1,4 +1,4 @@
-use Rattle.std.proofs.Common.{ℕ, ◌+◌, ◌≤◌, length, length-take, length-drop, arith}
+use Rattle.std.proofs.Common.{ℕ, length-take, length-drop, arith}
 use Rattle.std.proofs.lemmas.Result.{err_from_is_err_and}
 use Rattle.wire_io.proofs.SinkLaws.{Appends-rest, AppendsFront-rest}
 use Rattle.wire_io.proofs.sinks.put_all.Goals as goal

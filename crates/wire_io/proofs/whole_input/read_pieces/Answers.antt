@@ -1,4 +1,4 @@
-use Rattle.std.proofs.Common.{◌≡◌, ℕ, ◌+◌, ◌≤◌, length, vec_len, length-take, arith}
+use Rattle.std.proofs.Common.{ℕ, ◌≤◌, length, length-take, arith}
 use Rattle.std.proofs.lemmas.List.{take-append-le}
 use Rattle.wire_io.proofs.SourceLaws.{HasRead-append, HasReadAtMost-append, HasReadAtMost-more, HasMoreThan-append}
 use Rattle.wire_io.proofs.whole_input.read_pieces.Goals as goal

@@ -1,4 +1,4 @@
-use Rattle.std.proofs.Common.{◌≡◌, ℕ, ◌+◌, ◌-◌, ◌≤◌, min, length, length-append, length-drop, arith}
+use Rattle.std.proofs.Common.{ℕ, length, length-append, length-drop, arith}
 use Rattle.wire_io.proofs.MemoryLaws.{HasRead-copied, drop-at_end}
 use Rattle.wire_io.proofs.memory_source.MemorySourceSource.take.Goals as goal
 
