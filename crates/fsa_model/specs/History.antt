@@ -1,5 +1,5 @@
 -- Histories: lists of turns, run one after another from a fresh volume.
-use Rattle.std.specs.Prelude.{List, [], ◌∷◌, ◌++◌, Option, Some, option_and_then}
+use Rattle.std.specs.Prelude.{List, [], ◌∷◌, ◌++◌, Option, Some, None, option_and_then, option_map}
 use Rattle.fsa_types.specs.declared.request.Call.{Call}
 use Rattle.fsa_types.specs.declared.request.CallId.{CallId}
 use Rattle.fsa_model.specs.Setup.{Setup}
@@ -21,14 +21,18 @@ pub record Run : Type 0 where
 abbrev pub with_turn : Run → Turned → Run
 with_turn r turned = record { volume = turned.volume; outs = r.outs ++ turned.out ∷ [] }
 
--- the run of these turns after another, where each of them is defined
-abbrev pub run_on : Run → List HistoryEntry → Option Run
-run_on r [] = Some r
-run_on r (entry ∷ more) = option_and_then (λ turned. run_on (with_turn r turned) more) (turn r.volume entry.call entry.starved)
+-- one more turn, where there is such a turn
+abbrev pub turn_on : Run → HistoryEntry → Option Run
+turn_on r entry = option_map (with_turn r) (turn r.volume entry.call entry.starved)
+
+-- the state after a step for each item, where each step is defined
+abbrev pub steps : {S E : Type 0} → (S → E → Option S) → S → List E → Option S
+steps step state [] = Some state
+steps step state (item ∷ more) = option_and_then (λ after. steps step after more) (step state item)
 
 abbrev pub begun : Setup → Run
 begun setup = record { volume = fresh setup; outs = [] }
 
 -- the run of a history from a fresh volume
 abbrev pub run : Setup → List HistoryEntry → Option Run
-run setup history = run_on (begun setup) history
+run setup history = steps turn_on (begun setup) history

@@ -1,7 +1,7 @@
 -- In which order a script's calls are made on one thread, and the history that comes of it.
 use Rattle.std.specs.Prelude.{◌≡◌, ℕ, zero, suc, Bool, true, false, ◌+◌, ◌==◌, ◌&&◌, not, cond, List, [], ◌∷◌, ◌++◌, Option, Some, map, take, find, length, slice_get, All, IsTrue, IsSome, option_and_then}
 use Rattle.std.specs.Option.{option_map_or}
-use Rattle.std.specs.List.{list_any, enumerate_from}
+use Rattle.std.specs.List.{list_any, list_all, enumerate_from}
 use Rattle.fsa_types.specs.declared.request.What.{What}
 use Rattle.fsa_types.specs.declared.request.What.TheVariants.{WaitFor, Leave}
 use Rattle.fsa_types.specs.declared.request.Call.{Call}
@@ -17,6 +17,11 @@ calls_of client (call ∷ more) = cond (call.client == client) 1 0 + calls_of cl
 -- the client's leaving, after its lines
 abbrev pub leave_after : List Call → ℕ → Call
 leave_after lines client = record { client = client; number = calls_of client lines + 1; what = Leave }
+
+-- each call's number is one more than those of its client's calls before it
+abbrev pub AreNumbered : List Call → List Call → Type 0
+AreNumbered before [] = Unit {0}
+AreNumbered before (call ∷ more) = (call.number ≡ calls_of call.client before + 1) × AreNumbered (before ++ call ∷ []) more
 
 -- the lines in order, and then each client leaves, in order of clients
 abbrev pub all_calls : Script → List Call
@@ -51,7 +56,7 @@ pub record Scheduled (script : Script) (history : List HistoryEntry) : Type 0 wh
 
 -- it has all calls of the script
 abbrev pub HasAllCalls : Script → List HistoryEntry → Type 0
-HasAllCalls script history = All (λ call. IsTrue (is_made history call)) (all_calls script)
+HasAllCalls script history = IsTrue (list_all (is_made history) (all_calls script))
 
 -- a turn in which no call found no memory
 abbrev pub plain_entry : Call → HistoryEntry
