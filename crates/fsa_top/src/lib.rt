@@ -1,0 +1,4 @@
+//! The top call: a script from a source, run on one volume, its history written to a sink as text.
+#![tactic(auto)]
+
+mod text;
