@@ -1,7 +1,6 @@
 -- The volume: a record of plain lists, after the abstract data model of [MS-FSA], 'Per Volume' to
 -- 'Per Oplock'.
-use Rattle.std.specs.Prelude.{ℕ, Bool, true, List, [], ◌∷◌, Option, None, ◌==◌, find, filter, map, option_map, if◌then◌else◌, not}
-use Rattle.std.specs.List.{list_any}
+use Rattle.std.specs.Prelude.{ℕ, Bool, true, List, [], ◌∷◌, Option, None}
 use Rattle.fsa_types.specs.declared.request.Ace.{Ace}
 use Rattle.fsa_types.specs.declared.request.Call.{Call}
 use Rattle.fsa_types.specs.declared.request.Level.{Level}
@@ -145,16 +144,3 @@ fresh setup = record {
   last_lock = 0;
   last_break = 0;
 }
-
--- the row under this number; whether there is one; all rows but it; all rows with this change to it
-abbrev pub row_of : {R : Type 0} → List (ℕ × R) → ℕ → Option R
-row_of rows id = option_map (λ entry. entry.1) (find (λ entry. entry.0 == id) rows)
-
-abbrev pub lives : {R : Type 0} → List (ℕ × R) → ℕ → Bool
-lives rows id = list_any (λ entry. entry.0 == id) rows
-
-abbrev pub without_row : {R : Type 0} → List (ℕ × R) → ℕ → List (ℕ × R)
-without_row rows id = filter (λ entry. not (entry.0 == id)) rows
-
-abbrev pub with_row_changed : {R : Type 0} → (R → R) → List (ℕ × R) → ℕ → List (ℕ × R)
-with_row_changed change rows id = map (λ entry. if entry.0 == id then (entry.0, change entry.1) else entry) rows

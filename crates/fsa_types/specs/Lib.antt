@@ -5,3 +5,5 @@ pub mod ReplyRoom
 pub mod Request
 pub mod Status
 pub mod StreamBytes
+
+pub mod Rows
