@@ -1,10 +1,11 @@
 -- The changes of a volume, each of one part and of nothing else.
-use Rattle.std.specs.Prelude.{ℕ, false, ◌+◌, List, [], ◌∷◌, ◌++◌, bit_or}
+use Rattle.std.specs.Prelude.{ℕ, Bool, false, ◌+◌, ◌==◌, ◌&&◌, not, List, [], ◌∷◌, ◌++◌, Option, None, bit_or, filter}
 use Rattle.fsa_types.specs.StreamBytes.{put}
 use Rattle.fsa_types.specs.declared.request.Call.{Call}
 use Rattle.fsa_types.specs.declared.reply.EndOf.{EndOf}
 use Rattle.fsa_types.specs.declared.reply.Blocker.{Blocker}
-use Rattle.fsa_model.specs.Volume.{Volume, File, Handle, with_row_changed}
+use Rattle.fsa_types.specs.Rows.{with_row_changed}
+use Rattle.fsa_model.specs.Volume.{Volume, File, Link, Stream, Handle, Pending}
 
 -- one more file, link, stream, handle, under the next number
 abbrev pub with_file : Volume → File → Volume
@@ -40,9 +41,12 @@ with_file_written v file = record v {
   files = with_row_changed (λ row. record row { attributes = bit_or row.attributes 0x20; write = v.clock; change = v.clock }) v.files file;
 }
 
--- one more call has ended
+-- the call has ended, and is pending no more
 abbrev pub with_end : Volume → EndOf → Volume
-with_end v end = record v { ended = v.ended ++ end ∷ [] }
+with_end v end = record v {
+  pending = filter (λ entry. not ((entry.1.call.client == end.client) && (entry.1.call.number == end.number))) v.pending;
+  ended = v.ended ++ end ∷ [];
+  }
 
 -- one more call is pending, under its turn, with what it waits for
 abbrev pub with_pending : Volume → ℕ → Call → List Blocker → Volume

@@ -3,7 +3,8 @@ use Rattle.std.specs.Prelude.{ℕ, Bool, ◌==◌, ◌&&◌, List, [], Option, f
 use Rattle.std.specs.Option.{option_map_or}
 use Rattle.std.specs.List.{list_any}
 use Rattle.fsa_types.specs.CaseTable.{same_name}
-use Rattle.fsa_model.specs.Volume.{Volume, Handle, Link, row_of}
+use Rattle.fsa_types.specs.Rows.{row_of}
+use Rattle.fsa_model.specs.Volume.{Volume, Handle, Link}
 
 -- the open handle of this client that its call of this number opened, with its id
 abbrev pub handle_of : Volume → ℕ → ℕ → Option (ℕ × Handle)
@@ -15,11 +16,11 @@ child_of v parent name = find (λ entry. (entry.1.parent == parent) && same_name
 
 -- the default stream of this file, 0 where it has none
 abbrev pub default_stream : Volume → ℕ → ℕ
-default_stream v file = option_map_or (λ entry. entry.0) (find (λ entry. entry.1.file == file) v.streams) 0
+default_stream v file = option_map_or (λ entry. entry.0) (find (λ entry. (entry.1.file == file) && (length entry.1.name == 0)) v.streams) 0
 
 -- the bytes of the stream, none where it doesn't live
-abbrev pub bytes_of : Volume → Option ℕ → List ℕ
-bytes_of v stream = option_map_or (λ id. option_map_or (λ row. row.bytes) (row_of v.streams id) []) stream []
+abbrev pub bytes_of : Volume → ℕ → List ℕ
+bytes_of v stream = option_map_or (λ row. row.bytes) (row_of v.streams stream) []
 
 -- the file of this stream, 0 where it doesn't live
 abbrev pub file_of_stream : Volume → ℕ → ℕ

@@ -1,8 +1,7 @@
 -- When an open clashes with those that are held, after [MS-FSA] 'Algorithm to Check Sharing Access to
 -- an Existing Stream or Directory'.
-use Rattle.std.specs.Prelude.{ℕ, Bool, ◌==◌, ◌&&◌}
+use Rattle.std.specs.Prelude.{ℕ, Bool, false, ◌==◌, ◌&&◌}
 use Rattle.std.specs.Option.{option_map_or}
-use Rattle.std.specs.Prelude.{false}
 use Rattle.std.specs.List.{list_any}
 use Rattle.fsa_types.specs.Sharing.{clash}
 use Rattle.fsa_model.specs.Volume.{Volume, Handle}

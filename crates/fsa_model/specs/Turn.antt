@@ -19,7 +19,7 @@ use Rattle.fsa_model.specs.Read.{try_read}
 use Rattle.fsa_model.specs.Write.{try_write}
 use Rattle.fsa_model.specs.Close.{try_close, try_leave}
 
--- one try of a request, from its first check; a request that no script can make yet isn't taken
+-- one try of a request, from its first check; of a request that no script can make yet nothing is promised
 abbrev pub try_request : Volume → ℕ → ℕ → Request → Outcome
 try_request v client number (Create path wanted share disposition options attributes key) =
     try_create v (record { client = client; number = number; access = wanted; share = share }) disposition path

@@ -1,5 +1,5 @@
 -- The case table: what each unit is upcased to, and names compared by their upcased units, after
--- [MS-FSA] 'Algorithm for Determining if a FileName Is in an Expression' and its upcase table.
+-- [MS-FSA] 'Algorithm for Determining if a FileName Is in an Expression'.
 use Rattle.std.specs.Prelude.{ℕ, Bool, List, [], ◌∷◌, map, find, ◌==◌, nat_eq}
 use Rattle.std.specs.Option.{option_map_or}
 use Rattle.std.specs.Ordering.{nat_cmp}

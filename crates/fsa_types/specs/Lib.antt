@@ -7,3 +7,5 @@ pub mod Request
 pub mod Sharing
 pub mod Status
 pub mod StreamBytes
+
+pub mod Rows
