@@ -1,5 +1,5 @@
 -- What is looked for in a volume, over its whole lists.
-use Rattle.std.specs.Prelude.{ℕ, Bool, ◌==◌, ◌&&◌, List, [], Option, find, slice_get, slice_index}
+use Rattle.std.specs.Prelude.{ℕ, Bool, ◌==◌, ◌&&◌, List, [], Option, find, length, slice_get, slice_index}
 use Rattle.std.specs.Option.{option_map_or}
 use Rattle.std.specs.List.{list_any}
 use Rattle.fsa_types.specs.CaseTable.{same_name}

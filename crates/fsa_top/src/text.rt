@@ -145,3 +145,97 @@ fn push_interim(line: &mut Vec<u8>, interim: Interim) -> Result<(), NoMemory>
         Interim::Waiting => push_text(line, " waiting"),
     }
 }
+
+// A client's name, and nothing where there is no such client.
+fn push_name(line: &mut Vec<u8>, clients: &ClientList, client: u32) -> Result<(), NoMemory>
+    ensures { IfOk result (λ _. line.new.items ≡ line.old.items ++ name_of (map client_of clients.now.items) client) }
+{
+    if let Some(found) = clients.get(client as usize) {
+        line.extend_from_slice(found.name.bytes())?;
+    }
+    Ok(())
+}
+
+// A call's client and number.
+fn push_call(line: &mut Vec<u8>, clients: &ClientList, client: u32, number: u32) -> Result<(), NoMemory>
+    ensures { IfOk result (λ _. line.new.items ≡ line.old.items ++ call_text (map client_of clients.now.items) client number) }
+{
+    push_name(line, clients, client)?;
+    line.push(32)?;
+    push_number(line, number)
+}
+
+// The line of a call that has ended.
+fn push_end(line: &mut Vec<u8>, clients: &ClientList, client: u32, number: u32, reply: &Reply) -> Result<(), NoMemory>
+    ensures { IfOk result (λ _. line.new.items ≡ line.old.items ++ end_line (map client_of clients.now.items) client number reply.now) }
+{
+    push_call(line, clients, client, number)?;
+    line.push(32)?;
+    push_text(line, reply.status.name())?;
+    push_body(line, &reply.body)?;
+    line.push(10)?;
+    Ok(())
+}
+
+// The line that answers the turn's own call.
+fn push_answer(line: &mut Vec<u8>, clients: &ClientList, call: &Call, answer: &Answer) -> Result<(), NoMemory>
+    ensures { IfOk result (λ _. line.new.items ≡ line.old.items ++ answer_line (map client_of clients.now.items) call.now answer.now) }
+{
+    match answer {
+        Answer::Ended(reply) => push_end(line, clients, call.client, call.number, reply),
+        Answer::Pending(interim) => push_pending(line, clients, call, *interim),
+    }
+}
+
+// The line of a call that is pending.
+fn push_pending(line: &mut Vec<u8>, clients: &ClientList, call: &Call, interim: Interim) -> Result<(), NoMemory>
+    ensures { IfOk result (λ _. line.new.items ≡ line.old.items ++ answer_line (map client_of clients.now.items) call.now (Answer.Pending interim)) }
+{
+    push_call(line, clients, call.client, call.number)?;
+    push_text(line, " PENDING")?;
+    push_interim(line, interim)?;
+    line.push(10)?;
+    Ok(())
+}
+
+// The lines of the calls that ended besides.
+fn push_ended(line: &mut Vec<u8>, clients: &ClientList, ended: &[EndOf]) -> Result<(), NoMemory>
+    ensures { IfOk result (λ _. line.new.items ≡ line.old.items ++ ended_lines (map client_of clients.now.items) ended.now) }
+{
+    for end in ended {
+        push_end(line, clients, end.client, end.number, &end.reply)?;
+    }
+    Ok(())
+}
+
+// The line that says whose turn it is and what it does.
+fn push_head(line: &mut Vec<u8>, clients: &ClientList, call: &Call) -> Result<(), NoMemory>
+    ensures { IfOk result (λ _. line.new.items ≡ line.old.items ++ codes "> " ++ call_text (map client_of clients.now.items) call.now.client call.now.number ++ 32 ∷ verb call.now.what ++ 10 ∷ []) }
+{
+    push_text(line, "> ")?;
+    push_call(line, clients, call.client, call.number)?;
+    line.push(32)?;
+    push_text(line, verb(&call.what))?;
+    line.push(10)?;
+    Ok(())
+}
+
+/// Puts the lines of a turn at the end. `NoMemory` where there is no room for them; what stands at
+/// the end is then a prefix of them.
+pub fn push_turn(line: &mut Vec<u8>, clients: &ClientList, call: &Call, out: &Out) -> Result<(), NoMemory>
+    ensures { IfOk result (λ _. line.new.items ≡ line.old.items ++ turn_text (map client_of clients.now.items) call.now (out_of out.now)) }
+{
+    push_head(line, clients, call)?;
+    push_answer(line, clients, call, &out.answer)?;
+    push_ended(line, clients, out.ended.as_slice())
+}
+
+/// Puts the last line at the end: the number of turns.
+pub fn push_last(line: &mut Vec<u8>, turns: u32) -> Result<(), NoMemory>
+    ensures { IfOk result (λ _. line.new.items ≡ line.old.items ++ last_line turns) }
+{
+    push_text(line, "end ")?;
+    push_number(line, turns)?;
+    line.push(10)?;
+    Ok(())
+}
