@@ -1,5 +1,5 @@
 -- The volume's record, of the tables in which it is held.
-use Rattle.std.specs.Prelude.{[], map}
+use Rattle.std.specs.Prelude.{◌-◌, [], map, vec_capacity, vec_len}
 use Rattle.fsa_model.specs.Setup.{client_of}
 use Rattle.fsa_model.specs.Volume.{Volume}
 use Rattle.fsa_top.specs.Seen.{Spare}
@@ -12,7 +12,7 @@ content_of s = record {
   files = s.files.rows;
   links = s.links.rows;
   streams = s.streams.rows;
-  handles = s.handles.rows;
+  handles = s.handles.items;
   locks = [];
   oplocks = [];
   pending = [];
@@ -25,7 +25,7 @@ content_of s = record {
   last_file = s.files.last;
   last_link = s.links.last;
   last_stream = s.streams.last;
-  last_handle = s.handles.last;
+  last_handle = s.last_handle;
   last_lock = 0;
   last_break = 0;
   }
@@ -35,7 +35,7 @@ spare_of s = record {
   files = s.files.room;
   links = s.links.room;
   streams = s.streams.room;
-  handles = s.handles.room;
+  handles = vec_capacity s.handles - vec_len s.handles;
   ended = s.ended.room;
   left = s.left.room;
   }

@@ -1,6 +1,6 @@
 //! The rows of the volume that runs a script.
 
-ghost use Rattle.std.specs.Prelude.{◌≡◌, ◌==◌, ◌&&◌, ◌+◌, ◌^◌, ◌-◌, ◌++◌, ◌<◌, ◌≤◌, length, take, drop, replicate, vec_len, vec_capacity, bit_or, OnOk, OnErr};
+ghost use Rattle.std.specs.Prelude.{◌≡◌, ◌==◌, ◌&&◌, ◌+◌, ◌^◌, ◌-◌, ◌++◌, ◌<◌, ◌≤◌, length, take, drop, replicate, vec_len, vec_capacity, bit_or, OnOk, OnErr, Some};
 ghost use Rattle.fsa_types.specs.StreamBytes.{put};
 ghost use Rattle.fsa_types.specs.Access.{has_any};
 ghost use Rattle.fsa_types.specs.CaseTable.{same_name};
@@ -85,8 +85,8 @@ impl Model for StoredHandle {
     ghost view = { λ h. record { client = h.client; number = h.number; link = h.link; stream = Some h.stream; access = h.access; share = h.share; key = 0; delete_on_close = false; enumeration = None } };
 }
 
-// Whether an access has any of these bits.
-fn has_any(access: u32, bits: u32) -> bool
+/// Whether an access has any of these bits.
+pub fn has_any(access: u32, bits: u32) -> bool
     ensures { result ≡ has_any access bits }
 {
     access & bits != 0
@@ -125,6 +125,13 @@ impl StoredHandle {
         self.client == client && self.number == number
     }
 
+    /// Whether it is this client's.
+    pub fn is_of(&self, client: u32) -> bool
+        ensures { result ≡ (self.now.client == client) }
+    {
+        self.client == client
+    }
+
     /// Whether it is on this stream and clashes with an open of this access and share.
     pub fn clashes(&self, stream: u64, access: u32, share: u32) -> bool
         ensures { result ≡ (is_on_stream stream self.now && clash access share self.now.access self.now.share) }
@@ -133,7 +140,30 @@ impl StoredHandle {
     }
 }
 
+impl StoredHandle {
+    /// The rights that were granted.
+    pub fn access(&self) -> u32
+        ensures { result ≡ self.now.access }
+    {
+        self.access
+    }
+
+    /// Its stream.
+    pub fn stream(&self) -> u64
+        ensures { self.now.stream ≡ Some result }
+    {
+        self.stream
+    }
+}
+
 impl StoredLink {
+    /// The file.
+    pub fn file(&self) -> u64
+        ensures { result ≡ self.now.file }
+    {
+        self.file
+    }
+
     /// Whether it has this name in this directory.
     pub fn is_child(&self, table: &UpcaseTable, parent: u64, name: &[u16]) -> bool
         ensures { result ≡ ((self.now.parent == parent) && same_name table.now self.now.name name.now) }
@@ -166,7 +196,7 @@ impl StoredStream {
 
     /// Puts a piece into the bytes, a gap filled with zeros. `NoMemory` changes nothing.
     pub fn put(&mut self, at: usize, piece: &[u8]) -> Result<(), NoMemory>
-        requires { at + length piece.now < 2 ^ 62 }
+        requires { at + length piece.now < 2 ^ 63 }
         ensures ok { OnOk result (self.new ≡ record self.old { bytes = put self.old.bytes at piece.now }) }
         ensures err { OnErr result (self.new ≡ self.old) }
     {
@@ -178,7 +208,7 @@ impl StoredStream {
 
 // Puts a piece into bytes that have room for it.
 fn put_at(bytes: &mut Vec<u8>, at: usize, piece: &[u8])
-    requires fits { at + length piece.now < 2 ^ 62 }
+    requires fits { at + length piece.now < 2 ^ 63 }
     requires room { at + length piece.now ≤ vec_capacity bytes.old }
     ensures { bytes.new.items ≡ put bytes.old.items at piece.now }
 {
@@ -202,7 +232,7 @@ fn fill_to(bytes: &mut Vec<u8>, at: usize)
 // A piece over the bytes at a place within them, and past their end.
 fn overwrite(bytes: &mut Vec<u8>, at: usize, piece: &[u8])
     requires within { at ≤ vec_len bytes.old }
-    requires fits { at + length piece.now < 2 ^ 62 }
+    requires fits { at + length piece.now < 2 ^ 63 }
     requires room { at + length piece.now ≤ vec_capacity bytes.old }
     ensures { bytes.new.items ≡ take at bytes.old.items ++ piece.now ++ drop (at + length piece.now) bytes.old.items }
 {

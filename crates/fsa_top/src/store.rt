@@ -1,17 +1,20 @@
 //! The volume that runs a script.
 
-ghost use Rattle.std.specs.Prelude.{◌≡◌, [], ◌≤◌, ◌<◌, ◌+◌, ◌^◌, length, bit_or, map, find, ◌==◌, ◌&&◌, IfOk, OnOk, OnErr, IfSome, IsTrue, option_copied};
-ghost use Rattle.fsa_types.specs.Rows.{with_row_changed};
+ghost use Rattle.std.specs.Prelude.{◌≡◌, false, None, [], ◌≤◌, ◌<◌, ◌+◌, ◌^◌, length, bit_or, map, find, filter, not, ◌==◌, ◌&&◌, IfOk, OnOk, OnErr, IfSome, IsTrue, option_copied};
+ghost use Rattle.fsa_types.specs.Rows.{with_row_changed, without_row};
 ghost use Rattle.fsa_model.specs.Setup.{client_of};
 ghost use Rattle.fsa_model.specs.Volume.{fresh};
 ghost use Rattle.fsa_model.specs.Lookups.{bytes_of, child_of, default_stream, file_of_stream, first_sid, handle_of, has_left};
 ghost use Rattle.fsa_model.specs.Sharing.{clashes_on_stream};
-ghost use Rattle.fsa_model.specs.Edits.{with_file, with_link, with_stream, with_handle, with_end, with_bytes, with_file_written};
+ghost use Rattle.fsa_model.specs.Edits.{with_handle, with_end, with_bytes, with_file_written};
 ghost use Rattle.fsa_types.specs.StreamBytes.{put};
-ghost use Rattle.fsa_model.specs.Close.{without_handle};
+ghost use Rattle.fsa_model.specs.Close.{without_handle, try_leave};
+ghost use Rattle.fsa_model.specs.Outcome.{ends_with};
+ghost use Rattle.fsa_model.specs.Create.{with_new_file};
+ghost use Rattle.fsa_top.specs.Try.{GivesUpTo, HasRoom};
 
 use crate::rows::{StoredFile, StoredHandle, StoredLink, StoredStream};
-use fsa_types::{ClientList, EndOf, Name, NoMemory, UpcaseTable};
+use fsa_types::{ClientList, EndOf, Name, NoMemory, Status, UpcaseTable};
 use object_tables::{Series, Table};
 use std::alloc::Global;
 use std::marker::Model;
@@ -24,7 +27,8 @@ pub struct Store {
     files: Table<StoredFile>,
     links: Table<StoredLink>,
     streams: Table<StoredStream>,
-    handles: Table<StoredHandle>,
+    handles: Vec<(u64, StoredHandle)>,
+    last_handle: u64,
     ended: Series<EndOf>,
     left: Series<u32>,
 }
@@ -64,7 +68,8 @@ impl Store {
             files,
             links: Table::new(alloc),
             streams: Table::new(alloc),
-            handles: Table::new(alloc),
+            handles: Vec::new(alloc),
+            last_handle: 0,
             ended: Series::new(alloc),
             left: Series::new(alloc),
         })
@@ -75,7 +80,6 @@ impl Store {
         ensures { option_copied result ≡ handle_of self.now.content client number }
     {
         self.handles
-            .as_slice()
             .iter()
             .find(|entry| entry.1.is_named(client, number))
     }
@@ -95,7 +99,6 @@ impl Store {
         ensures { result ≡ clashes_on_stream self.now.content stream access share }
     {
         self.handles
-            .as_slice()
             .iter()
             .any(|entry| entry.1.clashes(stream, access, share))
     }
@@ -182,45 +185,32 @@ impl Store {
         Ok(())
     }
 
-    /// Adds a file. There has to be room for it.
-    pub fn add_file(&mut self, file: StoredFile)
-        requires room { 1 ≤ self.old.spare.files }
-        requires ids_left { self.old.content.last_file < 2 ^ 32 }
-        ensures content { self.new.content ≡ with_file self.old.content file }
-        ensures others { self.new.spare ≡ record self.old.spare { files = self.new.spare.files } }
+    /// Adds a file to the root, with its link and its default stream, and gives the numbers of
+    /// those two. There has to be room for them.
+    pub fn add_new_file(&mut self, alloc: Global, owner: u32, name: Name) -> (u64, u64)
+        requires room { HasRoom self.old.spare }
+        requires ids { GivesUpTo self.old.content 0xFFFFFFFF }
+        ensures content { self.new.content ≡ with_new_file self.old.content owner name }
+        ensures handles { self.new.spare.handles ≡ self.old.spare.handles }
+        ensures ended { self.new.spare.ended ≡ self.old.spare.ended }
+        ensures link { result.0 ≡ self.old.content.last_link + 1 }
+        ensures stream { result.1 ≡ self.old.content.last_stream + 1 }
     {
-        let Ok(_) = self.files.add(file) else {
+        let Ok(file) = self.files.add(made_file(owner)) else {
             unreachable!()
         };
-    }
-
-    /// Adds a link. There has to be room for it.
-    pub fn add_link(&mut self, parent: u64, name: Name, file: u64)
-        requires room { 1 ≤ self.old.spare.links }
-        requires ids_left { self.old.content.last_link < 2 ^ 32 }
-        ensures content { self.new.content ≡ with_link self.old.content parent name file }
-        ensures others { self.new.spare ≡ record self.old.spare { links = self.new.spare.links } }
-    {
-        let Ok(_) = self.links.add(StoredLink { parent, name, file }) else {
+        let Ok(link) = self.links.add(StoredLink { parent: 1, name, file }) else {
             unreachable!()
         };
-    }
-
-    /// Adds an empty stream. There has to be room for it.
-    pub fn add_stream(&mut self, alloc: Global, file: u64)
-        requires room { 1 ≤ self.old.spare.streams }
-        requires ids_left { self.old.content.last_stream < 2 ^ 32 }
-        ensures content { self.new.content ≡ with_stream self.old.content file [] }
-        ensures others { self.new.spare ≡ record self.old.spare { streams = self.new.spare.streams } }
-    {
         let row = StoredStream {
             file,
             name: Name::from(Vec::new(alloc)),
             bytes: Vec::new(alloc),
         };
-        let Ok(_) = self.streams.add(row) else {
+        let Ok(stream) = self.streams.add(row) else {
             unreachable!()
         };
+        (link, stream)
     }
 
     /// Adds a handle. There has to be room for it.
@@ -230,9 +220,11 @@ impl Store {
         ensures content { self.new.content ≡ with_handle self.old.content handle }
         ensures others { self.new.spare ≡ record self.old.spare { handles = self.new.spare.handles } }
     {
-        let Ok(_) = self.handles.add(handle) else {
+        let id = self.last_handle + 1;
+        let Ok(()) = self.handles.push((id, handle)) else {
             unreachable!()
         };
+        self.last_handle = id;
     }
 
     /// A call has ended. There has to be room for that.
@@ -246,7 +238,7 @@ impl Store {
 
     /// Puts a piece into a stream's bytes. `NoMemory` changes nothing.
     pub fn put_bytes(&mut self, stream: u64, at: usize, piece: &[u8]) -> Result<(), NoMemory>
-        requires fits { at + length piece.now < 2 ^ 62 }
+        requires fits { at + length piece.now < 2 ^ 63 }
         ensures ok { OnOk result (self.new.content ≡ with_bytes self.old.content stream at piece.now) }
         ensures err { OnErr result (self.new.content ≡ self.old.content) }
         ensures spare { self.new.spare ≡ self.old.spare }
@@ -268,13 +260,54 @@ impl Store {
         ensures ended { self.old.spare.ended ≤ self.new.spare.ended }
         ensures left { self.old.spare.left ≤ self.new.spare.left }
     {
-        let _ = self.handles.remove(handle);
+        drop_row(&mut self.handles, handle);
     }
+}
+
+impl Store {
+    /// A client's handles are closed, and it has left. There has to be room for that.
+    pub fn leave(&mut self, client: u32)
+        requires room { 1 ≤ self.old.spare.left }
+        ensures content { try_leave self.old.content client ≡ ends_with self.new.content Status.Success }
+        ensures ended { self.old.spare.ended ≤ self.new.spare.ended }
+    {
+        drop_client(&mut self.handles, client);
+        self.left.push(client);
+    }
+}
+
+// A file as it is made at the start of the clock.
+fn made_file(owner: u32) -> StoredFile
+    ensures { result ≡ record { directory = false; attributes = 0x20; creation = 0; access = 0; write = 0; change = 0; owner = owner; dacl = None; point = None } }
+{
+    StoredFile {
+        directory: false,
+        attributes: 0x20,
+        creation: 0,
+        access: 0,
+        write: 0,
+        change: 0,
+        owner,
+    }
+}
+
+// Drops the handle of this number.
+fn drop_row(handles: &mut Vec<(u64, StoredHandle)>, id: u64)
+    ensures rows { handles.new.items ≡ without_row handles.old.items id }
+{
+    handles.retain(|entry| entry.0 != id);
+}
+
+// Drops the handles of this client.
+fn drop_client(handles: &mut Vec<(u64, StoredHandle)>, client: u32)
+    ensures rows { handles.new.items ≡ filter (λ entry. not (entry.1.client == client)) handles.old.items }
+{
+    handles.retain(|entry| !entry.1.is_of(client));
 }
 
 // Puts a piece into the bytes of the stream of this number.
 fn put_in(streams: &mut Table<StoredStream>, stream: u64, at: usize, piece: &[u8]) -> Result<(), NoMemory>
-    requires fits { at + length piece.now < 2 ^ 62 }
+    requires fits { at + length piece.now < 2 ^ 63 }
     ensures ok { OnOk result (streams.new.rows ≡ with_row_changed (λ row. record row { bytes = put row.bytes at piece.now }) streams.old.rows stream) }
     ensures err { OnErr result (streams.new.rows ≡ streams.old.rows) }
     ensures last { streams.new.last ≡ streams.old.last }
