@@ -1,5 +1,5 @@
 -- Lists cut at the first element that passes a test.
-use Rattle.std.proofs.Common.{◌≡◌, ℕ, zero, suc, ◌<◌, ◌≤◌, ◌+◌, ◌-◌, Bool, List, [], ◌∷◌, Option, Some, None, length, take, drop, refl, arith, inl, inr}
+use Rattle.std.proofs.Common.{◌≡◌, ℕ, zero, suc, ◌<◌, ◌≤◌, ◌+◌, ◌-◌, Bool, List, [], ◌∷◌, Some, None, length, take, drop, refl, arith, inl, inr}
 use Rattle.std.specs.Prelude.{position, slice_get}
 use Rattle.std.specs.List.{position_or_len, before_first, after_first, slice_split}
 use Rattle.std.proofs.lemmas.List.{take_rest, take_all}
@@ -10,7 +10,7 @@ use Rattle.std.proofs.lemmas.Bool.{cases_lt, lt-ltb, le-ltb}
 position-Some : {X : Type 0} (p : X → Bool) (xs : List X) (i : ℕ) → Some i ≡ position p xs → (i ≡ position_or_len p xs) × (position_or_len p xs < length xs)
 position-Some p xs i found =
     elim (cases_lt (position_or_len p xs) (length xs)) [
-        inl within ↦
+      | inl within ↦
           let found : Some i ≡ Some (position_or_len p xs) = rw (lt-ltb (position_or_len p xs) (length xs) within) at found in
           let same : i ≡ position_or_len p xs = cc in (same, within)
       | inr past ↦
@@ -21,7 +21,7 @@ position-Some p xs i found =
 position-None : {X : Type 0} (p : X → Bool) (xs : List X) → None ≡ position p xs → length xs ≤ position_or_len p xs
 position-None p xs none =
     elim (cases_lt (position_or_len p xs) (length xs)) [
-        inl within ↦
+      | inl within ↦
           let found : None ≡ Some (position_or_len p xs) = rw (lt-ltb (position_or_len p xs) (length xs) within) at none in
           cc
       | inr past ↦ past
@@ -49,7 +49,7 @@ slice_split-some_part p xs = rw length-slice_split (omega arith)
 pub slice_split-head : {X : Type 0} (p : X → Bool) (xs : List X) → slice_get (slice_split p xs) 0 ≡ Some (before_first p xs)
 slice_split-head p xs =
     elim (cases_lt (position_or_len p xs) (length xs)) [
-        inl within ↦ rw (split_first p xs within) refl
+      | inl within ↦ rw (split_first p xs within) refl
       | inr past ↦ rw (slice_split-past p xs past, take_all (position_or_len p xs) xs past) refl
     ]
 

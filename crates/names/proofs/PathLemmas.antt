@@ -1,5 +1,5 @@
 -- Steps over the pieces of a path.
-use Rattle.std.proofs.Common.{◌≡◌, ◌∙◌, ℕ, ◌<◌, ◌+◌, Bool, List, [], ◌∷◌, Option, Some, None, length, refl, sym, ap, arith, drop, inl, inr, eqb, false}
+use Rattle.std.proofs.Common.{◌≡◌, ◌∙◌, ℕ, ◌<◌, ◌+◌, List, [], ◌∷◌, Some, None, length, refl, sym, ap, arith, drop, inl, inr}
 use Rattle.std.specs.Prelude.{slice_get}
 use Rattle.std.specs.List.{before_first, slice_split, join_with_byte}
 use Rattle.std.proofs.lemmas.Bool.{cases_eq, eq-eqb, ne_eqb}
@@ -30,7 +30,7 @@ pub component_at : (path tail : List ℕ) (i : ℕ) → i < length (components p
     → slice_get (components path) i ≡ Some (before_first is_colon (before_first is_separator tail))
 component_at path tail i within left =
     elim (cases_eq (length path) 1) [
-        inl root ↦ absurd (let none : i < 0 = rw (eq-eqb (length path) 1 root) at within in omega arith)
+      | inl root ↦ absurd (let none : i < 0 = rw (eq-eqb (length path) 1 root) at within in omega arith)
       | inr other ↦
           rw (ne_eqb (length path) 1 other, slice_get-map (before_first is_colon) (pieces path) i, slice_get-drop (pieces path) i, ← left, slice_split-head is_separator tail) refl
     ]

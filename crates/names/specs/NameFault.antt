@@ -1,5 +1,5 @@
 -- What the calls of this crate answer, in the words of the faults of paths.
-use Rattle.std.specs.Prelude.{◌≡◌, ℕ, Option, Some, None, Result, Ok, Err}
+use Rattle.std.specs.Prelude.{◌≡◌, Option, Some, None, Result, Ok, Err}
 use Rattle.fsa_types.specs.Paths.{PathFault}
 use Rattle.fsa_types.specs.Paths as path
 use Rattle.names.specs.declared.fault.NameFault.{NameFault}

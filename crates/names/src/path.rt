@@ -16,7 +16,8 @@ use std::marker::Model;
 // How many units a path has at most.
 const MOST_UNITS: usize = 32_760;
 
-/// A path without a fault, seen as its units. What it gives is lent from them.
+/// A path without a fault, seen as its units. What it gives is lent from them, and no call takes
+/// memory.
 #[derive(Debug, Drop)]
 pub struct PathParts<'a> {
     units: &'a [u16],
@@ -157,7 +158,13 @@ impl<'a> Iterator for Components<'a> {
     }
 }
 
-/// Splits a path.
+/// Splits a path, or answers its first fault: more than 32,760 units are `TooLong`, and no `\` at
+/// the start is `Empty`. Then the components from the left: no unit is `Empty`, more than 255 are
+/// `TooLong`, `.` and `..` are `BadUnit` at their first unit, and a unit that no component has is
+/// `BadUnit` at its place. Then the stream part of the last component: `BadStream`. The rules are
+/// those of [MS-FSCC] 'Pathname', 'Filename' and 'Streamname'.
+///
+/// It takes time linear in the units, and no memory.
 pub fn split_path<'a>(units: &'a [u16]) -> Result<PathParts<'a>, NameFault>
     ensures ok { IfOk result (λ parts. parts ≡ units.now) }
     ensures fault { Answers (path_fault units.now) result }
