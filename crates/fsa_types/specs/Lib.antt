@@ -9,5 +9,4 @@ pub mod Request
 pub mod Sharing
 pub mod Status
 pub mod StreamBytes
-
 pub mod Rows
