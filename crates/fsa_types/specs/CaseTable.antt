@@ -1,7 +1,6 @@
 -- The case table: what each unit is upcased to, and names compared by their upcased units, after
 -- [MS-FSA] 'Algorithm for Determining if a FileName Is in an Expression' and its upcase table.
-use Rattle.std.specs.Prelude.{ℕ, Bool, List, [], ◌∷◌, map, find, ◌==◌, ◌||◌, nat_eq}
-use Rattle.std.specs.List.{list_any}
+use Rattle.std.specs.Prelude.{ℕ, Bool, List, [], ◌∷◌, map, find, ◌==◌, nat_eq}
 use Rattle.std.specs.Option.{option_map_or}
 use Rattle.std.specs.Ordering.{nat_cmp}
 use Rattle.std.specs.Cmp.Lexicographic.{pointwise, slice_cmp}
@@ -31,16 +30,3 @@ ascii_pairs =
     (115, 83) ∷ (116, 84) ∷ (117, 85) ∷ (118, 86) ∷ (119, 87) ∷ (120, 88) ∷
     (121, 89) ∷ (122, 90) ∷
     []
-
--- whether these pairs have this unit as a source, as a target
-abbrev pub is_source : List (ℕ × ℕ) → ℕ → Bool
-is_source pairs unit = list_any (λ pair. pair.0 == unit) pairs
-
-abbrev pub is_target : List (ℕ × ℕ) → ℕ → Bool
-is_target pairs unit = list_any (λ pair. pair.1 == unit) pairs
-
--- a pair is at fault after the pairs before it: its source was a source or target before, or its
--- target is its source or was a source before
-abbrev pub is_at_fault : List (ℕ × ℕ) → ℕ × ℕ → Bool
-is_at_fault before pair =
-    is_source before pair.0 || is_target before pair.0 || (pair.1 == pair.0) || is_source before pair.1
