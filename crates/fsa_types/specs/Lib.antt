@@ -1,5 +1,6 @@
 pub mod BoundedList
 pub mod CaseTable
+pub mod CaseTableBody
 pub mod Reply
 pub mod ReplyRoom
 pub mod Request

@@ -13,7 +13,7 @@ mod setup;
 mod status;
 mod text;
 
-pub use case::UpcaseTable;
+pub use case::{TableFault, UpcaseTable};
 pub use copy::TryCopy;
 pub use list::BoundedList;
 pub use mask::{

@@ -40,3 +40,12 @@ pub struct Setup {
     /// The clients; a call names its client by the place in this list, from 0.
     pub clients: ClientList,
 }
+
+impl TryCopy for Setup {
+    fn copy(&self, alloc: Global) -> Result<Setup, NoMemory> {
+        Ok(Setup {
+            table: self.table.copy(alloc)?,
+            clients: self.clients.copy(alloc)?,
+        })
+    }
+}
