@@ -1,2 +1,4 @@
+mod NameLemmas
+mod PairLemmas
 mod ReadLemmas
 mod SidLemmas

@@ -1,2 +1,5 @@
 pub mod Gives
 pub mod LineView
+pub mod Marks
+pub mod ReadingView
+pub mod StageView

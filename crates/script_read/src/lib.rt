@@ -3,7 +3,12 @@
 
 mod fault;
 mod line;
+mod names;
 mod number;
+mod pairs;
+mod reading;
 mod request;
+mod stage;
+mod take;
 mod text;
 mod word;
