@@ -2,3 +2,4 @@ mod NameLemmas
 mod PairLemmas
 mod ReadLemmas
 mod SidLemmas
+mod TakeLemmas
