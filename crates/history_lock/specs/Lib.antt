@@ -1,2 +1,4 @@
+pub mod Answers
 pub mod History
+pub mod Passes
 pub mod Turns

@@ -1,10 +1,15 @@
 //! One history for many threads: a lock whose holder makes turns of one machine.
 #![tactic(auto)]
 
+mod answers;
 mod machine;
+mod moves;
+mod pass;
 mod plays;
 mod rule;
 mod view;
 
+pub use answers::{Looked, Turned};
 pub use machine::Machine;
+pub use pass::Pass;
 pub use view::{Part, View};

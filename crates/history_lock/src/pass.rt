@@ -1,0 +1,43 @@
+//! A pass: what one client has seen of the history, and its own calls in it.
+ghost use Rattle.std.specs.Prelude.{◌≡◌, ◌<◌, ◌^◌, length};
+ghost use Rattle.history_lock.specs.History.{calls_by};
+ghost use Rattle.history_lock.specs.Passes.{IsResting};
+
+use crate::machine::Machine;
+use crate::view::View;
+use atomic_table::Seat;
+
+/// The right of one client to make turns of one lock, and what that client knows: a beginning of the
+/// lock's history, and its own calls in it.
+///
+/// It has no bytes but two numbers. It can go to another thread where the machine can.
+#[derive(Drop)]
+pub struct Pass<M: Machine> {
+    pub(crate) client: u32,
+    pub(crate) made: u32,
+    /// The place at the lock's table, for clauses: `known` of it is what the pass knows.
+    pub seat: Seat<Option<M>, View<M::Base, M::Entry, M::Call>>,
+    ghost resting: { IsResting seat.me },
+    ghost client_is: { client ≡ seat.me.0.own.client },
+    ghost made_is: { made ≡ length seat.me.0.own.mine },
+    ghost few: { made < 2 ^ 31 },
+    pub ghost own_calls: { seat.me.0.own.mine ≡ calls_by M.call_of M.client_of seat.me.0.own.client seat.me.0.own.seen },
+}
+
+impl<M: Machine> Pass<M> {
+    ghost use Rattle.history_lock.specs.Passes.{known};
+
+    /// The client that this pass serves.
+    pub fn client(&self) -> u32
+        ensures { result ≡ (known self.now.seat).own.client }
+    {
+        self.client
+    }
+
+    /// How many calls this pass has made.
+    pub fn made(&self) -> u32
+        ensures { result ≡ length (known self.now.seat).own.mine }
+    {
+        self.made
+    }
+}
