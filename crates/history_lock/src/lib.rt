@@ -2,6 +2,7 @@
 #![tactic(auto)]
 
 mod answers;
+mod lock;
 mod machine;
 mod moves;
 mod pass;
@@ -10,6 +11,7 @@ mod rule;
 mod view;
 
 pub use answers::{Looked, Turned};
+pub use lock::TurnLock;
 pub use machine::Machine;
 pub use pass::Pass;
 pub use view::{Part, View};

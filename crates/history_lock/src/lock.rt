@@ -1,0 +1,94 @@
+//! The lock, and the calls that take a turn or look.
+ghost use Rattle.std.specs.Prelude.{◌≡◌, ◌<◌, ◌≤◌, length, IfOk, IfErr};
+
+use crate::answers::{Looked, Turned};
+use crate::machine::Machine;
+use crate::moves::{commit, look, release, take};
+use crate::pass::Pass;
+use crate::rule::{About, Turns};
+use crate::view::View;
+use atomic_table::Table;
+use fsa_types::NoMemory;
+use std::alloc::Global;
+use std::sync::Wait;
+
+/// A machine of which many threads make turns, one at a time.
+pub struct TurnLock<M: Machine> {
+    /// The turn word, the count of entries and the slot of the machine.
+    pub table: Table<Option<M>, View<M::Base, M::Entry, M::Call>, About<M>, Turns<M>, Global>,
+    ghost sized: { (table.shared.table_id.words ≡ 2) × (table.shared.table_id.slots ≡ 1) × (1 ≤ table.shared.key.clients) },
+}
+
+impl<M: Machine> TurnLock<M> {
+    ghost use Rattle.history_lock.specs.Answers.{IfDid, IfBusy, IfRefused, IfSaw, OnUnseen, OnNoMemory};
+    ghost use Rattle.history_lock.specs.Turns.{beaten};
+    ghost use Rattle.history_lock.specs.Passes.{known, IsPassOf, IsSamePass, Makes, Looks, Waits};
+
+    /// Makes one turn with the call, if no other pass holds the turn.
+    pub fn try_turn(
+        &self,
+        alloc: Global,
+        pass: &mut Pass<M>,
+        call: M::Call,
+    ) -> Turned<M::Out, M::Call, M::Why>
+        requires pass { IsPassOf self.now.table.shared.table_id (M.base self.now.table.shared.key.first.value) self.now.table.shared.key.clients pass.old.seat }
+        requires client { M.client_of call ≡ (known pass.old.seat).own.client }
+        requires may { M.may_turn (M.base self.now.table.shared.key.first.value) (known pass.old.seat).own.mine call }
+
+        ensures same { IsSamePass pass.old.seat pass.new.seat }
+        ensures did { IfDid result (λ out. Makes M.call_of call (known pass.old.seat) (known pass.new.seat) × (out ≡ M.out_of (M.base self.now.table.shared.key.first.value) (known pass.new.seat).own.seen)) }
+        ensures busy { IfBusy result (λ back. (back ≡ call) × (known pass.new.seat ≡ beaten (known pass.old.seat)) × (1 < (known pass.old.seat).clients)) }
+        ensures refused { IfRefused result (λ back why. (back ≡ call) × Looks (known pass.old.seat) (known pass.new.seat) × M.why_of (M.base self.now.table.shared.key.first.value) (known pass.new.seat).own.seen why) }
+    {
+        let top = &self.table.shared;
+        let Some(mut machine) = take(top, &mut pass.seat, pass.client) else {
+            return Turned::Busy(call);
+        };
+        match machine.turn(alloc, call) {
+            Ok(out) => {
+                commit(top, &mut pass.seat, machine);
+                pass.made += 1;
+                Turned::Did(out)
+            }
+            Err((back, why)) => {
+                look(top, &mut pass.seat);
+                release(top, &mut pass.seat, machine);
+                Turned::Refused(back, why)
+            }
+        }
+    }
+
+    /// Looks at the history, if no other pass holds the turn.
+    pub fn try_look(&self, alloc: Global, pass: &mut Pass<M>, ask: &M::Ask) -> Looked<M::Seen>
+        requires pass { IsPassOf self.now.table.shared.table_id (M.base self.now.table.shared.key.first.value) self.now.table.shared.key.clients pass.old.seat }
+        requires may { M.may_look (known pass.old.seat).own.seen ask.now }
+
+        ensures same { IsSamePass pass.old.seat pass.new.seat }
+        ensures saw { IfSaw result (λ shown. Looks (known pass.old.seat) (known pass.new.seat) × (shown ≡ M.seen_of (M.base self.now.table.shared.key.first.value) (known pass.new.seat).own.seen ask.now)) }
+        ensures busy { OnUnseen result ((known pass.new.seat ≡ beaten (known pass.old.seat)) × (1 < (known pass.old.seat).clients)) }
+        ensures no_memory { OnNoMemory result (Looks (known pass.old.seat) (known pass.new.seat) × M.costly (M.base self.now.table.shared.key.first.value) (known pass.new.seat).own.seen ask.now) }
+    {
+        let top = &self.table.shared;
+        let Some(machine) = take(top, &mut pass.seat, pass.client) else {
+            return Looked::Busy;
+        };
+        look(top, &mut pass.seat);
+        let answer = machine.look(alloc, ask);
+        release(top, &mut pass.seat, machine);
+        match answer {
+            Ok(shown) => Looked::Saw(shown),
+            Err(NoMemory) => Looked::NoMemory,
+        }
+    }
+
+    /// The number of entries of the history, which the pass has then seen.
+    pub fn front(&self, pass: &mut Pass<M>) -> u64
+        requires pass { IsPassOf self.now.table.shared.table_id (M.base self.now.table.shared.key.first.value) self.now.table.shared.key.clients pass.old.seat }
+
+        ensures same { IsSamePass pass.old.seat pass.new.seat }
+        ensures looks { Looks (known pass.old.seat) (known pass.new.seat) }
+        ensures length { result ≡ length (known pass.new.seat).own.seen }
+    {
+        look(&self.table.shared, &mut pass.seat)
+    }
+}
