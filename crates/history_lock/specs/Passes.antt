@@ -39,7 +39,9 @@ pub record Looks {B E C : Type 0} (v w : View B E C) : Type 0 where
   pub seen : Begins v.own.seen w.own.seen
   pub view : w ≡ with_seen v w.own.seen
 
--- The turn was found held any number of times; nothing else changed
-pub record Waits {B E C : Type 0} (v w : View B E C) : Type 0 where
-  pub lost : v.lost ≤ w.lost
-  pub view : w ≡ record v { lost = w.lost }
+-- The turn was found held any number of times, which changed nothing else, and then the last try made this of the pass
+pub record Waited {B E C : Type 0} (v w : View B E C) (P : View B E C → View B E C → Type 0) : Type 0 where
+  pub before : View B E C
+  pub lost : v.lost ≤ before.lost
+  pub view : before ≡ record v { lost = before.lost }
+  pub last : P before w

@@ -3,7 +3,7 @@ ghost use Rattle.std.specs.Prelude.{◌≡◌, ◌<◌, ◌≤◌, length, IfOk,
 
 use crate::answers::{Looked, Turned};
 use crate::machine::Machine;
-use crate::moves::{commit, look, release, take};
+use crate::moves::{TURN, commit, look, release, take};
 use crate::pass::Pass;
 use crate::rule::{About, Turns};
 use crate::view::View;
@@ -22,7 +22,7 @@ pub struct TurnLock<M: Machine> {
 impl<M: Machine> TurnLock<M> {
     ghost use Rattle.history_lock.specs.Answers.{IfDid, IfBusy, IfRefused, IfSaw, OnUnseen, OnNoMemory};
     ghost use Rattle.history_lock.specs.Turns.{beaten};
-    ghost use Rattle.history_lock.specs.Passes.{known, IsPassOf, IsSamePass, Makes, Looks, Waits};
+    ghost use Rattle.history_lock.specs.Passes.{known, IsPassOf, IsSamePass, Makes, Looks, Waited};
 
     /// Makes one turn with the call, if no other pass holds the turn.
     pub fn try_turn(
@@ -55,6 +55,43 @@ impl<M: Machine> TurnLock<M> {
                 release(top, &mut pass.seat, machine);
                 Turned::Refused(back, why)
             }
+        }
+    }
+
+    /// Makes one turn with the call. While another pass holds the turn it waits, and tries again.
+    pub fn turn(
+        &self,
+        rt: &impl Wait,
+        alloc: Global,
+        pass: &mut Pass<M>,
+        call: M::Call,
+    ) -> Result<M::Out, (M::Call, M::Why)>
+        requires pass { IsPassOf self.now.table.shared.table_id (M.base self.now.table.shared.key.first.value) self.now.table.shared.key.clients pass.old.seat }
+        requires client { M.client_of call ≡ (known pass.old.seat).own.client }
+        requires may { M.may_turn (M.base self.now.table.shared.key.first.value) (known pass.old.seat).own.mine call }
+
+        ensures same { IsSamePass pass.old.seat pass.new.seat }
+        ensures did { IfOk result (λ out. Waited (known pass.old.seat) (known pass.new.seat) (λ v w. Makes M.call_of call v w × (out ≡ M.out_of (M.base self.now.table.shared.key.first.value) w.own.seen))) }
+        ensures refused { IfErr result (λ back. (back.0 ≡ call) × Waited (known pass.old.seat) (known pass.new.seat) (λ v w. Looks v w × M.why_of (M.base self.now.table.shared.key.first.value) w.own.seen back.1)) }
+    {
+        let mut call = call;
+        for _ in rt.forever() {
+            match self.try_turn(alloc, pass, call) {
+                Turned::Did(out) => return Ok(out),
+                Turned::Refused(back, why) => return Err((back, why)),
+                Turned::Busy(back) => call = back,
+            }
+            self.wait(rt);
+        }
+        unreachable!()
+    }
+
+    // Sleeps until the turn may be free.
+    fn wait(&self, rt: &impl Wait) {
+        let top = &self.table.shared;
+        let holder = top.peek(TURN);
+        if holder != 0 {
+            top.park(rt, TURN, (holder % (1 << 32)) as u32);
         }
     }
 

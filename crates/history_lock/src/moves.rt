@@ -11,7 +11,7 @@ use crate::plays::{Commit, Free, Look, Take};
 use crate::rule::{Place, Top};
 
 // The turn word, the count word and the slot of the machine.
-const TURN: usize = 0;
+pub(crate) const TURN: usize = 0;
 const COUNT: usize = 1;
 const SLOT: usize = 0;
 
