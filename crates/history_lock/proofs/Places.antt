@@ -1,5 +1,5 @@
 -- Lists read by place, beginnings of a history, and the calls of one client in it.
-use Rattle.std.proofs.Common.{◌≡◌, ◌≢◌, ℕ, zero, suc, ◌+◌, ◌<◌, ◌≤◌, ◌==◌, eqb, Bool, cond, List, [], ◌∷◌, ◌++◌, map, filter, length, get_or, set, sym, refl, ap, ◌∙◌, subst, ⊎_elim, arith, eq-eqb, ne_eqb, append-nil, append_assoc, All}
+use Rattle.std.proofs.Common.{◌≡◌, ◌≢◌, ℕ, zero, suc, ◌+◌, ◌<◌, ◌≤◌, ◌==◌, eqb, Bool, cond, List, [], ◌∷◌, ◌++◌, map, filter, length, get_or, set, sym, refl, ap, ◌∙◌, subst, ⊎_elim, arith, eq-eqb, ne_eqb, append-nil, length-append, append_assoc, zero-add, suc-add, All}
 use mathlib.Core.Option.{some, some-injective, some-ne-none}
 use mathlib.Core.Logic.{dite, ◌⊎◌}
 use native.Mathlib.Decide.{ℕ_discrete}
@@ -29,6 +29,28 @@ module _ {A : Type 0} where
   -- two elements at one place are one
   pub at_same : (l : List A) (i : ℕ) (a b : A) → get_elem? l i ≡ some a → get_elem? l i ≡ some b → a ≡ b
   at_same l i a b e f = some-injective a b (sym e ∙ f)
+
+  -- what holds of all, and of one more at the end
+  pub each_pushed : (P : ℕ → A → Type 0) (l : List A) (a : A) → ((j : ℕ) (b : A) → get_elem? l j ≡ some b → P j b) → P (length l) a → (j : ℕ) (b : A) → get_elem? (l ++ a ∷ []) j ≡ some b → P j b
+  each_pushed P [] a all last zero b e = subst (P 0) (some-injective a b e) last
+  each_pushed P [] a all last (suc j) b e = absurd (some-ne-none b (sym e))
+  each_pushed P (x ∷ xs) a all last zero b e = all zero b e
+  each_pushed P (x ∷ xs) a all last (suc j) b e = each_pushed (λ k. P (suc k)) xs a (λ k. all (suc k)) last j b e
+
+  -- a place of two lists, one after the other, is a place of the first or of the second
+  pub each_append : (P : ℕ → A → Type 0) (l m : List A) → ((j : ℕ) (b : A) → get_elem? l j ≡ some b → P j b) → ((i : ℕ) (b : A) → get_elem? m i ≡ some b → P (length l + i) b)
+      → (j : ℕ) (b : A) → get_elem? (l ++ m) j ≡ some b → P j b
+  each_append P [] m first second j b e = subst (λ (k : ℕ). P k b) (zero-add j) (second j b e)
+  each_append P (x ∷ xs) m first second zero b e = first zero b e
+  each_append P (x ∷ xs) m first second (suc j) b e = each_append (λ k. P (suc k)) xs m (λ k. first (suc k)) (λ i c h. subst (λ (k : ℕ). P k c) (suc-add (length xs) i) (second i c h)) j b e
+
+  pub at_second : (l m : List A) (i : ℕ) → get_elem? (l ++ m) (length l + i) ≡ get_elem? m i
+  at_second [] m i = ap (get_elem? m) (zero-add i)
+  at_second (x ∷ xs) m i = ap (get_elem? (x ∷ (xs ++ m))) (suc-add (length xs) i) ∙ at_second xs m i
+
+  pub all_middle : (P : A → Type 0) (l : List A) (a : A) (m : List A) → All P (l ++ a ∷ m) → P a
+  all_middle P [] a m all = all 0 a (omega arith)
+  all_middle P (x ∷ xs) a m all = all_middle P xs a m (λ k d h. all (suc k) d (omega arith))
 
 module _ {E : Type 0} where
   pub begins_more : (seen log more : List E) → Begins seen log → Begins seen (log ++ more)
@@ -66,3 +88,16 @@ module _ {E C : Type 0} (call_of : E → C) (client_of : C → ℕ) where
       dite (ℕ_discrete (client_of (call_of e)) client)
       (λ same. let q : length (calls_by call_of client_of client (e ∷ es)) ≡ suc (length (calls_by call_of client_of client es)) = ap (λ (b : Bool). length (cond b (call_of e ∷ calls_by call_of client_of client es) (calls_by call_of client_of client es))) (eq-eqb (client_of (call_of e)) client same) in omega arith)
       (λ other. let q : length (calls_by call_of client_of client (e ∷ es)) ≡ length (calls_by call_of client_of client es) = ap (λ (b : Bool). length (cond b (call_of e ∷ calls_by call_of client_of client es) (calls_by call_of client_of client es))) (ne_eqb (client_of (call_of e)) client other) in omega arith)
+
+  -- where no client below n made a call in the rest, the rest is empty
+  pub none_later : (n : ℕ) (seen later : List E) → All (λ e. client_of (call_of e) < n) (seen ++ later)
+      → ((client : ℕ) → client < n → calls_by call_of client_of client (seen ++ later) ≡ calls_by call_of client_of client seen) → later ≡ []
+  none_later n seen [] below same = refl
+  none_later n seen (e ∷ es) below same =
+      let client : ℕ = client_of (call_of e) in
+      let front : List C = calls_by call_of client_of client seen in
+      let rest : List C = calls_by call_of client_of client es in
+      let is : front ++ cond (client == client) (call_of e ∷ rest) rest ≡ front = sym (calls_by-append client seen (e ∷ es)) ∙ same client (all_middle (λ (x : E). client_of (call_of x) < n) seen e es below) in
+      let more : front ++ call_of e ∷ rest ≡ front = ap (λ (b : Bool). front ++ cond b (call_of e ∷ rest) rest) (sym (eq-eqb client client refl)) ∙ is in
+      let size : length front + suc (length rest) ≡ length front = sym (length-append front (call_of e ∷ rest)) ∙ ap length more in
+      absurd (omega arith)
