@@ -37,7 +37,7 @@ module _ {M B E C : Type 0} (base : M → B) (list : M → List E) (call_of : E 
   Right turn served log owner = Fits call_of client_of b n turn served log owner
 
   -- the table when it is made
-  pub opens : (x : M) → list x ≡ [] → base x ≡ b → 1 ≤ n → Rule (opening (0 ∷ 0 ∷ []) (Some x ∷ []) (newcomer (b ∷ []) n 0 1))
+  opens : (x : M) → list x ≡ [] → base x ≡ b → 1 ≤ n → Rule (opening (0 ∷ 0 ∷ []) (Some x ∷ []) (newcomer (b ∷ []) n 0 1))
   opens x empty same some_client = record {
     turn = 0;
     served = 1;
@@ -58,6 +58,9 @@ module _ {M B E C : Type 0} (base : M → B) (list : M → List E) (call_of : E 
     few = some_client;
     short = omega arith;
   }
+
+  pub opens_filled : (xs : List (Option M)) (x : M) → xs ≡ Some x ∷ [] → list x ≡ [] → base x ≡ b → 1 ≤ n → Rule (opening (0 ∷ 0 ∷ []) xs (newcomer (b ∷ []) n 0 1))
+  opens_filled xs x is empty same some_client = subst (λ (l : List (Option M)). Rule (opening (0 ∷ 0 ∷ []) l (newcomer (b ∷ []) n 0 1))) (sym is) (opens x empty same some_client)
 
   -- the pass of client 0 makes the pass of the next client
   pub cuts : (id : ℕ) (v : V) → v.live ≡ true → v.own.client ≡ 0 → v.served < v.clients → Splits Rule id v (left_part v) (right_part v)

@@ -1,5 +1,5 @@
 -- Lists read by place, beginnings of a history, and the calls of one client in it.
-use Rattle.std.proofs.Common.{◌≡◌, ◌≢◌, ℕ, zero, suc, ◌+◌, ◌<◌, ◌≤◌, ◌==◌, eqb, Bool, cond, List, [], ◌∷◌, ◌++◌, map, filter, length, get_or, set, sym, refl, ap, ◌∙◌, subst, ⊎_elim, arith, eq-eqb, ne_eqb, append-nil, length-append, append_assoc, zero-add, suc-add, All}
+use Rattle.std.proofs.Common.{◌≡◌, ◌≢◌, ℕ, zero, suc, ◌+◌, ◌<◌, ◌≤◌, ◌==◌, eqb, Bool, cond, List, [], ◌∷◌, ◌++◌, map, filter, length, get_or, set, sym, refl, ap, ◌∙◌, subst, ⊎_elim, arith, eq-eqb, ne_eqb, append-nil, length-append, append_assoc, zero-add, suc-add, All, slice_get, Option, None, Some}
 use mathlib.Core.Option.{some, some-injective, some-ne-none}
 use mathlib.Core.Logic.{dite, ◌⊎◌}
 use native.Mathlib.Decide.{ℕ_discrete}
@@ -47,6 +47,16 @@ module _ {A : Type 0} where
   pub at_second : (l m : List A) (i : ℕ) → get_elem? (l ++ m) (length l + i) ≡ get_elem? m i
   at_second [] m i = ap (get_elem? m) (zero-add i)
   at_second (x ∷ xs) m i = ap (get_elem? (x ∷ (xs ++ m))) (suc-add (length xs) i) ∙ at_second xs m i
+
+  -- the same by std's word
+  each_last : (P : ℕ → A → Type 0) (l : List A) (a : A) → ((j : ℕ) (b : A) → slice_get l j ≡ Some b → P j b) → P (length l) a → (j : ℕ) (b : A) → slice_get (l ++ a ∷ []) j ≡ Some b → P j b
+  each_last P [] a all last zero b e = let same : a ≡ b = cc in subst (P 0) same last
+  each_last P [] a all last (suc j) b e = (let f : None ≡ Some b = e in cc)
+  each_last P (x ∷ xs) a all last zero b e = all zero b e
+  each_last P (x ∷ xs) a all last (suc j) b e = each_last (λ k. P (suc k)) xs a (λ k. all (suc k)) last j b e
+
+  pub each_given : (P : ℕ → A → Type 0) (l m : List A) (a : A) → m ≡ l ++ a ∷ [] → ((j : ℕ) (b : A) → slice_get l j ≡ Some b → P j b) → P (length l) a → (j : ℕ) (b : A) → slice_get m j ≡ Some b → P j b
+  each_given P l m a is all last j b e = each_last P l a all last j b (ap (λ (z : List A). slice_get z j) (sym is) ∙ e)
 
   pub all_middle : (P : A → Type 0) (l : List A) (a : A) (m : List A) → All P (l ++ a ∷ m) → P a
   all_middle P [] a m all = all 0 a (omega arith)

@@ -2,9 +2,11 @@
 #![tactic(auto)]
 
 mod answers;
+mod dealing;
 mod lock;
 mod machine;
 mod moves;
+mod opening;
 mod pass;
 mod plays;
 mod rule;

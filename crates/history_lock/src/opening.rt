@@ -1,0 +1,67 @@
+//! How a lock is made, with a pass for each client.
+ghost use Rattle.std.specs.Prelude.{◌≡◌, ℕ, ◌+◌, ◌<◌, ◌≤◌, ◌==◌, if◌then◌else◌, [], ◌∷◌, length, slice_get, Some, IfOk, IfErr, vec_len, vec_capacity};
+
+use crate::dealing::deal;
+use crate::lock::TurnLock;
+use crate::machine::Machine;
+use crate::pass::Pass;
+use crate::rule::About;
+use atomic_table::{Refused, Table};
+use fsa_types::NoMemory;
+use std::alloc::Global;
+use std::snapshot::Snapshot;
+
+impl<M: Machine> TurnLock<M> {
+    ghost use Rattle.history_lock.specs.Turns.{newcomer};
+    ghost use Rattle.history_lock.specs.Passes.{known};
+
+    /// Makes a lock round a machine with an empty history, and a pass for each client, in order.
+    pub fn start(
+        alloc: Global,
+        machine: M,
+        clients: u32,
+    ) -> Result<(TurnLock<M>, Vec<Pass<M>>), (M, NoMemory)>
+        requires empty { M.list machine ≡ [] }
+        requires clients { (1 ≤ clients) × (clients ≤ 512) }
+        ensures lock { IfOk result (λ r. (M.base r.0.table.shared.key.first.value ≡ M.base machine) × (r.0.table.shared.key.clients ≡ clients)) }
+        ensures one_each { IfOk result (λ r. vec_len r.1 ≡ clients) }
+        ensures passes { IfOk result (λ r. (i : ℕ) (p : _) → slice_get r.1.items i ≡ Some p
+            → (p.seat.table_id ≡ r.0.table.shared.table_id) × (known p.seat ≡ newcomer (M.base machine ∷ []) clients i (if i == 0 then clients else 0))) }
+        ensures no_memory { IfErr result (λ back. back.0 ≡ machine) }
+    {
+        let Ok(passes) = Vec::with_capacity(alloc, clients as usize) else {
+            return Err((machine, NoMemory));
+        };
+        let Ok(mut slots) = Vec::with_capacity(alloc, 1) else {
+            passes.destroy_empty();
+            return Err((machine, NoMemory));
+        };
+        let about = About {
+            first: Snapshot::of(&machine),
+            clients: clients as u64,
+        };
+        slots.push_reserved(Some(machine));
+        match Table::new(alloc, &[0, 0], slots, &about) {
+            Ok((table, first)) => {
+                let passes = deal(&table.shared, first, passes, clients);
+                Ok((TurnLock { table }, passes))
+            }
+            Err(Refused { slots }) => {
+                passes.destroy_empty();
+                Err((machine_of(slots), NoMemory))
+            }
+        }
+    }
+}
+
+// The machine in the one slot.
+fn machine_of<M>(mut slots: Vec<Option<M>>) -> M
+    requires { (m : M) × (slots.items ≡ Some m ∷ []) }
+    ensures { slots.items ≡ Some result ∷ [] }
+{
+    let Some(Some(machine)) = slots.pop() else {
+        unreachable!()
+    };
+    slots.destroy_empty();
+    machine
+}
