@@ -1,5 +1,5 @@
 -- The table when it is made, the steps that make a pass and join one, and the table when it is closed.
-use Rattle.std.proofs.Common.{◌≡◌, ◌≢◌, ℕ, zero, suc, ◌+◌, ◌^◌, ◌<◌, ◌≤◌, ◌==◌, eqb, Bool, true, false, if◌then◌else◌, List, [], ◌∷◌, ◌++◌, length, set, sym, refl, ap, ◌∙◌, subst, arith, eq-eqb, ne_eqb, append-nil, All, Option, Some}
+use Rattle.std.proofs.Common.{◌≡◌, ◌≢◌, ℕ, zero, suc, ◌+◌, ◌^◌, ◌<◌, ◌≤◌, ◌==◌, eqb, Bool, true, false, if◌then◌else◌, List, [], ◌∷◌, ◌++◌, length, set, sym, refl, ap, ◌∙◌, subst, arith, eq-eqb, ne_eqb, append-nil, All, Option, None, Some}
 use mathlib.Core.Option.{some, none, some-injective, some-ne-none}
 use mathlib.Core.Logic.{dite}
 use native.Mathlib.Decide.{ℕ_discrete}
@@ -193,8 +193,8 @@ module _ {M B E C : Type 0} (base : M → B) (list : M → List E) (call_of : E 
         short = r.short;
       }
 
-  -- the table when it is closed with a pass at rest that has the parts of all clients, whose calls are all that it has seen of them
-  pub ends : (id : ℕ) (v : V) (ws : List ℕ) (xs : List (Option M)) → Final (Seen Rule id v) ws xs → v.live ≡ true → v.holds ≡ false
+  -- The table when it is closed with a pass at rest that has the parts of all clients, whose calls are all that it has seen of them
+  ends : (id : ℕ) (v : V) (ws : List ℕ) (xs : List (Option M)) → Final (Seen Rule id v) ws xs → v.live ≡ true → v.holds ≡ false
       → ((c : ℕ) → c < n → (k : ℕ) × (p : Part E C) × (get_elem? (parts_of v) k ≡ some p) × (p.client ≡ c))
       → ((k : ℕ) (p : Part E C) → get_elem? (parts_of v) k ≡ some p → p.mine ≡ calls_by call_of client_of p.client v.own.seen)
       → (x : M) × (get_elem? xs 0 ≡ some (Some x)) × (base x ≡ b) × (list x ≡ v.own.seen) × All (λ e. client_of (call_of e) < n) (list x)
@@ -222,3 +222,21 @@ module _ {M B E C : Type 0} (base : M → B) (list : M → List E) (call_of : E 
         home.3 ∙ log_is,
         subst (All (λ e. client_of (call_of e) < n)) (sym home.3) (λ k d below. let a = r.clients k d below in let c = r.few in omega arith),
       )
+
+  -- so the slot holds the machine, which stands for what that pass has seen
+  pub ends_some : (id : ℕ) (v : V) (ws : List ℕ) (xs : List (Option M)) → Final (Seen Rule id v) ws xs → v.live ≡ true → v.holds ≡ false
+      → ((c : ℕ) → c < n → (k : ℕ) × (p : Part E C) × (get_elem? (parts_of v) k ≡ some p) × (p.client ≡ c))
+      → ((k : ℕ) (p : Part E C) → get_elem? (parts_of v) k ≡ some p → p.mine ≡ calls_by call_of client_of p.client v.own.seen)
+      → (o : Option M) (y : M) → get_elem? xs 0 ≡ some o → o ≡ Some y
+      → (base y ≡ b) × (list y ≡ v.own.seen) × All (λ e. client_of (call_of e) < n) (list y)
+  ends_some id v ws xs final live rests all made o y there is = let t = ends id v ws xs final live rests all made in
+      let found : Some t.0 ≡ Some y = some-injective (Some t.0) o (sym t.1 ∙ there) ∙ is in
+      let same : t.0 ≡ y = cc in
+      subst (λ (z : M). (base z ≡ b) × (list z ≡ v.own.seen) × All (λ e. client_of (call_of e) < n) (list z)) same (t.2, t.3, t.4)
+
+  pub ends_none : (id : ℕ) (v : V) (ws : List ℕ) (xs : List (Option M)) → Final (Seen Rule id v) ws xs → v.live ≡ true → v.holds ≡ false
+      → ((c : ℕ) → c < n → (k : ℕ) × (p : Part E C) × (get_elem? (parts_of v) k ≡ some p) × (p.client ≡ c))
+      → ((k : ℕ) (p : Part E C) → get_elem? (parts_of v) k ≡ some p → p.mine ≡ calls_by call_of client_of p.client v.own.seen)
+      → (o : Option M) → get_elem? xs 0 ≡ some o → o ≡ None → ⊥
+  ends_none id v ws xs final live rests all made o there is = let t = ends id v ws xs final live rests all made in
+      let found : Some t.0 ≡ None = some-injective (Some t.0) o (sym t.1 ∙ there) ∙ is in cc

@@ -3,7 +3,7 @@ use Rattle.std.proofs.Common.{◌≡◌, ◌≢◌, ℕ, ◌+◌, ◌^◌, ◌<�
 use Rattle.history_lock.specs.declared.view.Part.{Part}
 use Rattle.history_lock.specs.declared.view.View.{View}
 use Rattle.history_lock.specs.History.{Begins, calls_by}
-use Rattle.history_lock.specs.Turns.{holding, with_seen, with_made, at_rest, Sees}
+use Rattle.history_lock.specs.Turns.{holding, with_seen, with_made, at_rest, both_parts, Sees}
 use Rattle.history_lock.specs.Passes.{Looks}
 use Rattle.history_lock.proofs.Places.{calls_by-own, length-calls_by}
 
@@ -14,6 +14,10 @@ module _ {B E C : Type 0} where
     seen = subst (λ (l : List E). Begins v.own.seen l) (sym same) front;
     view = is ∙ ap (with_seen v) (sym same);
   }
+
+  -- a pass that took others in has changed in nothing but what it keeps
+  pub kept_view : (first v w u : View B E C) → v ≡ record first { kept = v.kept } → w ≡ both_parts v u → w ≡ record first { kept = w.kept }
+  kept_view first v w u old is = is ∙ (ap (λ (z : View B E C). record z { kept = v.kept ++ u.own ∷ u.kept }) old ∙ ap (λ (k : List (Part E C)). record first { kept = k }) (sym (ap (λ (z : View B E C). z.kept) is)))
 
 module _ {B E C : Type 0} (call_of : E → C) (client_of : C → ℕ) where
   -- the calls that a pass has made are all that it has seen of its client

@@ -1,12 +1,12 @@
 -- Lists read by place, beginnings of a history, and the calls of one client in it.
-use Rattle.std.proofs.Common.{◌≡◌, ◌≢◌, ℕ, zero, suc, ◌+◌, ◌<◌, ◌≤◌, ◌==◌, eqb, Bool, cond, List, [], ◌∷◌, ◌++◌, map, filter, length, get_or, set, sym, refl, ap, ◌∙◌, subst, ⊎_elim, arith, eq-eqb, ne_eqb, append-nil, length-append, append_assoc, zero-add, suc-add, All, slice_get, Option, None, Some}
+use Rattle.std.proofs.Common.{◌≡◌, ◌≢◌, ℕ, zero, suc, ◌+◌, ◌<◌, ◌≤◌, ◌==◌, eqb, Bool, cond, List, [], ◌∷◌, ◌++◌, map, filter, length, get_or, set, sym, refl, ap, ◌∙◌, subst, ⊎_elim, inl, inr, arith, eq-eqb, ne_eqb, append-nil, length-append, append_assoc, zero-add, suc-add, All, slice_get, Option, None, Some}
 use mathlib.Core.Option.{some, some-injective, some-ne-none}
 use mathlib.Core.Logic.{dite, ◌⊎◌}
 use native.Mathlib.Decide.{ℕ_discrete}
 use lib.ListN.{get_elem?}
 use Rattle.std.proofs.lemmas.List.Elements.{filter-append}
 use Rattle.std.proofs.lemmas.List.{map-append}
-use Rattle.atomic_table.proofs.Lists.{at_set}
+use Rattle.atomic_table.proofs.Lists.{at_set, at_longer}
 use Rattle.history_lock.specs.History.{Begins, calls_by}
 
 module _ {A : Type 0} where
@@ -58,9 +58,42 @@ module _ {A : Type 0} where
   pub each_given : (P : ℕ → A → Type 0) (l m : List A) (a : A) → m ≡ l ++ a ∷ [] → ((j : ℕ) (b : A) → slice_get l j ≡ Some b → P j b) → P (length l) a → (j : ℕ) (b : A) → slice_get m j ≡ Some b → P j b
   each_given P l m a is all last j b e = each_last P l a all last j b (ap (λ (z : List A). slice_get z j) (sym is) ∙ e)
 
+  pub given_longer : (l m : List A) (j : ℕ) (b : A) → slice_get l j ≡ Some b → slice_get (l ++ m) j ≡ Some b
+  given_longer [] m j b e = (let f : None ≡ Some b = e in cc)
+  given_longer (x ∷ xs) m zero b e = e
+  given_longer (x ∷ xs) m (suc j) b e = given_longer xs m j b e
+
+  pub given_last : (l : List A) (a : A) (j : ℕ) (b : A) → slice_get (l ++ a ∷ []) j ≡ Some b → (slice_get l j ≡ Some b) ⊎ (a ≡ b)
+  given_last [] a zero b e = inr (let f : Some a ≡ Some b = e in cc)
+  given_last [] a (suc j) b e = (let f : None ≡ Some b = e in cc)
+  given_last (x ∷ xs) a zero b e = inl e
+  given_last (x ∷ xs) a (suc j) b e = given_last xs a j b e
+
+  end_here : (l : List A) (a : A) → slice_get (l ++ a ∷ []) (length l) ≡ Some a
+  end_here [] a = refl
+  end_here (x ∷ xs) a = end_here xs a
+
+  pub given_end : (l m : List A) (a : A) → m ≡ l ++ a ∷ [] → slice_get m (length l) ≡ Some a
+  given_end l m a is = ap (λ (z : List A). slice_get z (length l)) is ∙ end_here l a
+
+  pub given_none : (l : List A) (j : ℕ) (b : A) → length l ≡ 0 → slice_get l j ≡ Some b → ⊥
+  given_none [] j b e f = (let g : None ≡ Some b = f in cc)
+  given_none (x ∷ xs) j b e f = omega arith
+
   pub all_middle : (P : A → Type 0) (l : List A) (a : A) (m : List A) → All P (l ++ a ∷ m) → P a
   all_middle P [] a m all = all 0 a (omega arith)
   all_middle P (x ∷ xs) a m all = all_middle P xs a m (λ k d h. all (suc k) d (omega arith))
+
+-- what was in the first list is in its front or, of the last one, in the other list
+pub kept_more : {A X : Type 0} (own : A → X) (l m : List A) (a : A) (kept more longer : List X) → l ≡ m ++ a ∷ [] → longer ≡ kept ++ own a ∷ more
+    → (i : ℕ) (p : A) → (slice_get l i ≡ Some p) ⊎ ((k : ℕ) × (get_elem? kept k ≡ some (own p)))
+    → (slice_get m i ≡ Some p) ⊎ ((k : ℕ) × (get_elem? longer k ≡ some (own p)))
+kept_more {A} own l m a kept more longer is grown i p old = ⊎_elim
+    (λ here. ⊎_elim inl
+    (λ (same : a ≡ p). inr (length kept + 0, ap (λ (z : List _). get_elem? z (length kept + 0)) grown ∙ (at_second kept (own a ∷ more) 0 ∙ ap (λ (z : A). some (own z)) same)))
+    (given_last m a i p (ap (λ (z : List A). slice_get z i) (sym is) ∙ here)))
+    (λ (t : (k : ℕ) × (get_elem? kept k ≡ some (own p))). inr (t.0, ap (λ (z : List _). get_elem? z t.0) grown ∙ at_longer kept (own a ∷ more) t.0 (own p) t.1))
+    old
 
 module _ {E : Type 0} where
   pub begins_more : (seen log more : List E) → Begins seen log → Begins seen (log ++ more)

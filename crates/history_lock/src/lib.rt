@@ -2,7 +2,9 @@
 #![tactic(auto)]
 
 mod answers;
+mod closing;
 mod dealing;
+mod gathering;
 mod lock;
 mod machine;
 mod moves;
