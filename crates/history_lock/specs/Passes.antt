@@ -1,4 +1,4 @@
--- What a pass knows between two calls, and what each call makes of it.
+-- What each call makes of what a pass knows.
 use Rattle.std.specs.Prelude.{◌≡◌, ℕ, ◌+◌, ◌<◌, ◌≤◌, true, false, List, [], ◌∷◌, ◌++◌, Option}
 use Rattle.atomic_table.specs.Table.{Me}
 use Rattle.atomic_table.specs.Seated.{TableId}
@@ -8,22 +8,9 @@ use Rattle.history_lock.specs.declared.view.View.{View}
 use Rattle.history_lock.specs.History.{Begins}
 use Rattle.history_lock.specs.Turns.{with_seen}
 
-module _ {M B E C : Type 0} where
-  -- what a pass knows
-  abbrev pub known : Seat (Option M) (View B E C) → View B E C
-  known seat = seat.me.0
-
-  -- the pass is one of the lock with this table, base and number of clients
-  abbrev pub IsPassOf : TableId → B → ℕ → Seat (Option M) (View B E C) → Type 0
-  IsPassOf table base clients seat = (seat.table_id ≡ table) × ((known seat).live ≡ true) × ((known seat).base ≡ base ∷ []) × ((known seat).clients ≡ clients)
-
-  -- it is the same pass, whatever it has come to know
-  abbrev pub IsSamePass : Seat (Option M) (View B E C) → Seat (Option M) (View B E C) → Type 0
-  IsSamePass old new = (new.table_id ≡ old.table_id) × (new.id ≡ old.id)
-
-  -- between two calls a pass holds neither the turn nor the machine
-  abbrev pub IsResting : Me (Option M) (View B E C) → Type 0
-  IsResting me = (me.1 ≡ []) × (me.0.holds ≡ false) × (me.0.hand ≡ []) × (me.0.kept ≡ [])
+-- between two calls a pass holds neither the turn nor the machine
+abbrev pub IsResting : {M B E C : Type 0} → Me (Option M) (View B E C) → Type 0
+IsResting me = (me.1 ≡ []) × (me.0.holds ≡ false) × (me.0.hand ≡ []) × (me.0.kept ≡ [])
 
 -- One entry was added after all that had been seen, and ends what is seen now. Its call is this one, and it is the one call more that the pass has made; nothing else changed
 pub record Makes {B E C : Type 0} (call_of : E → C) (call : C) (v w : View B E C) : Type 0 where

@@ -9,19 +9,18 @@ use crate::plays::Shadow;
 
 impl<M: Machine> TurnLock<M> {
     ghost use Rattle.history_lock.specs.Turns.{Sees};
-    ghost use Rattle.history_lock.specs.Passes.{known, IsPassOf};
+    ghost use Rattle.history_lock.specs.Lock.{base_of, clients_of, known, IsPassOf};
 
     /// Joins all passes into the first, one by one, and gives the machine back, with a pass that has
     /// seen its whole history.
     pub fn close(self, passes: Vec<Pass<M>>) -> (M, Pass<M>)
-        requires one_each { vec_len passes ≡ self.table.shared.key.clients }
-        requires passes { (i : ℕ) (p : _) → slice_get passes.items i ≡ Some p
-            → IsPassOf self.table.shared.table_id (M.base self.table.shared.key.first.value) self.table.shared.key.clients p.seat × ((known p.seat).own.client ≡ i) }
+        requires one_each { vec_len passes ≡ clients_of self }
+        requires passes { (i : ℕ) (p : _) → slice_get passes.items i ≡ Some p → IsPassOf M.base self p × ((known p).own.client ≡ i) }
 
-        ensures base { M.base result.0 ≡ M.base self.table.shared.key.first.value }
-        ensures seen { (known result.1.seat).own.seen ≡ M.list result.0 }
-        ensures each { (i : ℕ) (p : _) → slice_get passes.items i ≡ Some p → Sees M.call_of M.client_of (M.list result.0) (known p.seat).own }
-        ensures no_others { All (λ entry. M.client_of (M.call_of entry) < self.table.shared.key.clients) (M.list result.0) }
+        ensures base { M.base result.0 ≡ base_of M.base self }
+        ensures seen { ((known result.1).own.client ≡ 0) × ((known result.1).own.seen ≡ M.list result.0) }
+        ensures each { (i : ℕ) (p : _) → slice_get passes.items i ≡ Some p → Sees M.call_of M.client_of (M.list result.0) (known p).own }
+        ensures no_others { All (λ entry. M.client_of (M.call_of entry) < clients_of self) (M.list result.0) }
     {
         let TurnLock { table } = self;
         let Joined {

@@ -63,7 +63,7 @@ pub(crate) fn join_all<M: Machine>(top: &Top<M>, passes: Vec<Pass<M>>) -> Joined
     requires passes { (i : ℕ) (p : _) → slice_get passes.items i ≡ Some p → (p.seat.table_id ≡ top.now.table_id) × (p.seat.me.0.live ≡ true) × (p.seat.me.0.own.client ≡ i) }
     ensures place { (result.seat.table_id ≡ top.now.table_id) × (result.seat.me.1 ≡ []) }
     ensures rests { (result.seat.me.0.live ≡ true) × (result.seat.me.0.holds ≡ false) }
-    ensures numbers { (result.client ≡ result.seat.me.0.own.client) × (result.made ≡ length result.seat.me.0.own.mine) × (result.made < 2 ^ 31) }
+    ensures numbers { (result.client ≡ result.seat.me.0.own.client) × (result.client ≡ 0) × (result.made ≡ length result.seat.me.0.own.mine) × (result.made < 2 ^ 31) }
     ensures all { (client : ℕ) → client < top.now.key.clients → (k : ℕ) × (p : Part M.Entry M.Call) × (get_elem? (parts_of result.seat.me.0) k ≡ some p) × (p.client ≡ client) }
     ensures made { (k : ℕ) (p : Part M.Entry M.Call) → get_elem? (parts_of result.seat.me.0) k ≡ some p → p.mine ≡ calls_by M.call_of M.client_of p.client result.seat.me.0.own.seen }
     ensures each { (i : ℕ) (p : _) → slice_get passes.items i ≡ Some p → Sees M.call_of M.client_of result.seat.me.0.own.seen p.seat.me.0.own }

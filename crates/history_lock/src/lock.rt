@@ -13,16 +13,18 @@ use std::alloc::Global;
 use std::sync::Wait;
 
 /// A machine of which many threads make turns, one at a time.
+#[derive(Drop)]
 pub struct TurnLock<M: Machine> {
     /// The turn word, the count of entries and the slot of the machine.
-    pub table: Table<Option<M>, View<M::Base, M::Entry, M::Call>, About<M>, Turns<M>, Global>,
+    pub(crate) table: Table<Option<M>, View<M::Base, M::Entry, M::Call>, About<M>, Turns<M>, Global>,
     ghost sized: { (table.shared.table_id.words ≡ 2) × (table.shared.table_id.slots ≡ 1) × (1 ≤ table.shared.key.clients) },
 }
 
 impl<M: Machine> TurnLock<M> {
     ghost use Rattle.history_lock.specs.Answers.{IfDid, IfBusy, IfRefused, IfSaw, OnUnseen, OnNoMemory};
     ghost use Rattle.history_lock.specs.Turns.{beaten};
-    ghost use Rattle.history_lock.specs.Passes.{known, IsPassOf, IsSamePass, Makes, Looks, Waited};
+    ghost use Rattle.history_lock.specs.Lock.{base_of, clients_of, known, IsPassOf};
+    ghost use Rattle.history_lock.specs.Passes.{Makes, Looks, Waited};
 
     /// Makes one turn with the call, if no other pass holds the turn.
     pub fn try_turn(
@@ -31,14 +33,14 @@ impl<M: Machine> TurnLock<M> {
         pass: &mut Pass<M>,
         call: M::Call,
     ) -> Turned<M::Out, M::Call, M::Why>
-        requires pass { IsPassOf self.now.table.shared.table_id (M.base self.now.table.shared.key.first.value) self.now.table.shared.key.clients pass.old.seat }
-        requires client { M.client_of call ≡ (known pass.old.seat).own.client }
-        requires may { M.may_turn (M.base self.now.table.shared.key.first.value) (known pass.old.seat).own.mine call }
+        requires pass { IsPassOf M.base self.now pass.old }
+        requires client { M.client_of call ≡ (known pass.old).own.client }
+        requires may { M.may_turn (base_of M.base self.now) (known pass.old).own.mine call }
 
-        ensures same { IsSamePass pass.old.seat pass.new.seat }
-        ensures did { IfDid result (λ out. Makes M.call_of call (known pass.old.seat) (known pass.new.seat) × (out ≡ M.out_of (M.base self.now.table.shared.key.first.value) (known pass.new.seat).own.seen)) }
-        ensures busy { IfBusy result (λ back. (back ≡ call) × (known pass.new.seat ≡ beaten (known pass.old.seat)) × (1 < (known pass.old.seat).clients)) }
-        ensures refused { IfRefused result (λ back why. (back ≡ call) × Looks (known pass.old.seat) (known pass.new.seat) × M.why_of (M.base self.now.table.shared.key.first.value) (known pass.new.seat).own.seen why) }
+        ensures pass { IsPassOf M.base self.now pass.new }
+        ensures did { IfDid result (λ out. Makes M.call_of call (known pass.old) (known pass.new) × (out ≡ M.out_of (base_of M.base self.now) (known pass.new).own.seen)) }
+        ensures busy { IfBusy result (λ back. (back ≡ call) × (known pass.new ≡ beaten (known pass.old)) × (1 < clients_of self.now)) }
+        ensures refused { IfRefused result (λ back why. (back ≡ call) × Looks (known pass.old) (known pass.new) × M.why_of (base_of M.base self.now) (known pass.new).own.seen why) }
     {
         let top = &self.table.shared;
         let Some(mut machine) = take(top, &mut pass.seat, pass.client) else {
@@ -66,13 +68,13 @@ impl<M: Machine> TurnLock<M> {
         pass: &mut Pass<M>,
         call: M::Call,
     ) -> Result<M::Out, (M::Call, M::Why)>
-        requires pass { IsPassOf self.now.table.shared.table_id (M.base self.now.table.shared.key.first.value) self.now.table.shared.key.clients pass.old.seat }
-        requires client { M.client_of call ≡ (known pass.old.seat).own.client }
-        requires may { M.may_turn (M.base self.now.table.shared.key.first.value) (known pass.old.seat).own.mine call }
+        requires pass { IsPassOf M.base self.now pass.old }
+        requires client { M.client_of call ≡ (known pass.old).own.client }
+        requires may { M.may_turn (base_of M.base self.now) (known pass.old).own.mine call }
 
-        ensures same { IsSamePass pass.old.seat pass.new.seat }
-        ensures did { IfOk result (λ out. Waited (known pass.old.seat) (known pass.new.seat) (λ v w. Makes M.call_of call v w × (out ≡ M.out_of (M.base self.now.table.shared.key.first.value) w.own.seen))) }
-        ensures refused { IfErr result (λ back. (back.0 ≡ call) × Waited (known pass.old.seat) (known pass.new.seat) (λ v w. Looks v w × M.why_of (M.base self.now.table.shared.key.first.value) w.own.seen back.1)) }
+        ensures pass { IsPassOf M.base self.now pass.new }
+        ensures did { IfOk result (λ out. Waited (known pass.old) (known pass.new) (λ v w. Makes M.call_of call v w × (out ≡ M.out_of (base_of M.base self.now) w.own.seen))) }
+        ensures refused { IfErr result (λ back. (back.0 ≡ call) × Waited (known pass.old) (known pass.new) (λ v w. Looks v w × M.why_of (base_of M.base self.now) w.own.seen back.1)) }
     {
         let mut call = call;
         for _ in rt.forever() {
@@ -97,13 +99,13 @@ impl<M: Machine> TurnLock<M> {
 
     /// Looks at the history, if no other pass holds the turn.
     pub fn try_look(&self, alloc: Global, pass: &mut Pass<M>, ask: &M::Ask) -> Looked<M::Seen>
-        requires pass { IsPassOf self.now.table.shared.table_id (M.base self.now.table.shared.key.first.value) self.now.table.shared.key.clients pass.old.seat }
-        requires may { M.may_look (known pass.old.seat).own.seen ask.now }
+        requires pass { IsPassOf M.base self.now pass.old }
+        requires may { M.may_look (known pass.old).own.seen ask.now }
 
-        ensures same { IsSamePass pass.old.seat pass.new.seat }
-        ensures saw { IfSaw result (λ shown. Looks (known pass.old.seat) (known pass.new.seat) × (shown ≡ M.seen_of (M.base self.now.table.shared.key.first.value) (known pass.new.seat).own.seen ask.now)) }
-        ensures busy { OnUnseen result ((known pass.new.seat ≡ beaten (known pass.old.seat)) × (1 < (known pass.old.seat).clients)) }
-        ensures no_memory { OnNoMemory result (Looks (known pass.old.seat) (known pass.new.seat) × M.costly (M.base self.now.table.shared.key.first.value) (known pass.new.seat).own.seen ask.now) }
+        ensures pass { IsPassOf M.base self.now pass.new }
+        ensures saw { IfSaw result (λ shown. Looks (known pass.old) (known pass.new) × (shown ≡ M.seen_of (base_of M.base self.now) (known pass.new).own.seen ask.now)) }
+        ensures busy { OnUnseen result ((known pass.new ≡ beaten (known pass.old)) × (1 < clients_of self.now)) }
+        ensures no_memory { OnNoMemory result (Looks (known pass.old) (known pass.new) × M.costly (base_of M.base self.now) (known pass.new).own.seen ask.now) }
     {
         let top = &self.table.shared;
         let Some(machine) = take(top, &mut pass.seat, pass.client) else {
@@ -120,11 +122,11 @@ impl<M: Machine> TurnLock<M> {
 
     /// The number of entries of the history, which the pass has then seen.
     pub fn front(&self, pass: &mut Pass<M>) -> u64
-        requires pass { IsPassOf self.now.table.shared.table_id (M.base self.now.table.shared.key.first.value) self.now.table.shared.key.clients pass.old.seat }
+        requires pass { IsPassOf M.base self.now pass.old }
 
-        ensures same { IsSamePass pass.old.seat pass.new.seat }
-        ensures looks { Looks (known pass.old.seat) (known pass.new.seat) }
-        ensures length { result ≡ length (known pass.new.seat).own.seen }
+        ensures pass { IsPassOf M.base self.now pass.new }
+        ensures looks { Looks (known pass.old) (known pass.new) }
+        ensures length { result ≡ length (known pass.new).own.seen }
     {
         look(&self.table.shared, &mut pass.seat)
     }

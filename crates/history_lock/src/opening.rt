@@ -13,7 +13,7 @@ use std::snapshot::Snapshot;
 
 impl<M: Machine> TurnLock<M> {
     ghost use Rattle.history_lock.specs.Turns.{newcomer};
-    ghost use Rattle.history_lock.specs.Passes.{known};
+    ghost use Rattle.history_lock.specs.Lock.{base_of, clients_of, known, IsPassOf};
 
     /// Makes a lock round a machine with an empty history, and a pass for each client, in order.
     pub fn start(
@@ -23,10 +23,9 @@ impl<M: Machine> TurnLock<M> {
     ) -> Result<(TurnLock<M>, Vec<Pass<M>>), (M, NoMemory)>
         requires empty { M.list machine ≡ [] }
         requires clients { (1 ≤ clients) × (clients ≤ 512) }
-        ensures lock { IfOk result (λ r. (M.base r.0.table.shared.key.first.value ≡ M.base machine) × (r.0.table.shared.key.clients ≡ clients)) }
+        ensures lock { IfOk result (λ r. (base_of M.base r.0 ≡ M.base machine) × (clients_of r.0 ≡ clients)) }
         ensures one_each { IfOk result (λ r. vec_len r.1 ≡ clients) }
-        ensures passes { IfOk result (λ r. (i : ℕ) (p : _) → slice_get r.1.items i ≡ Some p
-            → (p.seat.table_id ≡ r.0.table.shared.table_id) × (known p.seat ≡ newcomer (M.base machine ∷ []) clients i (if i == 0 then clients else 0))) }
+        ensures passes { IfOk result (λ r. (i : ℕ) (p : _) → slice_get r.1.items i ≡ Some p → IsPassOf M.base r.0 p × (known p ≡ newcomer (M.base machine ∷ []) clients i (if i == 0 then clients else 0))) }
         ensures no_memory { IfErr result (λ back. back.0 ≡ machine) }
     {
         let Ok(passes) = Vec::with_capacity(alloc, clients as usize) else {

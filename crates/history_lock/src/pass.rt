@@ -16,7 +16,7 @@ pub struct Pass<M: Machine> {
     pub(crate) client: u32,
     pub(crate) made: u32,
     /// The place at the lock's table, for clauses: `known` of it is what the pass knows.
-    pub seat: Seat<Option<M>, View<M::Base, M::Entry, M::Call>>,
+    pub(crate) seat: Seat<Option<M>, View<M::Base, M::Entry, M::Call>>,
     ghost resting: { IsResting seat.me },
     ghost client_is: { client ≡ seat.me.0.own.client },
     ghost made_is: { made ≡ length seat.me.0.own.mine },
@@ -25,18 +25,18 @@ pub struct Pass<M: Machine> {
 }
 
 impl<M: Machine> Pass<M> {
-    ghost use Rattle.history_lock.specs.Passes.{known};
+    ghost use Rattle.history_lock.specs.Lock.{known};
 
     /// The client that this pass serves.
     pub fn client(&self) -> u32
-        ensures { result ≡ (known self.now.seat).own.client }
+        ensures { result ≡ (known self.now).own.client }
     {
         self.client
     }
 
     /// How many calls this pass has made.
     pub fn made(&self) -> u32
-        ensures { result ≡ length (known self.now.seat).own.mine }
+        ensures { result ≡ length (known self.now).own.mine }
     {
         self.made
     }

@@ -1,4 +1,4 @@
-use Rattle.std.proofs.Common.{rules, ◌≡◌, ℕ, suc, slice_get, sym, ap, ◌∙◌}
+use Rattle.std.proofs.Common.{rules, ◌≡◌, ℕ, suc, length, slice_get, sym, ap, ◌∙◌}
 use Rattle.history_lock.proofs.Gathered.{Gathered, each_sees, all_here, all_made}
 use Rattle.history_lock.proofs.gathering.join_all.Goals as goal
 use Rattle.history_lock.proofs.gathering.join_all.Goals.{After-look}
@@ -22,6 +22,11 @@ returns-clause-place g c = let first = c.requires.passes 0 c.first_of-client.res
 pub returns-clause-rests : goal.returns-clause-rests
 returns-clause-rests g c = let pass = c.first_of-client.result in let first = c.requires.passes 0 pass (ap (λ l. slice_get l 0) c.first_of-client.ensures) in
     (ap (λ m. m.0.live) c.look.ensures.looked.1 ∙ (ap (λ v. v.live) c.gather.ensures.view ∙ first.1), ap (λ m. m.0.holds) c.look.ensures.looked.1 ∙ (ap (λ v. v.holds) c.gather.ensures.view ∙ pass.resting.1))
+
+pub returns-clause-numbers : goal.returns-clause-numbers
+returns-clause-numbers g c = let pass = c.first_of-client.result in let first = c.requires.passes 0 pass (ap (λ l. slice_get l 0) c.first_of-client.ensures) in let own = ap (λ m. m.0.own) c.look.ensures.looked.1 in
+    let client = ap (λ v. v.own.client) c.gather.ensures.view in let mine = ap (λ v. v.own.mine) c.gather.ensures.view in
+    (pass.client_is ∙ sym (ap (λ p. p.client) own ∙ client), pass.client_is ∙ first.2, pass.made_is ∙ ap length (sym (ap (λ p. p.mine) own ∙ mine)), pass.few)
 
 gathered : (g : _) (c : After-look g) → Gathered g.M.Machine.call_of g.M.Machine.client_of (λ z. z.seat.me.0) c.args.top.now.key.clients c.args.passes.items c.gather.new.seat.me.0 c.look.new.seat.me.0
 gathered g c = let pass = c.first_of-client.result in let first = c.requires.passes 0 pass (ap (λ l. slice_get l 0) c.first_of-client.ensures) in record {

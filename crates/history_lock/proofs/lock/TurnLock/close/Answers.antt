@@ -21,8 +21,8 @@ invariant_of-result g c = let m = g.M.Machine in let e = c.split_seat-seen.ensur
     record {
       resting = (ap (λ z. z.1) e, ap (λ z. z.0.holds) e, ap (λ z. z.0.hand) e, ap (λ z. z.0.kept) e);
       client_is = n.0 ∙ ap (λ z. z.0.own.client) (sym e);
-      made_is = n.1 ∙ ap (λ z. length z.0.own.mine) (sym e);
-      few = n.2;
+      made_is = n.2 ∙ ap (λ z. length z.0.own.mine) (sym e);
+      few = n.3;
       own_calls = ap (λ z. z.0.own.mine) e ∙ (c.join_all-client.ensures.made 0 v.own (own_part v c.join_all-client.ensures.rests.0) ∙ ap (λ z. calls_by m.call_of m.client_of z.0.own.client z.0.own.seen) (sym e));
     }
 

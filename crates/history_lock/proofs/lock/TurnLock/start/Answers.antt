@@ -10,4 +10,7 @@ new-requires g c = let m = g.M.Machine in
 
 pub returns-in-Ok-new-clause-passes : goal.returns-in-Ok-new-clause-passes
 returns-in-Ok-new-clause-passes g c i p at = let t = c.deal-passes.ensures.passes i p at in let o = c.in-Ok-new.ensures.ok in let m = g.M.Machine in
-    (t.0, t.1 ∙ (ap (λ k. newcomer (m.base k.first.value ∷ []) c.args.clients i (if i == 0 then c.args.clients else 0)) o.5 ∙ ap (λ x. newcomer (m.base x ∷ []) c.args.clients i (if i == 0 then c.args.clients else 0)) c.of.ensures))
+    (
+      (t.0, ap (λ v. v.live) t.1, ap (λ v. v.base) t.1, ap (λ v. v.clients) t.1 ∙ ap (λ k. k.clients) (sym o.5)),
+      t.1 ∙ (ap (λ k. newcomer (m.base k.first.value ∷ []) c.args.clients i (if i == 0 then c.args.clients else 0)) o.5 ∙ ap (λ x. newcomer (m.base x ∷ []) c.args.clients i (if i == 0 then c.args.clients else 0)) c.of.ensures),
+    )
