@@ -73,12 +73,27 @@ module _ {A : Type 0} where
   end_here [] a = refl
   end_here (x ∷ xs) a = end_here xs a
 
-  pub given_end : (l m : List A) (a : A) → m ≡ l ++ a ∷ [] → slice_get m (length l) ≡ Some a
-  given_end l m a is = ap (λ (z : List A). slice_get z (length l)) is ∙ end_here l a
+  pub given_end : (l m : List A) (a : A) (i : ℕ) → m ≡ l ++ a ∷ [] → length l ≡ i → slice_get m i ≡ Some a
+  given_end l m a i is size = ap (slice_get m) (sym size) ∙ (ap (λ (z : List A). slice_get z (length l)) is ∙ end_here l a)
 
   pub given_none : (l : List A) (j : ℕ) (b : A) → length l ≡ 0 → slice_get l j ≡ Some b → ⊥
   given_none [] j b e f = (let g : None ≡ Some b = f in cc)
   given_none (x ∷ xs) j b e f = omega arith
+
+  pub given_below : (l : List A) (j : ℕ) (b : A) → slice_get l j ≡ Some b → j < length l
+  given_below [] j b e = (let f : None ≡ Some b = e in cc)
+  given_below (x ∷ xs) zero b e = omega arith
+  given_below (x ∷ xs) (suc j) b e = let h = given_below xs j b e in omega arith
+
+  pub given_read : (l : List A) (j : ℕ) (b d : A) → slice_get l j ≡ Some b → get_or l j d ≡ b
+  given_read [] j b d e = (let f : None ≡ Some b = e in cc)
+  given_read (x ∷ xs) zero b d e = (let f : Some x ≡ Some b = e in cc)
+  given_read (x ∷ xs) (suc j) b d e = given_read xs j b d e
+
+  pub read_given : (l : List A) (j : ℕ) (d : A) → j < length l → slice_get l j ≡ Some (get_or l j d)
+  read_given [] j d h = absurd (omega arith)
+  read_given (x ∷ xs) zero d h = refl
+  read_given (x ∷ xs) (suc j) d h = read_given xs j d (omega arith)
 
   pub all_middle : (P : A → Type 0) (l : List A) (a : A) (m : List A) → All P (l ++ a ∷ m) → P a
   all_middle P [] a m all = all 0 a (omega arith)

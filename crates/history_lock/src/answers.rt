@@ -1,7 +1,7 @@
 //! What a call that takes a turn answers.
 
 /// What a turn that was tried answers.
-#[derive(Debug, Drop)]
+#[derive(Debug, PartialEq, Eq, Drop)]
 pub enum Turned<O, C, W> {
     /// The turn was made, and this is its answer.
     Did(O),
@@ -12,7 +12,7 @@ pub enum Turned<O, C, W> {
 }
 
 /// What a look that was tried answers.
-#[derive(Debug, Drop)]
+#[derive(Debug, PartialEq, Eq, Drop)]
 pub enum Looked<S> {
     /// What the history shows.
     Saw(S),

@@ -12,6 +12,8 @@ mod opening;
 mod pass;
 mod plays;
 mod rule;
+#[cfg(test)]
+mod tests;
 mod view;
 
 pub use answers::{Looked, Turned};

@@ -36,7 +36,8 @@ impl<M: Machine> Pass<M> {
 
     /// How many calls this pass has made.
     pub fn made(&self) -> u32
-        ensures { result ≡ length (known self.now).own.mine }
+        ensures calls { result ≡ length (known self.now).own.mine }
+        ensures few { result < 2 ^ 31 }
     {
         self.made
     }

@@ -1,4 +1,4 @@
-use Rattle.std.proofs.Common.{rules, ◌≡◌, ℕ, ◌⊎◌, ⊎_elim, ◌++◌, ◌∷◌, [], slice_get, Some, length, sym, ap, ◌∙◌}
+use Rattle.std.proofs.Common.{rules, ◌≡◌, ℕ, ◌⊎◌, ⊎_elim, ◌++◌, ◌∷◌, [], slice_get, Some, length, refl, sym, ap, ◌∙◌}
 use Rattle.history_lock.proofs.Places.{given_end, given_longer, given_none, kept_more}
 use Rattle.history_lock.proofs.Passing.{kept_view}
 use Rattle.history_lock.proofs.Joining.{glues}
@@ -6,7 +6,7 @@ use Rattle.history_lock.proofs.gathering.gather.Goals as goal
 
 pub join_seat-requires : goal.join_seat-requires
 join_seat-requires g c = let i = c.loop-pass.invariant in let v = c.loop-pass.seat.me.0 in let u = c.seat_of.result.me.0 in let same = c.seat_of.ensures.same in let rests = c.seat_of.ensures.rests in
-    let theirs = i.left (length c.pop.new.self.items) c.in-Some.pass (given_end _ _ _ c.in-Some.ensures.items) in (
+    let theirs = i.left (length c.pop.new.self.items) c.in-Some.pass (given_end _ _ _ _ c.in-Some.ensures.items refl) in (
       search rules,
       ap (λ s. s.table_id) same ∙ theirs.0,
       rests.0,
