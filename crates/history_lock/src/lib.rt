@@ -2,16 +2,14 @@
 #![tactic(auto)]
 
 mod answers;
-mod closing;
-mod dealing;
-mod gathering;
+mod close;
 mod lock;
 mod machine;
 mod moves;
-mod opening;
 mod pass;
 mod plays;
 mod rule;
+mod start;
 #[cfg(test)]
 mod tests;
 mod view;

@@ -76,6 +76,7 @@ impl<M: Machine> TurnLock<M> {
         ensures did { IfOk result (λ out. Waited (known pass.old) (known pass.new) (λ v w. Makes M.call_of call v w × (out ≡ M.out_of (base_of M.base self.now) w.own.seen))) }
         ensures refused { IfErr result (λ back. (back.0 ≡ call) × Waited (known pass.old) (known pass.new) (λ v w. Looks v w × M.why_of (base_of M.base self.now) w.own.seen back.1)) }
     {
+        let top = &self.table.shared;
         let mut call = call;
         for _ in rt.forever() {
             match self.try_turn(alloc, pass, call) {
@@ -83,18 +84,12 @@ impl<M: Machine> TurnLock<M> {
                 Turned::Refused(back, why) => return Err((back, why)),
                 Turned::Busy(back) => call = back,
             }
-            self.wait(rt);
+            let holder = top.peek(TURN);
+            if holder != 0 {
+                top.park(rt, TURN, (holder % (1 << 32)) as u32);
+            }
         }
         unreachable!()
-    }
-
-    // Sleeps until the turn may be free.
-    fn wait(&self, rt: &impl Wait) {
-        let top = &self.table.shared;
-        let holder = top.peek(TURN);
-        if holder != 0 {
-            top.park(rt, TURN, (holder % (1 << 32)) as u32);
-        }
     }
 
     /// Looks at the history, if no other pass holds the turn.

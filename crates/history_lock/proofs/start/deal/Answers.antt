@@ -2,7 +2,7 @@ use Rattle.std.proofs.Common.{rules, arith, ◌≡◌, ℕ, ◌+◌, List, [], �
 use Rattle.history_lock.specs.Turns.{newcomer, left_part, right_part}
 use Rattle.history_lock.proofs.Places.{each_given}
 use Rattle.history_lock.proofs.Joining.{cuts}
-use Rattle.history_lock.proofs.dealing.deal.Goals as goal
+use Rattle.history_lock.proofs.start.deal.Goals as goal
 
 pub split_seat-seat-requires : goal.split_seat-seat-requires
 split_seat-seat-requires g c = let v = c.loop-client.first.me.0 in let is = c.loop-client.invariant.view in let a = ap (λ w. w.served) is in let b = ap (λ w. w.clients) is in

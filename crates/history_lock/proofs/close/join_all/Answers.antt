@@ -1,7 +1,7 @@
 use Rattle.std.proofs.Common.{rules, ◌≡◌, ℕ, suc, length, slice_get, sym, ap, ◌∙◌}
 use Rattle.history_lock.proofs.Gathered.{Gathered, each_sees, all_here, all_made}
-use Rattle.history_lock.proofs.gathering.join_all.Goals as goal
-use Rattle.history_lock.proofs.gathering.join_all.Goals.{After-look}
+use Rattle.history_lock.proofs.close.join_all.Goals as goal
+use Rattle.history_lock.proofs.close.join_all.Goals.{After-look}
 
 pub gather-requires-clause-table : goal.gather-requires-clause-table
 gather-requires-clause-table g c = let first = c.requires.passes 0 c.first_of-client.result (ap (λ l. slice_get l 0) c.first_of-client.ensures) in (first.0, c.requires.table)

@@ -1,5 +1,5 @@
 use Rattle.history_lock.proofs.Joining.{ends_some, ends_none}
-use Rattle.history_lock.proofs.gathering.finish.Goals as goal
+use Rattle.history_lock.proofs.close.finish.Goals as goal
 
 pub unreachable-requires : goal.unreachable-requires
 unreachable-requires g c = let m = g.M.Machine in let s = c.args.seat in

@@ -2,7 +2,7 @@ use Rattle.std.proofs.Common.{rules, ◌≡◌, ℕ, ◌⊎◌, ⊎_elim, ◌++�
 use Rattle.history_lock.proofs.Places.{given_end, given_longer, given_none, kept_more}
 use Rattle.history_lock.proofs.Passing.{kept_view}
 use Rattle.history_lock.proofs.Joining.{glues}
-use Rattle.history_lock.proofs.gathering.gather.Goals as goal
+use Rattle.history_lock.proofs.close.gather.Goals as goal
 
 pub join_seat-requires : goal.join_seat-requires
 join_seat-requires g c = let i = c.loop-pass.invariant in let v = c.loop-pass.seat.me.0 in let u = c.seat_of.result.me.0 in let same = c.seat_of.ensures.same in let rests = c.seat_of.ensures.rests in

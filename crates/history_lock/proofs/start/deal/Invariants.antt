@@ -1,6 +1,6 @@
 use Rattle.std.proofs.Common.{◌≡◌, ℕ, ◌+◌, [], ◌∷◌, slice_get, Some, vec_len, vec_capacity}
 use Rattle.history_lock.specs.Turns.{newcomer}
-use Rattle.history_lock.proofs.dealing.deal.Given as goal
+use Rattle.history_lock.proofs.start.deal.Given as goal
 
 abbrev pub invariant-loop-client : goal.invariant-loop-client
 invariant-loop-client g l = record {

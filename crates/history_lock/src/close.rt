@@ -1,4 +1,4 @@
-//! The steps of closing a lock.
+//! How a lock is closed: all passes are joined into the first, and the machine comes back.
 ghost use Rattle.std.specs.Prelude.{◌≡◌, ℕ, ◌+◌, ◌<◌, ◌≤◌, ◌^◌, true, false, List, [], ◌∷◌, length, slice_get, Some, All, vec_len};
 ghost use mathlib.Core.Option.{some};
 ghost use lib.ListN.{get_elem?};
@@ -6,11 +6,45 @@ ghost use Rattle.history_lock.specs.declared.view.Part.{Part};
 ghost use Rattle.history_lock.specs.History.{calls_by};
 ghost use Rattle.history_lock.specs.Turns.{parts_of, Sees};
 
+use crate::lock::TurnLock;
 use crate::machine::Machine;
 use crate::moves::look;
 use crate::pass::Pass;
-use crate::plays::Glue;
+use crate::plays::{Glue, Shadow};
 use crate::rule::{Board, Place, Top};
+
+impl<M: Machine> TurnLock<M> {
+    ghost use Rattle.history_lock.specs.Lock.{base_of, clients_of, known, IsPassOf};
+
+    /// Joins all passes into the first, one by one, and gives the machine back, with a pass that has
+    /// seen its whole history.
+    pub fn close(self, passes: Vec<Pass<M>>) -> (M, Pass<M>)
+        requires one_each { vec_len passes ≡ clients_of self }
+        requires passes { (i : ℕ) (p : _) → slice_get passes.items i ≡ Some p → IsPassOf M.base self p × ((known p).own.client ≡ i) }
+
+        ensures base { M.base result.0 ≡ base_of M.base self }
+        ensures seen { ((known result.1).own.client ≡ 0) × ((known result.1).own.seen ≡ M.list result.0) }
+        ensures each { (i : ℕ) (p : _) → slice_get passes.items i ≡ Some p → Sees M.call_of M.client_of (M.list result.0) (known p).own }
+        ensures no_others { All (λ entry. M.client_of (M.call_of entry) < clients_of self) (M.list result.0) }
+    {
+        let TurnLock { table } = self;
+        let Joined {
+            client,
+            made,
+            mut seat,
+        } = join_all(&table.shared, passes);
+        let seen = table.shared.split_seat::<Shadow>(&mut seat);
+        let machine = finish(table, seat);
+        (
+            machine,
+            Pass {
+                client,
+                made,
+                seat: seen,
+            },
+        )
+    }
+}
 
 // Takes the first pass out.
 fn first_of<M: Machine>(passes: &mut Vec<Pass<M>>) -> Pass<M>
@@ -49,15 +83,15 @@ fn gather<M: Machine>(top: &Top<M>, seat: &mut Place<M>, passes: Vec<Pass<M>>)
     passes.destroy_empty();
 }
 
-/// All passes in one, which has seen the whole history.
-pub(crate) struct Joined<M: Machine> {
-    pub client: u32,
-    pub made: u32,
-    pub seat: Place<M>,
+// All passes in one, which has seen the whole history.
+struct Joined<M: Machine> {
+    client: u32,
+    made: u32,
+    seat: Place<M>,
 }
 
 // Joins all passes into the first, and loads the count.
-pub(crate) fn join_all<M: Machine>(top: &Top<M>, passes: Vec<Pass<M>>) -> Joined<M>
+fn join_all<M: Machine>(top: &Top<M>, passes: Vec<Pass<M>>) -> Joined<M>
     requires table { top.now.table_id.words ≡ 2 }
     requires one_each { (vec_len passes ≡ top.now.key.clients) × (1 ≤ top.now.key.clients) }
     requires passes { (i : ℕ) (p : _) → slice_get passes.items i ≡ Some p → (p.seat.table_id ≡ top.now.table_id) × (p.seat.me.0.live ≡ true) × (p.seat.me.0.own.client ≡ i) }
@@ -84,7 +118,7 @@ pub(crate) fn join_all<M: Machine>(top: &Top<M>, passes: Vec<Pass<M>>) -> Joined
 }
 
 // Takes the machine out of the table, with the pass that has the parts of all clients.
-pub(crate) fn finish<M: Machine>(table: Board<M>, seat: Place<M>) -> M
+fn finish<M: Machine>(table: Board<M>, seat: Place<M>) -> M
     requires table { (seat.table_id ≡ table.shared.table_id) × (table.shared.table_id.slots ≡ 1) }
     requires rests { (seat.me.0.live ≡ true) × (seat.me.0.holds ≡ false) }
     requires all { (client : ℕ) → client < table.shared.key.clients → (k : ℕ) × (p : Part M.Entry M.Call) × (get_elem? (parts_of seat.me.0) k ≡ some p) × (p.client ≡ client) }
