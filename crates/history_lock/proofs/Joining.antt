@@ -1,6 +1,6 @@
 -- The table when it is made, the steps that make a pass and join one, and the table when it is closed.
-use Rattle.std.proofs.Common.{◌≡◌, ◌≢◌, ℕ, zero, suc, ◌+◌, ◌^◌, ◌<◌, ◌≤◌, ◌==◌, eqb, Bool, true, false, if◌then◌else◌, List, [], ◌∷◌, ◌++◌, length, set, sym, refl, ap, ◌∙◌, subst, arith, eq-eqb, ne_eqb, append-nil, All, Option, None, Some}
-use mathlib.Core.Option.{some, none, some-injective, some-ne-none}
+use Rattle.std.proofs.Common.{◌≡◌, ◌≢◌, ℕ, zero, suc, ◌+◌, ◌<◌, ◌≤◌, ◌==◌, Bool, true, false, if◌then◌else◌, List, [], ◌∷◌, ◌++◌, length, set, sym, refl, ap, ◌∙◌, subst, arith, eq-eqb, ne_eqb, append-nil, All, Option, None, Some}
+use mathlib.Core.Option.{some, some-injective, some-ne-none}
 use mathlib.Core.Logic.{dite}
 use native.Mathlib.Decide.{ℕ_discrete}
 use lib.ListN.{get_elem?}
@@ -8,8 +8,8 @@ use Rattle.atomic_table.specs.Table.{State, opening, Splits, Joins, Final, Seen}
 use Rattle.atomic_table.proofs.Lists.{set_else, set_again, at_longer, at_last}
 use Rattle.history_lock.specs.declared.view.Part.{Part}
 use Rattle.history_lock.specs.declared.view.View.{View}
-use Rattle.history_lock.specs.History.{Begins, calls_by}
-use Rattle.history_lock.specs.Turns.{parts_of, newcomer, left_part, right_part, both_parts, spent_view, shadow_part, Sees, Fits, Whole, Kept}
+use Rattle.history_lock.specs.History.{calls_by}
+use Rattle.history_lock.specs.Turns.{parts_of, newcomer, left_part, right_part, both_parts, spent_view, shadow_part, Sees, Fits, Kept}
 use Rattle.history_lock.proofs.Places.{each_after, each_pushed, each_append, at_second, set_at, at_same, calls_by-none, none_later}
 use Rattle.history_lock.proofs.Turning.{own_part, whole_after, one_seat}
 
@@ -72,8 +72,8 @@ module _ {M B E C : Type 0} (base : M → B) (list : M → List E) (call_of : E 
       let owner_new : (c : ℕ) → c ≡ v.served → owner c ≡ (size, 0) = λ c e. ap (λ (z : Bool). if z then (size, 0) else r.owner c) (eq-eqb c v.served e) in
       let owner_old : (c : ℕ) → c < r.served → owner c ≡ r.owner c = λ c below. ap (λ (z : Bool). if z then (size, 0) else r.owner c) (ne_eqb c v.served (λ e. omega arith)) in
       let stays : (j : ℕ) (x : V) → ((k : ℕ) (p : Part E C) → get_elem? (parts_of x) k ≡ some p → (r.owner p.client ≡ (j, k)) × Sees call_of client_of r.log p × (p.client < r.served))
-          → (k : ℕ) (p : Part E C) → get_elem? (parts_of x) k ≡ some p → (owner p.client ≡ (j, k)) × Sees call_of client_of r.log p × (p.client < r.served + 1) =
-          λ j x old k p place. let o = old k p place in (owner_old p.client o.2 ∙ o.0, o.1, (let a = o.2 in omega arith)) in
+      → (k : ℕ) (p : Part E C) → get_elem? (parts_of x) k ≡ some p → (owner p.client ≡ (j, k)) × Sees call_of client_of r.log p × (p.client < r.served + 1) =
+      λ j x old k p place. let o = old k p place in (owner_old p.client o.2 ∙ o.0, o.1, (let a = o.2 in omega arith)) in
       record {
         turn = r.turn;
         served = r.served + 1;
@@ -139,12 +139,12 @@ module _ {M B E C : Type 0} (base : M → B) (list : M → List E) (call_of : E 
       let owner_moved : (c : ℕ) → (r.owner c).0 ≡ other → owner c ≡ (id, size + (r.owner c).1) = λ c e. ap (λ (z : Bool). if z then (id, size + (r.owner c).1) else r.owner c) (eq-eqb (r.owner c).0 other e) in
       let P : ℕ → Part E C → Type 0 = λ k p. (owner p.client ≡ (id, k)) × Sees call_of client_of r.log p × (p.client < r.served) in
       let stays : (j : ℕ) (p : Part E C) (k : ℕ) → j ≢ other → r.owner p.client ≡ (j, k) → owner p.client ≡ (j, k) =
-          λ j p k ne o. owner_same p.client (λ e. ne (ap (λ (z : ℕ × ℕ). z.0) (sym o) ∙ e)) ∙ o in
+      λ j p k ne o. owner_same p.client (λ e. ne (ap (λ (z : ℕ × ℕ). z.0) (sym o) ∙ e)) ∙ o in
       let joined : (k : ℕ) (p : Part E C) → get_elem? (parts_of w) k ≡ some p → P k p =
-          subst (λ (l : List (Part E C)). (k : ℕ) (p : Part E C) → get_elem? l k ≡ some p → P k p) (sym parts)
-          (each_append P (parts_of v) (parts_of u)
-          (λ k p place. let o = mine.part k p place in (stays id p k (λ e. apart (sym e)) o.0, o.1, o.2))
-          (λ i p place. let o = theirs.part i p place in (owner_moved p.client (ap (λ (z : ℕ × ℕ). z.0) o.0) ∙ ap (λ (z : ℕ × ℕ). (id, size + z.1)) o.0, o.1, o.2))) in
+      subst (λ (l : List (Part E C)). (k : ℕ) (p : Part E C) → get_elem? l k ≡ some p → P k p) (sym parts)
+      (each_append P (parts_of v) (parts_of u)
+      (λ k p place. let o = mine.part k p place in (stays id p k (λ e. apart (sym e)) o.0, o.1, o.2))
+      (λ i p place. let o = theirs.part i p place in (owner_moved p.client (ap (λ (z : ℕ × ℕ). z.0) o.0) ∙ ap (λ (z : ℕ × ℕ). (id, size + z.1)) o.0, o.1, o.2))) in
       record {
         turn = r.turn;
         served = r.served;
@@ -201,20 +201,20 @@ module _ {M B E C : Type 0} (base : M → B) (list : M → List E) (call_of : E 
   ends id v ws xs final live rests all made =
       let s = final.0 in let r = final.1.0 in let at = final.1.1 in let mine = r.each id v at in
       let free : r.turn ≡ 0 = dite (ℕ_discrete r.turn 0) (λ z. z) (λ ne.
-          let h = r.held ne in let u : V = h.1 in let theirs = r.each h.0 u h.2 in let t = theirs.holder h.3 in
-          let first = theirs.part 0 u.own (own_part u t.2) in let here = all u.own.client (let a = first.2 in let c = r.few in omega arith) in
-          let owned = mine.part here.0 here.1 here.2 in
-          let is : h.0 ≡ id = ap (λ (z : ℕ × ℕ). z.0) (sym first.0 ∙ (ap r.owner (sym here.3) ∙ owned.0)) in
-          let same : u ≡ v = at_same s.views id u v (ap (get_elem? s.views) (sym is) ∙ h.2) at in
-          let a : true ≡ false = sym h.3 ∙ (ap (λ (z : V). z.holds) same ∙ rests) in cc) in
+      let h = r.held ne in let u : V = h.1 in let theirs = r.each h.0 u h.2 in let t = theirs.holder h.3 in
+      let first = theirs.part 0 u.own (own_part u t.2) in let here = all u.own.client (let a = first.2 in let c = r.few in omega arith) in
+      let owned = mine.part here.0 here.1 here.2 in
+      let is : h.0 ≡ id = ap (λ (z : ℕ × ℕ). z.0) (sym first.0 ∙ (ap r.owner (sym here.3) ∙ owned.0)) in
+      let same : u ≡ v = at_same s.views id u v (ap (get_elem? s.views) (sym is) ∙ h.2) at in
+      let a : true ≡ false = sym h.3 ∙ (ap (λ (z : V). z.holds) same ∙ rests) in cc) in
       let home = r.home free in
       let front = (mine.part 0 v.own (own_part v live)).1.seen in
       let whole : r.log ≡ v.own.seen ++ front.later = front.whole in
       let none_left : front.later ≡ [] = none_later call_of client_of r.served v.own.seen front.later (subst (All (λ e. client_of (call_of e) < r.served)) whole r.clients)
-          (λ c below. let here = all c (let a = r.few in omega arith) in let owned = mine.part here.0 here.1 here.2 in
-          let now : calls_by call_of client_of here.1.client (v.own.seen ++ front.later) ≡ calls_by call_of client_of here.1.client v.own.seen =
-              ap (calls_by call_of client_of here.1.client) (sym whole) ∙ (sym owned.1.mine ∙ made here.0 here.1 here.2) in
-          subst (λ (z : ℕ). calls_by call_of client_of z (v.own.seen ++ front.later) ≡ calls_by call_of client_of z v.own.seen) here.3 now) in
+      (λ c below. let here = all c (let a = r.few in omega arith) in let owned = mine.part here.0 here.1 here.2 in
+      let now : calls_by call_of client_of here.1.client (v.own.seen ++ front.later) ≡ calls_by call_of client_of here.1.client v.own.seen =
+      ap (calls_by call_of client_of here.1.client) (sym whole) ∙ (sym owned.1.mine ∙ made here.0 here.1 here.2) in
+      subst (λ (z : ℕ). calls_by call_of client_of z (v.own.seen ++ front.later) ≡ calls_by call_of client_of z v.own.seen) here.3 now) in
       let log_is : r.log ≡ v.own.seen = whole ∙ (ap (λ (l : List E). v.own.seen ++ l) none_left ∙ append-nil v.own.seen) in (
         home.0,
         final.4 0 (Some home.0) (ap (λ (hs : _). get_elem? hs 0) home.1),

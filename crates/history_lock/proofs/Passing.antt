@@ -1,5 +1,5 @@
 -- What whole calls make of what a pass knows.
-use Rattle.std.proofs.Common.{◌≡◌, ◌≢◌, ℕ, ◌+◌, ◌^◌, ◌<◌, ◌≤◌, Bool, true, false, List, [], ◌∷◌, ◌++◌, length, sym, refl, ap, ◌∙◌, subst, arith, length-append}
+use Rattle.std.proofs.Common.{◌≡◌, ℕ, ◌+◌, ◌^◌, ◌<◌, List, [], ◌∷◌, ◌++◌, length, sym, refl, ap, ◌∙◌, subst, arith, length-append}
 use Rattle.history_lock.specs.declared.view.Part.{Part}
 use Rattle.history_lock.specs.declared.view.View.{View}
 use Rattle.history_lock.specs.History.{Begins, calls_by}
@@ -36,7 +36,7 @@ module _ {B E C : Type 0} (call_of : E → C) (client_of : C → ℕ) where
       let own : OwnCalls w = subst OwnCalls (sym whole) refl in
       let mine : w.own.mine ≡ calls_by call_of client_of v.own.client longer = ap (λ (z : View B E C). z.own.mine) whole in
       let grown : w.own.mine ≡ v.own.mine ++ call_of entry ∷ [] =
-          mine ∙ (ap (calls_by call_of client_of v.own.client) more ∙ (calls_by-own call_of client_of v.own.client log entry by ∙ ap (λ (l : List C). l ++ call_of entry ∷ []) (sym sees.mine))) in
+      mine ∙ (ap (calls_by call_of client_of v.own.client) more ∙ (calls_by-own call_of client_of v.own.client log entry by ∙ ap (λ (l : List C). l ++ call_of entry ∷ []) (sym sees.mine))) in
       let size : length w.own.mine ≡ length v.own.mine + 1 = ap length grown ∙ length-append v.own.mine (call_of entry ∷ []) in
       let most = length-calls_by call_of client_of v.own.client longer in
       let count : length w.own.mine ≡ length (calls_by call_of client_of v.own.client longer) = ap length mine in

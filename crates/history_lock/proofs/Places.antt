@@ -1,5 +1,5 @@
 -- Lists read by place, beginnings of a history, and the calls of one client in it.
-use Rattle.std.proofs.Common.{◌≡◌, ◌≢◌, ℕ, zero, suc, ◌+◌, ◌<◌, ◌≤◌, ◌==◌, eqb, Bool, cond, List, [], ◌∷◌, ◌++◌, map, filter, length, get_or, set, sym, refl, ap, ◌∙◌, subst, ⊎_elim, inl, inr, arith, eq-eqb, ne_eqb, append-nil, length-append, append_assoc, zero-add, suc-add, All, slice_get, Option, None, Some}
+use Rattle.std.proofs.Common.{◌≡◌, ◌≢◌, ℕ, zero, suc, ◌+◌, ◌<◌, ◌≤◌, ◌==◌, Bool, cond, List, [], ◌∷◌, ◌++◌, map, filter, length, get_or, set, sym, refl, ap, ◌∙◌, subst, ⊎_elim, inl, inr, arith, eq-eqb, ne_eqb, append-nil, length-append, append_assoc, zero-add, suc-add, All, slice_get, None, Some}
 use mathlib.Core.Option.{some, some-injective, some-ne-none}
 use mathlib.Core.Logic.{dite, ◌⊎◌}
 use native.Mathlib.Decide.{ℕ_discrete}

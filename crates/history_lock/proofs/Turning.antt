@@ -1,5 +1,5 @@
 -- The steps of a turn keep the rule of the lock: the turn is taken, an entry is added, the count is read, the turn is freed.
-use Rattle.std.proofs.Common.{◌≡◌, ◌≢◌, ℕ, zero, suc, ◌+◌, ◌%◌, ◌^◌, ◌<◌, ◌≤◌, eqb, Bool, true, false, if◌then◌else◌, List, [], ◌∷◌, ◌++◌, length, get_or, set, sym, refl, ap, ◌∙◌, subst, arith, eq-eqb, ne_eqb, length-append, All, Option, Some}
+use Rattle.std.proofs.Common.{◌≡◌, ◌≢◌, ℕ, zero, suc, ◌+◌, ◌%◌, ◌^◌, ◌<◌, eqb, Bool, true, false, if◌then◌else◌, List, [], ◌∷◌, ◌++◌, length, get_or, set, sym, refl, ap, ◌∙◌, subst, arith, ne_eqb, length-append, All, Option, Some}
 use Rattle.std.proofs.lemmas.List.Elements.{All-append}
 use mathlib.Core.Option.{some, none, some-injective, some-ne-none}
 use mathlib.Core.Logic.{dite}
@@ -10,9 +10,9 @@ use Rattle.atomic_table.specs.Table.{State, Me, step, keeps, takes, gives, put_b
 use Rattle.atomic_table.proofs.Lists.{set_else}
 use Rattle.history_lock.specs.declared.view.Part.{Part}
 use Rattle.history_lock.specs.declared.view.View.{View}
-use Rattle.history_lock.specs.History.{Begins, calls_by}
+use Rattle.history_lock.specs.History.{calls_by}
 use Rattle.history_lock.specs.Turns.{parts_of, holding, beaten, with_seen, with_made, at_rest, Sees, Fits, Whole, Kept, taken, committed, looked, freed}
-use Rattle.history_lock.proofs.Places.{each_after, set_at, at_same, begins_all, begins_more, calls_by-own, calls_by-other}
+use Rattle.history_lock.proofs.Places.{each_after, set_at, at_same, begins_all, begins_more, calls_by-other}
 
 module _ {E C : Type 0} where
   -- what holds of all parts of a pass still does where only its own part changes
@@ -55,9 +55,9 @@ module _ {B E C : Type 0} where
       → Whole served owner views → Whole served owner (set views id w)
   whole_after served owner views id v w at same whole c below = let t = whole c below in dite (ℕ_discrete (owner c).0 id)
       (λ e. let is : t.0 ≡ v = at_same views id t.0 v (ap (get_elem? views) (sym e) ∙ t.2) at in
-          let there : get_elem? (parts_of v) (owner c).1 ≡ some t.1 = subst (λ (z : View B E C). get_elem? (parts_of z) (owner c).1 ≡ some t.1) is t.3 in
-          let q = same (owner c).1 t.1 there in
-          (w, q.0, ap (get_elem? (set views id w)) e ∙ set_at views id v w at, q.1, q.2 ∙ t.4))
+      let there : get_elem? (parts_of v) (owner c).1 ≡ some t.1 = subst (λ (z : View B E C). get_elem? (parts_of z) (owner c).1 ≡ some t.1) is t.3 in
+      let q = same (owner c).1 t.1 there in
+      (w, q.0, ap (get_elem? (set views id w)) e ∙ set_at views id v w at, q.1, q.2 ∙ t.4))
       (λ ne. (t.0, t.1, set_else views id (owner c).0 w ne ∙ t.2, t.3, t.4))
 
 module _ {M B E C : Type 0} (base : M → B) (list : M → List E) (call_of : E → C) (client_of : C → ℕ) (b : B) (n : ℕ) where
@@ -113,9 +113,9 @@ module _ {M B E C : Type 0} (base : M → B) (list : M → List E) (call_of : E 
         ),
       ))
       (λ away. let h = r.held away in let j : ℕ = h.0 in let u : V = h.1 in let theirs = r.each j u h.2 in let t = theirs.holder h.3 in
-          let w : V = beaten v in
-          let apart : j ≢ id = λ e. let same : u ≡ v = at_same s.views id u v (ap (get_elem? s.views) (sym e) ∙ h.2) at in absurd (let a : true ≡ false = sym h.3 ∙ (ap (λ (z : V). z.holds) same ∙ resting) in cc) in
-          let other : u.own.client ≢ v.own.client = λ e. apart (one_seat r.turn r.served r.log r.owner j id u v theirs mine t.2 live e) in (
+      let w : V = beaten v in
+      let apart : j ≢ id = λ e. let same : u ≡ v = at_same s.views id u v (ap (get_elem? s.views) (sym e) ∙ h.2) at in absurd (let a : true ≡ false = sym h.3 ∙ (ap (λ (z : V). z.holds) same ∙ resting) in cc) in
+      let other : u.own.client ≢ v.own.client = λ e. apart (one_seat r.turn r.served r.log r.owner j id u v theirs mine t.2 live e) in (
         w,
         keeps,
         tt,
@@ -182,8 +182,8 @@ module _ {M B E C : Type 0} (base : M → B) (list : M → List E) (call_of : E 
   pub looks : (slots id : ℕ) (me : Me (Option M) V) → Allows Rule slots id me 1 (λ k. k) (looked base list call_of client_of (step slots 1 0 0 none) me)
   looks slots id me s r _ at _ = let v : V = me.0 in let mine = r.each id v at in let w : V = with_seen v r.log in
       let shown : (k : ℕ) (p : Part E C) → get_elem? (parts_of w) k ≡ some p → (r.owner p.client ≡ (id, k)) × Sees call_of client_of r.log p × (p.client < r.served) =
-          parts_swap v.live v.own w.own v.kept (λ k p. (r.owner p.client ≡ (id, k)) × Sees call_of client_of r.log p × (p.client < r.served)) mine.part
-          (λ h. (h.0, record { seen = begins_all r.log; mine = h.1.mine }, h.2)) in (
+      parts_swap v.live v.own w.own v.kept (λ k p. (r.owner p.client ≡ (id, k)) × Sees call_of client_of r.log p × (p.client < r.served)) mine.part
+      (λ h. (h.0, record { seen = begins_all r.log; mine = h.1.mine }, h.2)) in (
         w,
         keeps,
         tt,
@@ -219,11 +219,11 @@ module _ {M B E C : Type 0} (base : M → B) (list : M → List E) (call_of : E 
       let count : (length r.log + 1) % 2 ^ 64 ≡ length log = omega arith in
       let out : r.turn ≢ 0 = (let a = h.0 in omega arith) in
       let more : (p : Part E C) → p.client ≢ v.own.client → Sees call_of client_of r.log p → Sees call_of client_of log p =
-          λ p ne sees. subst (λ (l : List E). Sees call_of client_of l p) (sym log_is) record { seen = begins_more p.seen r.log (e ∷ []) sees.seen; mine = sees.mine ∙ sym (calls_by-other call_of client_of p.client r.log e (λ z. ne (sym z ∙ by))) } in
+      λ p ne sees. subst (λ (l : List E). Sees call_of client_of l p) (sym log_is) record { seen = begins_more p.seen r.log (e ∷ []) sees.seen; mine = sees.mine ∙ sym (calls_by-other call_of client_of p.client r.log e (λ z. ne (sym z ∙ by))) } in
       let parts : (k : ℕ) (p : Part E C) → get_elem? (parts_of w) k ≡ some p → (r.owner p.client ≡ (id, k)) × Sees call_of client_of log p × (p.client < r.served) =
-          parts_made v.own w.own v.kept v.live h.2 (λ k p. (r.owner p.client ≡ (id, k)) × Sees call_of client_of log p × (p.client < r.served))
-          (first.0, record { seen = begins_all log; mine = refl }, first.2)
-          (λ k p there. let o = mine.part (suc k) p there in (o.0, more p (λ same. suc_not (ap (λ (z : ℕ × ℕ). z.1) (sym o.0 ∙ (ap r.owner same ∙ first.0)))) o.1, o.2)) in (
+      parts_made v.own w.own v.kept v.live h.2 (λ k p. (r.owner p.client ≡ (id, k)) × Sees call_of client_of log p × (p.client < r.served))
+      (first.0, record { seen = begins_all log; mine = refl }, first.2)
+      (λ k p there. let o = mine.part (suc k) p there in (o.0, more p (λ same. suc_not (ap (λ (z : ℕ × ℕ). z.1) (sym o.0 ∙ (ap r.owner same ∙ first.0)))) o.1, o.2)) in (
         w,
         keeps,
         tt,

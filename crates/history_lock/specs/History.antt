@@ -1,5 +1,5 @@
 -- A history as plain data: what begins it, and the calls of one client in it.
-use Rattle.std.specs.Prelude.{◌≡◌, ℕ, ◌==◌, Bool, List, ◌++◌, filter, map}
+use Rattle.std.specs.Prelude.{◌≡◌, ℕ, ◌==◌, List, ◌++◌, filter, map}
 
 -- the history begins with what was seen
 pub record Begins {E : Type 0} (seen log : List E) : Type 0 where

@@ -1,9 +1,6 @@
 -- What each call makes of what a pass knows.
-use Rattle.std.specs.Prelude.{◌≡◌, ℕ, ◌+◌, ◌<◌, ◌≤◌, true, false, List, [], ◌∷◌, ◌++◌, Option}
+use Rattle.std.specs.Prelude.{◌≡◌, ◌≤◌, false, List, [], ◌∷◌, ◌++◌, Option}
 use Rattle.atomic_table.specs.Table.{Me}
-use Rattle.atomic_table.specs.Seated.{TableId}
-use Rattle.atomic_table.specs.declared.shared.Seat.{Seat}
-use Rattle.history_lock.specs.declared.view.Part.{Part}
 use Rattle.history_lock.specs.declared.view.View.{View}
 use Rattle.history_lock.specs.History.{Begins}
 use Rattle.history_lock.specs.Turns.{with_seen}

@@ -16,8 +16,12 @@ use crate::rule::{Board, Place, Top};
 impl<M: Machine> TurnLock<M> {
     ghost use Rattle.history_lock.specs.Lock.{base_of, clients_of, known, IsPassOf};
 
-    /// Joins all passes into the first, one by one, and gives the machine back, with a pass that has
-    /// seen its whole history.
+    /// Joins all passes into the first, one by one, and gives the machine back. It takes all passes of
+    /// this lock, in order of clients, and can't be refused.
+    ///
+    /// In the history for which the machine stands, the calls of each client are just those that its
+    /// pass had made, each once and in order. The pass that comes back is that of client 0, which has
+    /// seen the whole history. It is spent: it's a pass of no lock any more.
     pub fn close(self, passes: Vec<Pass<M>>) -> (M, Pass<M>)
         requires one_each { vec_len passes ≡ clients_of self }
         requires passes { (i : ℕ) (p : _) → slice_get passes.items i ≡ Some p → IsPassOf M.base self p × ((known p).own.client ≡ i) }
@@ -110,11 +114,7 @@ fn join_all<M: Machine>(top: &Top<M>, passes: Vec<Pass<M>>) -> Joined<M>
     } = first_of(&mut passes);
     gather(top, &mut seat, passes);
     look(top, &mut seat);
-    Joined {
-        client,
-        made,
-        seat,
-    }
+    Joined { client, made, seat }
 }
 
 // Takes the machine out of the table, with the pass that has the parts of all clients.

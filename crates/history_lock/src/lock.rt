@@ -1,4 +1,4 @@
-//! The lock, and the calls that take a turn or look.
+//! The lock, and the calls that take a turn, look at the history or count its entries.
 ghost use Rattle.std.specs.Prelude.{◌≡◌, ◌<◌, ◌≤◌, length, IfOk, IfErr};
 
 use crate::answers::{Looked, Turned};
@@ -12,11 +12,19 @@ use fsa_types::NoMemory;
 use std::alloc::Global;
 use std::sync::Wait;
 
-/// A machine of which many threads make turns, one at a time.
+/// A machine of which many threads make turns, one at a time. Threads share it by reference.
+///
+/// Clauses read of it the machine's base, `base_of`, and the number of its clients, `clients_of`.
 #[derive(Drop)]
 pub struct TurnLock<M: Machine> {
     /// The turn word, the count of entries and the slot of the machine.
-    pub(crate) table: Table<Option<M>, View<M::Base, M::Entry, M::Call>, About<M>, Turns<M>, Global>,
+    pub(crate) table: Table<
+        Option<M>,
+        View<M::Base, M::Entry, M::Call>,
+        About<M>,
+        Turns<M>,
+        Global,
+    >,
     ghost sized: { (table.shared.table_id.words ≡ 2) × (table.shared.table_id.slots ≡ 1) × (1 ≤ table.shared.key.clients) },
 }
 
@@ -26,7 +34,12 @@ impl<M: Machine> TurnLock<M> {
     ghost use Rattle.history_lock.specs.Lock.{base_of, clients_of, known, IsPassOf};
     ghost use Rattle.history_lock.specs.Passes.{Makes, Looks, Waited};
 
-    /// Makes one turn with the call, if no other pass holds the turn.
+    /// Makes one turn with the call, unless another pass holds the turn. It never waits.
+    ///
+    /// The call has to be one of the pass's client, which the machine allows after the calls that the
+    /// pass has made. `Busy` comes exactly where the exchange found the turn held by another pass: the
+    /// pass counts it, nothing else changes and no memory is taken. `Refused` is the machine's own
+    /// refusal, on the history that the pass has then seen; nothing was added to it.
     pub fn try_turn(
         &self,
         alloc: Global,
@@ -60,7 +73,8 @@ impl<M: Machine> TurnLock<M> {
         }
     }
 
-    /// Makes one turn with the call. While another pass holds the turn it waits, and tries again.
+    /// Makes one turn with the call, as `try_turn` does. While another pass holds the turn it sleeps,
+    /// and tries again: it may wait forever, and no clause says that its turn comes.
     pub fn turn(
         &self,
         rt: &impl Wait,
@@ -92,7 +106,12 @@ impl<M: Machine> TurnLock<M> {
         unreachable!()
     }
 
-    /// Looks at the history, if no other pass holds the turn.
+    /// Asks the machine what the history shows, unless another pass holds the turn. It never waits, and
+    /// adds nothing to the history.
+    ///
+    /// What is asked has to be allowed of what the pass has seen. `Saw` and `NoMemory` speak of the
+    /// history as it was when the pass loaded its length, which the pass has then seen. `NoMemory` comes
+    /// only where the look is a costly one, and `Busy` as in `try_turn`.
     pub fn try_look(&self, alloc: Global, pass: &mut Pass<M>, ask: &M::Ask) -> Looked<M::Seen>
         requires pass { IsPassOf M.base self.now pass.old }
         requires may { M.may_look (known pass.old).own.seen ask.now }
@@ -115,7 +134,8 @@ impl<M: Machine> TurnLock<M> {
         }
     }
 
-    /// The number of entries of the history, which the pass has then seen.
+    /// The number of entries of the history, which the pass has then seen. It never waits, not even
+    /// while another pass holds the turn, and takes no memory.
     pub fn front(&self, pass: &mut Pass<M>) -> u64
         requires pass { IsPassOf M.base self.now pass.old }
 

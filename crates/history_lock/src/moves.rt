@@ -12,7 +12,9 @@ use crate::rule::{Place, Top};
 
 // The turn word, the count word and the slot of the machine.
 pub(crate) const TURN: usize = 0;
+
 const COUNT: usize = 1;
+
 const SLOT: usize = 0;
 
 // Takes the turn and the machine, if no other pass holds them.

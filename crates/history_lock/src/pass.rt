@@ -7,15 +7,17 @@ use crate::machine::Machine;
 use crate::view::View;
 use atomic_table::Seat;
 
-/// The right of one client to make turns of one lock, and what that client knows: a beginning of the
+/// The right of one client to make turns at one lock, and what that client knows: a beginning of the
 /// lock's history, and its own calls in it.
 ///
-/// It has no bytes but two numbers. It can go to another thread where the machine can.
+/// Clauses read of it `known`, which has the client, what was seen, the own calls, and the counts of
+/// loads and of lost exchanges. It holds two numbers and no part of the history. Where the machine may
+/// go to another thread, so may a pass.
 #[derive(Drop)]
 pub struct Pass<M: Machine> {
     pub(crate) client: u32,
     pub(crate) made: u32,
-    /// The place at the lock's table, for clauses: `known` of it is what the pass knows.
+    // The place at the lock's table.
     pub(crate) seat: Seat<Option<M>, View<M::Base, M::Entry, M::Call>>,
     ghost resting: { IsResting seat.me },
     ghost client_is: { client ≡ seat.me.0.own.client },
@@ -27,14 +29,14 @@ pub struct Pass<M: Machine> {
 impl<M: Machine> Pass<M> {
     ghost use Rattle.history_lock.specs.Lock.{known};
 
-    /// The client that this pass serves.
+    /// The number of the client that this pass serves, from 0.
     pub fn client(&self) -> u32
         ensures { result ≡ (known self.now).own.client }
     {
         self.client
     }
 
-    /// How many calls this pass has made.
+    /// How many calls this pass has made: those that were busy or refused don't count.
     pub fn made(&self) -> u32
         ensures calls { result ≡ length (known self.now).own.mine }
         ensures few { result < 2 ^ 31 }

@@ -31,11 +31,7 @@ impl<M: Machine> TableRule<Option<M>, View<M::Base, M::Entry, M::Call>, About<M>
 }
 
 /// What a pass knows, for the machine `M`.
-pub type ViewOf<M> = View<
-    <M as Machine>::Base,
-    <M as Machine>::Entry,
-    <M as Machine>::Call,
->;
+pub type ViewOf<M> = View<<M as Machine>::Base, <M as Machine>::Entry, <M as Machine>::Call>;
 
 /// The table as passes see it.
 pub(crate) type Top<M> = Shared<Option<M>, ViewOf<M>, About<M>, Turns<M>>;

@@ -15,7 +15,10 @@ use std::snapshot::Snapshot;
 impl<M: Machine> TurnLock<M> {
     ghost use Rattle.history_lock.specs.Lock.{base_of, clients_of, known, IsPassOf};
 
-    /// Makes a lock round a machine with an empty history, and a pass for each client, in order.
+    /// Makes a lock round a machine with an empty history, for 1 to 512 clients, and a pass for each of
+    /// them, in order. No pass has seen or made anything yet.
+    ///
+    /// Without memory the machine comes back as it was. After this call the lock takes no memory.
     pub fn start(
         alloc: Global,
         machine: M,

@@ -144,8 +144,14 @@ fn one_thread_with_three_passes(rt: HostRuntime) -> Result<(), Fail> {
         client: 1,
         number: 2,
     };
-    assert_eq!(rt; add(alloc, &lock, &mut second), Turned::Refused(fifth, Why::Full));
-    assert_eq!(rt; (second.client(), second.made(), lock.front(&mut second)), (1, 1, 4));
+    assert_eq!(rt;
+        add(alloc, &lock, &mut second),
+        Turned::Refused(fifth, Why::Full)
+    );
+    assert_eq!(rt;
+        (second.client(), second.made(), lock.front(&mut second)),
+        (1, 1, 4)
+    );
     let (machine, seen) = closed(alloc, lock, first, second, third).ok_or("memory")?;
     let clients: [u32; 4] = [0, 1, 0, 2];
     assert!(rt; machine.log.iter().map(|entry| entry.client).eq(clients));

@@ -41,11 +41,17 @@ impl Adder {
 
 impl Machine for Adder {
     type Base = usize;
+
     type Entry = Added;
+
     type Call = Added;
+
     type Out = usize;
+
     type Why = Why;
+
     type Ask = u32;
+
     type Seen = usize;
 
     ghost base = { λ adder. adder.limit };
@@ -81,6 +87,11 @@ impl Machine for Adder {
     }
 
     fn look(&self, _alloc: Global, client: &u32) -> Result<usize, NoMemory> {
-        Ok(self.log.iter().filter(|entry| entry.client == *client).count())
+        Ok(
+            self.log
+                .iter()
+                .filter(|entry| entry.client == *client)
+                .count(),
+        )
     }
 }

@@ -1,4 +1,4 @@
-use Rattle.std.proofs.Common.{rules, ◌≡◌, ℕ, ◌⊎◌, ⊎_elim, ◌++◌, ◌∷◌, [], slice_get, Some, length, refl, sym, ap, ◌∙◌}
+use Rattle.std.proofs.Common.{rules, ⊎_elim, ◌++◌, ◌∷◌, [], slice_get, length, refl, sym, ap, ◌∙◌}
 use Rattle.history_lock.proofs.Places.{given_end, given_longer, given_none, kept_more}
 use Rattle.history_lock.proofs.Passing.{kept_view}
 use Rattle.history_lock.proofs.Joining.{glues}

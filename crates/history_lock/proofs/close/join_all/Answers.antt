@@ -1,4 +1,4 @@
-use Rattle.std.proofs.Common.{rules, ◌≡◌, ℕ, suc, length, slice_get, sym, ap, ◌∙◌}
+use Rattle.std.proofs.Common.{suc, length, slice_get, sym, ap, ◌∙◌}
 use Rattle.history_lock.proofs.Gathered.{Gathered, each_sees, all_here, all_made}
 use Rattle.history_lock.proofs.close.join_all.Goals as goal
 use Rattle.history_lock.proofs.close.join_all.Goals.{After-look}

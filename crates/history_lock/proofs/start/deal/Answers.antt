@@ -1,4 +1,4 @@
-use Rattle.std.proofs.Common.{rules, arith, ◌≡◌, ℕ, ◌+◌, List, [], ◌∷◌, length, sym, ap, ◌∙◌, subst}
+use Rattle.std.proofs.Common.{rules, arith, ◌≡◌, ℕ, ◌+◌, [], ◌∷◌, length, ap, ◌∙◌}
 use Rattle.history_lock.specs.Turns.{newcomer, left_part, right_part}
 use Rattle.history_lock.proofs.Places.{each_given}
 use Rattle.history_lock.proofs.Joining.{cuts}

@@ -1,4 +1,4 @@
-use Rattle.std.proofs.Common.{◌≡◌, ◌++◌, ◌∷◌, [], length, slice_get, Some, sym, ap, ◌∙◌, arith}
+use Rattle.std.proofs.Common.{◌∷◌, [], slice_get, ap, ◌∙◌, arith}
 use Rattle.history_lock.proofs.Places.{given_end, given_longer}
 use Rattle.history_lock.proofs.tests.started.Goals as goal
 

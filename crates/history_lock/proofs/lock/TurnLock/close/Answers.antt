@@ -1,4 +1,4 @@
-use Rattle.std.proofs.Common.{◌≡◌, ℕ, length, sym, ap, ◌∙◌, subst, arith}
+use Rattle.std.proofs.Common.{length, sym, ap, ◌∙◌, subst, arith}
 use lib.ListN.{get_elem?}
 use Rattle.history_lock.specs.History.{calls_by}
 use Rattle.history_lock.specs.Turns.{parts_of, Sees}

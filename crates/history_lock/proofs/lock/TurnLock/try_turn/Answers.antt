@@ -1,4 +1,4 @@
-use Rattle.std.proofs.Common.{rules, ap, ◌∙◌, sym, arith}
+use Rattle.std.proofs.Common.{rules, ap, ◌∙◌, arith}
 use Rattle.history_lock.proofs.Passing.{own_made}
 use Rattle.history_lock.proofs.lock.TurnLock.try_turn.Goals as goal
 
