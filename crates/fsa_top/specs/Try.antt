@@ -1,5 +1,5 @@
 -- What a try of a call gave, against what it is defined to come to.
-use Rattle.std.specs.Prelude.{◌≡◌, ℕ, ◌≤◌, ◌+◌, Result, Ok, Err, []}
+use Rattle.std.specs.Prelude.{◌≡◌, ℕ, ◌≤◌, ◌+◌, ◌*◌, Result, Ok, Err, []}
 use Rattle.fsa_types.specs.declared.memory.NoMemory.{NoMemory}
 use Rattle.fsa_types.specs.declared.request.Request.TheVariants.{Read}
 use Rattle.fsa_types.specs.declared.request.What.{What}
@@ -20,12 +20,13 @@ abbrev pub reply_bytes : What → ℕ
 reply_bytes (Ask (Read handle at count)) = count
 reply_bytes _ = 0
 
--- no number that was given is above this one
+-- no number that was given is above this one, and the clock went on by less than 2 ^ 32 for each
 pub record GivesUpTo (v : Volume) (most : ℕ) : Type 0 where
   pub files : v.last_file ≤ most
   pub links : v.last_link ≤ most
   pub streams : v.last_stream ≤ most
   pub handles : v.last_handle ≤ most
+  pub clock : v.clock ≤ most * 4294967296
 
 -- no call ended and none became pending, and each last number rose by one at most
 pub record Grows (old new : Volume) : Type 0 where

@@ -9,7 +9,7 @@ ghost use Rattle.fsa_model.specs.Turn.{try, try_request, try_what, turn, turn_nu
 ghost use Rattle.fsa_top.specs.Try.{Gives, GivesUpTo, Goes, Grows, HasRoom, reply_bytes};
 
 use crate::store::Store;
-use crate::verbs::{Asked, bare, try_close, try_create, try_leave, try_read, try_write};
+use crate::verbs::{Asked, bare, try_close, try_create, try_leave, try_read, try_tick, try_write};
 use fsa_types::{
     Answer, Call, CallIdList, EndList, EndOf, NoMemory, Out, Reply, ReplyRoom, Request, Status, What,
 };
@@ -66,8 +66,9 @@ fn try_what(alloc: Global, store: &mut Store, client: u32, number: u32, what: &W
 {
     match what {
         What::Ask(request) => try_request(alloc, store, client, number, request),
+        What::Tick(ticks) => Ok(try_tick(store, *ticks)),
         What::Leave => Ok(try_leave(store, client)),
-        _ => Ok(bare(Status::InvalidDeviceRequest)),
+        What::WaitFor(_) => Ok(bare(Status::InvalidDeviceRequest)),
     }
 }
 

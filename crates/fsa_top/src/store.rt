@@ -6,7 +6,7 @@ ghost use Rattle.fsa_model.specs.Setup.{client_of};
 ghost use Rattle.fsa_model.specs.Volume.{fresh};
 ghost use Rattle.fsa_model.specs.Lookups.{bytes_of, child_of, default_stream, file_of_stream, first_sid, handle_of, has_left};
 ghost use Rattle.fsa_model.specs.Sharing.{clashes_on_stream};
-ghost use Rattle.fsa_model.specs.Edits.{with_handle, with_end, with_bytes, with_file_written};
+ghost use Rattle.fsa_model.specs.Edits.{with_handle, with_ticks, with_end, with_bytes, with_file_written};
 ghost use Rattle.fsa_types.specs.StreamBytes.{put};
 ghost use Rattle.fsa_model.specs.Close.{without_handle, try_leave};
 ghost use Rattle.fsa_model.specs.Outcome.{ends_with};
@@ -31,6 +31,7 @@ pub struct Store {
     last_handle: u64,
     ended: Series<EndOf>,
     left: Series<u32>,
+    clock: u64,
 }
 
 impl Model for Store {
@@ -72,6 +73,7 @@ impl Store {
             last_handle: 0,
             ended: Series::new(alloc),
             left: Series::new(alloc),
+            clock: 0,
         })
     }
 
@@ -196,7 +198,7 @@ impl Store {
         ensures link { result.0 ≡ self.old.content.last_link + 1 }
         ensures stream { result.1 ≡ self.old.content.last_stream + 1 }
     {
-        let Ok(file) = self.files.add(made_file(owner)) else {
+        let Ok(file) = self.files.add(made_file(owner, self.clock)) else {
             unreachable!()
         };
         let Ok(link) = self.links.add(StoredLink { parent: 1, name, file }) else {
@@ -251,7 +253,7 @@ impl Store {
         ensures content { self.new.content ≡ with_file_written self.old.content file }
         ensures spare { self.new.spare ≡ self.old.spare }
     {
-        note_written_in(&mut self.files, file);
+        note_written_in(&mut self.files, file, self.clock);
     }
 
     /// Closes a handle.
@@ -276,17 +278,28 @@ impl Store {
     }
 }
 
-// A file as it is made at the start of the clock.
-fn made_file(owner: u32) -> StoredFile
-    ensures { result ≡ record { directory = false; attributes = 0x20; creation = 0; access = 0; write = 0; change = 0; owner = owner; dacl = None; point = None } }
+impl Store {
+    /// The clock goes on by so many ticks.
+    pub fn advance(&mut self, ticks: u32)
+        requires fits { self.old.content.clock + ticks < 2 ^ 64 }
+        ensures content { self.new.content ≡ with_ticks self.old.content ticks }
+        ensures spare { self.new.spare ≡ self.old.spare }
+    {
+        self.clock += u64::from(ticks);
+    }
+}
+
+// A file as it is made at this time.
+fn made_file(owner: u32, clock: u64) -> StoredFile
+    ensures { result ≡ record { directory = false; attributes = 0x20; creation = clock; access = clock; write = clock; change = clock; owner = owner; dacl = None; point = None } }
 {
     StoredFile {
         directory: false,
         attributes: 0x20,
-        creation: 0,
-        access: 0,
-        write: 0,
-        change: 0,
+        creation: clock,
+        access: clock,
+        write: clock,
+        change: clock,
         owner,
     }
 }
@@ -322,9 +335,9 @@ fn put_in(streams: &mut Table<StoredStream>, stream: u64, at: usize, piece: &[u8
     row.put(at, piece)
 }
 
-// The file of this number was written at the start of the clock.
-fn note_written_in(files: &mut Table<StoredFile>, file: u64)
-    ensures rows { files.new.rows ≡ with_row_changed (λ row. record row { attributes = bit_or row.attributes 0x20; write = 0; change = 0 }) files.old.rows file }
+// The file of this number was written at this time.
+fn note_written_in(files: &mut Table<StoredFile>, file: u64, clock: u64)
+    ensures rows { files.new.rows ≡ with_row_changed (λ row. record row { attributes = bit_or row.attributes 0x20; write = clock; change = clock }) files.old.rows file }
     ensures last { files.new.last ≡ files.old.last }
     ensures room { files.new.room ≡ files.old.room }
 {
@@ -334,5 +347,5 @@ fn note_written_in(files: &mut Table<StoredFile>, file: u64)
     let Some(row) = files.get_mut(file) else {
         return;
     };
-    row.note_written(0);
+    row.note_written(clock);
 }

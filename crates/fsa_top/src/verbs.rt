@@ -4,6 +4,7 @@ ghost use Rattle.std.specs.Prelude.{◌≡◌, ◌≤◌, ◌<◌, ◌+◌, ◌-
 ghost use Rattle.fsa_types.specs.Reply.{bytes_of_body, units_of_body};
 ghost use Rattle.fsa_model.specs.Volume.{Volume};
 ghost use Rattle.fsa_model.specs.Lookups.{bytes_of};
+ghost use Rattle.fsa_model.specs.Edits.{with_ticks};
 ghost use Rattle.fsa_model.specs.Outcome.{ends_with, Done};
 ghost use Rattle.fsa_model.specs.Create.{create_found, create_missing, create_named, new_file, only_makes, try_create};
 ghost use Rattle.fsa_model.specs.Read.{read_bytes, try_read};
@@ -162,6 +163,18 @@ pub fn try_leave(store: &mut Store, client: u32) -> Reply
     ensures grows { Grows store.old.content store.new.content }
 {
     store.leave(client);
+    bare(Status::Success)
+}
+
+/// The clock goes on by so many ticks.
+pub fn try_tick(store: &mut Store, ticks: u32) -> Reply
+    requires ids { GivesUpTo store.old.content 0xFFFFFFFF }
+    ensures gives { result ≡ record { status = Status.Success; body = Body.Nothing } }
+    ensures content { store.new.content ≡ with_ticks store.old.content ticks }
+    ensures spare { store.new.spare ≡ store.old.spare }
+    ensures grows { Grows store.old.content store.new.content }
+{
+    store.advance(ticks);
     bare(Status::Success)
 }
 

@@ -69,11 +69,11 @@ const CASES: [(&str, Option<(u32, ScriptKind)>); 91] = [
     ("fsa 1\ntable pairs\nup 0x061 0x41\nclient a 7\n", Some((3, Syntax))),
     ("fsa 1\ntable pairs\nup 61 41\nclient a 7\n", Some((3, Syntax))),
     // Requests.
-    ("fsa 1\nclient a 7\na 1 create =\\d 0x1 0x7 create 0x1 0x0 0\n", None),
-    ("fsa 1\nclient a 7\na 1 create = 0x3 0x0 open 0x40 0x0 0\n", None),
+    ("fsa 1\nclient a 7\na 1 create =\\d 0x1 0x7 create 0x1 0x0 0\n", Some((3, Syntax))),
+    ("fsa 1\nclient a 7\na 1 create = 0x3 0x0 open 0x40 0x0 0\n", Some((3, Syntax))),
     ("fsa 1\nclient a 7\na 1 create =%0041%003A 0x3 0x0 open 0x0 0x0 0\n", Some((3, Syntax))),
     ("fsa 1\nclient a 7\na 1 create =%00aB 0x3 0x0 open 0x0 0x0 0\n", Some((3, Syntax))),
-    ("fsa 1\nclient a 7\na 1 create =%00AB~! 0x3 0x0 open 0x0 0x0 0\n", None),
+    ("fsa 1\nclient a 7\na 1 create =%00AB~! 0x3 0x0 open 0x0 0x0 0\n", Some((3, Syntax))),
     ("fsa 1\nclient a 7\na 1 create =%00A 0x3 0x0 open 0x0 0x0 0\n", Some((3, Syntax))),
     ("fsa 1\nclient a 7\na 1 create =\\\u{e9} 0x3 0x0 open 0x0 0x0 0\n", Some((3, Syntax))),
     ("fsa 1\nclient a 7\na 1 create =\\\u{7f} 0x3 0x0 open 0x0 0x0 0\n", Some((3, Syntax))),
@@ -120,13 +120,13 @@ fn each_case(rt: HostRuntime) -> Result<(), Fail> {
 #[test]
 fn what_a_script_says(rt: HostRuntime) -> Result<(), Fail> {
     let text = "fsa 1\ntable pairs\nup 0x61 0x41\nclient a 7\nclient b 9 10\n\
-                b 1 create =\\A%00E9 0x3 0x7 create 0x40 0x0 0\na 1 tick 5\n\
+                b 1 create =\\A%0042 0x3 0x7 create 0x0 0x0 0\na 1 tick 5\n\
                 b 2 write 1 3 x0aff\nb 3 read 1 2 4\nb 4 close 1\n";
     let script = read_script(rt.alloc(), text.as_bytes())?;
     let said = format!(in rt.alloc(); "{:?}", script.lines().as_slice())?;
     assert_eq!(rt; said.as_str(), "[\
-        Call { client: 1, number: 1, what: Ask(Create { path: Name { units: [92, 65, 233] }, \
-        wanted: 3, share: 7, disposition: CreateNew, options: 64, attributes: 0, key: 0 }) }, \
+        Call { client: 1, number: 1, what: Ask(Create { path: Name { units: [92, 65, 66] }, \
+        wanted: 3, share: 7, disposition: CreateNew, options: 0, attributes: 0, key: 0 }) }, \
         Call { client: 0, number: 1, what: Tick(5) }, \
         Call { client: 1, number: 2, what: Ask(Write { handle: 1, at: Some(3), bytes: Bytes { bytes: [10, 255] } }) }, \
         Call { client: 1, number: 3, what: Ask(Read { handle: 1, at: 2, count: 4 }) }, \
