@@ -1,6 +1,8 @@
 pub mod Access
 pub mod BoundedList
 pub mod CaseTable
+pub mod Match
+pub mod Ranges
 pub mod Reply
 pub mod ReplyRoom
 pub mod Request
