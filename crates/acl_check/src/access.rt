@@ -22,7 +22,8 @@ const OWNER_RIGHTS: u32 = 0x2_0000 | 0x4_0000;
 pub fn check(dacl: Option<&Dacl>, owner: u32, sids: &[u32], wanted: u32) -> Option<u32>
     ensures checked { result ≡ check (entries_of (option_copied dacl.entry)) owner sids.now wanted }
     // The first entry for the client that names a right decides it.
-    ensures first_entry { IsSome result ↔ Grants (entries_of (option_copied dacl.entry)) owner sids.now wanted }
+    ensures first_entry { IsSome result
+        ↔ Grants (entries_of (option_copied dacl.entry)) owner sids.now wanted }
 {
     let Some(dacl) = dacl else {
         return Some(wanted);

@@ -17,8 +17,9 @@
 //! memory and looks through the client's SIDs once for each entry; a list has at most 32 entries
 //! and a client at most 16 SIDs.
 //!
-//! Caveats: nothing maps the masks of entries or of what is wanted, so map them first; nothing that
-//! is wanted is always granted; privileges, inheritance and object entries aren't known here.
+//! Caveats: a check maps no generic rights, neither those of entries nor those that are wanted, so
+//! map them first; where no right is wanted, nothing is denied; privileges, inheritance and object
+//! entries aren't known here.
 #![tactic(auto)]
 
 mod access;

@@ -17,11 +17,11 @@ pub record Counts : Type 0 where
 abbrev pub refuses_read : ℕ → ℕ → Bool
 refuses_read access share = takes_part access && not (shares_read share)
 
--- .. write access
+-- .. doesn't share write access
 abbrev pub refuses_write : ℕ → ℕ → Bool
 refuses_write access share = takes_part access && not (shares_write share)
 
--- .. delete access
+-- .. doesn't share delete access
 abbrev pub refuses_delete : ℕ → ℕ → Bool
 refuses_delete access share = takes_part access && not (shares_delete share)
 
@@ -37,20 +37,20 @@ counts_of held = record {
   delete_refusers = count_by (λ held_open. refuses_delete held_open.0 held_open.1) held;
 }
 
--- some of the opens doesn't share an access that is in this mask
+-- one of the opens keeps from others an access that this mask has
 abbrev pub meets_refusers : Counts → ℕ → Bool
 meets_refusers counts access =
     (reads access && not (counts.read_refusers == 0))
     || (writes access && not (counts.write_refusers == 0))
     || (deletes access && not (counts.delete_refusers == 0))
 
--- some of the opens has an access that isn't in this share mask
+-- one of the opens has an access that this share mask leaves out
 abbrev pub meets_users : Counts → ℕ → Bool
 meets_users counts share =
     (not (counts.readers == 0) && not (shares_read share))
     || (not (counts.writers == 0) && not (shares_write share))
     || (not (counts.deleters == 0) && not (shares_delete share))
 
--- the counts are those of some opens, of which this is one
+-- the counts are those of some opens, and this is one of them
 abbrev pub Includes : Counts → ℕ → ℕ → Type 0
 Includes counts access share = (front back : List (ℕ × ℕ)) × (counts ≡ counts_of (front ++ (access, share) ∷ back))

@@ -21,8 +21,8 @@
 //! know no order, so that list counts as a multiset: what is said holds of each list whose counts
 //! these are, and an open is removed wherever it stands in it.
 //!
-//! Caveats: generic rights have no part in sharing, so map them first; an open that is held of
-//! another stream of the same file is none of these.
+//! Caveats: generic rights have no part in sharing, so map them first; opens of other streams of the
+//! same file belong in other counts.
 #![tactic(auto)]
 
 mod share_counts;

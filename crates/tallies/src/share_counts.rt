@@ -103,7 +103,8 @@ impl ShareCounts {
 
     // Whether the counts tell of an open that clashes with one of this access and this share.
     fn meet(&self, access: u32, share: u32) -> bool
-        ensures { result ≡ (meets_refusers self.now access || takes_part access && meets_users self.now share) }
+        ensures { result
+            ≡ (meets_refusers self.now access || takes_part access && meets_users self.now share) }
     {
         self.refuse_some(access) || takes_part(access) && self.have_unshared(share)
     }
