@@ -1,3 +1,4 @@
+pub mod Access
 pub mod BoundedList
 pub mod CaseTable
 pub mod CaseTableBody
@@ -5,4 +6,7 @@ pub mod Paths
 pub mod Reply
 pub mod ReplyRoom
 pub mod Request
+pub mod Sharing
 pub mod Status
+pub mod StreamBytes
+pub mod Rows

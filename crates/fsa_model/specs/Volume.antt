@@ -1,0 +1,147 @@
+-- The volume: a record of plain lists, after the abstract data model of [MS-FSA], 'Per Volume' to
+-- 'Per Oplock'.
+use Rattle.std.specs.Prelude.{ℕ, Bool, true, List, [], ◌∷◌, Option, None}
+use Rattle.fsa_types.specs.declared.request.Ace.{Ace}
+use Rattle.fsa_types.specs.declared.request.Call.{Call}
+use Rattle.fsa_types.specs.declared.request.Level.{Level}
+use Rattle.fsa_types.specs.declared.reply.EndOf.{EndOf}
+use Rattle.fsa_types.specs.declared.reply.Blocker.{Blocker}
+use Rattle.fsa_model.specs.Setup.{Client, Setup}
+
+-- a file or a directory ('Per File'); times are ticks of the clock; without an
+-- access list all is granted; a reparse point is its tag and its bytes
+pub record File : Type 0 where
+  pub directory : Bool
+  pub attributes : ℕ
+  pub creation : ℕ
+  pub access : ℕ
+  pub write : ℕ
+  pub change : ℕ
+  pub owner : ℕ
+  pub dacl : Option (List Ace)
+  pub point : Option (ℕ × List ℕ)
+
+-- a name of a file in its parent directory ('Per Link'), marked deleted or not
+pub record Link : Type 0 where
+  pub parent : ℕ
+  pub name : List ℕ
+  pub file : ℕ
+  pub deleted : Bool
+
+-- a stream of a file ('Per Stream'); the default stream's name is empty
+pub record Stream : Type 0 where
+  pub file : ℕ
+  pub name : List ℕ
+  pub bytes : List ℕ
+  pub deleted : Bool
+
+-- where a directory's enumeration stands
+pub data Cursor : Type 0 where
+  Start : Cursor
+  Dot : Cursor
+  DotDot : Cursor
+  After : List ℕ → Cursor
+
+-- an open ('Per Open'): the client and the number of the call that opened it; link 0 is the root's;
+-- no stream for a directory; the expression and the cursor of its enumeration, once there is one
+pub record Handle : Type 0 where
+  pub client : ℕ
+  pub number : ℕ
+  pub link : ℕ
+  pub stream : Option ℕ
+  pub access : ℕ
+  pub share : ℕ
+  pub key : ℕ
+  pub delete_on_close : Bool
+  pub enumeration : Option (List ℕ × Cursor)
+
+-- a byte-range lock ('Per ByteRangeLock') of a handle
+pub record Lock : Type 0 where
+  pub handle : ℕ
+  pub at : ℕ
+  pub count : ℕ
+  pub exclusive : Bool
+
+-- an oplock ('Per Oplock') of a handle: its level; while a break is in progress its target,
+-- which is the most that may stay, and the number of the break, 0 without one; and the turn of the call that is pending as granted, if there is one
+pub record Oplock : Type 0 where
+  pub handle : ℕ
+  pub key : ℕ
+  pub level : Level
+  pub target : Option Level
+  pub number : ℕ
+  pub call : Option ℕ
+
+-- a call that hasn't ended, and what it waits for
+pub record Pending : Type 0 where
+  pub call : Call
+  pub blockers : List Blocker
+
+-- a watch of a directory ('Per ChangeNotifyEntry'): its handle, what it asks for, whether the whole
+-- tree counts, and the place in the list of changes from which on it is due
+pub record Watch : Type 0 where
+  pub handle : ℕ
+  pub filter : ℕ
+  pub tree : Bool
+  pub from : ℕ
+
+-- a change: its action, its filter bits, and each ancestor directory of what changed, the parent
+-- first, with the name relative to it
+pub record Change : Type 0 where
+  pub action : ℕ
+  pub bits : ℕ
+  pub seen_from : List (ℕ × List ℕ)
+
+-- files, links, streams, handles and locks stand under their numbers, pending calls under their turns
+pub record Volume : Type 0 where
+  pub table : List (ℕ × ℕ)
+  pub clients : List Client
+  pub files : List (ℕ × File)
+  pub links : List (ℕ × Link)
+  pub streams : List (ℕ × Stream)
+  pub handles : List (ℕ × Handle)
+  pub locks : List (ℕ × Lock)
+  pub oplocks : List Oplock
+  pub pending : List (ℕ × Pending)
+  pub ended : List EndOf
+  pub watches : List Watch
+  pub changes : List Change
+  pub limits : List (ℕ × ℕ)
+  pub clock : ℕ
+  pub left : List ℕ
+  pub last_file : ℕ
+  pub last_link : ℕ
+  pub last_stream : ℕ
+  pub last_handle : ℕ
+  pub last_lock : ℕ
+  pub last_break : ℕ
+
+-- the root directory: owner 0, no access list
+abbrev pub root : File
+root = record { directory = true; attributes = 0; creation = 0; access = 0; write = 0; change = 0; owner = 0; dacl = None; point = None }
+
+-- a volume with the root alone
+abbrev pub fresh : Setup → Volume
+fresh setup = record {
+  table = setup.table;
+  clients = setup.clients;
+  files = (1, root) ∷ [];
+  links = [];
+  streams = [];
+  handles = [];
+  locks = [];
+  oplocks = [];
+  pending = [];
+  ended = [];
+  watches = [];
+  changes = [];
+  limits = [];
+  clock = 0;
+  left = [];
+  last_file = 1;
+  last_link = 0;
+  last_stream = 0;
+  last_handle = 0;
+  last_lock = 0;
+  last_break = 0;
+}

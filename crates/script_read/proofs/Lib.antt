@@ -1,0 +1,6 @@
+mod NameLemmas
+mod PairLemmas
+mod ReadLemmas
+mod ScriptLemmas
+mod SidLemmas
+mod TakeLemmas
