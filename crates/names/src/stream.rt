@@ -64,9 +64,8 @@ fn is_data(kind: &[u16]) -> bool
 fn ascii_upper(unit: u16) -> u16
     ensures { result ≡ up ascii_pairs unit }
 {
-    if 0x61 <= unit && unit <= 0x7A {
-        unit - 0x20
-    } else {
-        unit
+    match unit {
+        0x61..=0x7A => unit - 0x20,
+        _ => unit,
     }
 }

@@ -1,7 +1,7 @@
 //! Cases of paths and of case tables.
 
 use crate::{NameFault, split_path};
-use fsa_types::{TableFault, TryCopy, UpcaseTable};
+use fsa_types::{ClientList, Setup, TableFault, TryCopy, UpcaseTable};
 use std::alloc::{AllocError, Global};
 use std::cmp::Ordering;
 use std::test::Fail;
@@ -113,6 +113,9 @@ fn case_tables(rt: HostRuntime) -> Result<(), Fail> {
         ascii.cmp_name(&[0x41, 0x42], &[0x61, 0x62, 0x63]),
         Ordering::Less
     );
+    let clients = ClientList::with_room(alloc, 0)?;
+    let setup = Setup { table, clients }.copy(alloc)?;
+    assert_eq!(rt; setup.table.up(0xE4), 0xC4);
     let twice = UpcaseTable::new(alloc, &[(0x61, 0x41), (0x62, 0x42), (0x61, 0x43)]);
     assert_eq!(rt; twice.err(), Some(TableFault::Pair(2)));
     Ok(())
