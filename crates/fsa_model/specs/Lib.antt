@@ -4,5 +4,6 @@ pub mod Numbers
 pub mod Requests
 pub mod Script
 pub mod Setup
+pub mod Spelling
 pub mod Volume
 pub mod Words
