@@ -27,6 +27,7 @@
 #![tactic(auto)]
 
 mod fault;
+mod law;
 mod line;
 mod names;
 mod number;
@@ -42,6 +43,7 @@ mod tests;
 mod text;
 mod word;
 
+pub use law::one_reading;
 pub use fault::{ReadFault, ScriptFault, ScriptKind};
 pub use read::read_script;
 pub use script::Script;
