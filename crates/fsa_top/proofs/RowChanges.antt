@@ -3,7 +3,7 @@ use Rattle.std.proofs.Common.{◌≡◌, ℕ, zero, suc, ◌+◌, ◌<◌, ◌�
 use Rattle.std.specs.Prelude.{◌==◌, find, map, option_map, if◌then◌else◌, All, AllPairs}
 use Rattle.std.proofs.lemmas.Bool.{eqb-true}
 use Rattle.fsa_types.specs.Rows.{row_of, with_row_changed}
-use Rattle.object_tables.proofs.RowLemmas.{AreRising, AreRising-first, AreRising-rest, with_row_changed-above}
+use Rattle.fsa_types.proofs.RowLemmas.{AreRising, AreRising-first, AreRising-rest, with_row_changed-above}
 
 -- the row that has the number, changed by what its new value is or by what changes it
 pub with_row_changed-found : {R : Type 0} (change : R → R) (rows : List (ℕ × R)) (id : ℕ) (row : R) → AreRising rows → row_of rows id ≡ Some row

@@ -22,6 +22,10 @@ pub record IsHistory (script : Script) (history : List HistoryEntry) : Type 0 wh
   pub whole : HasAllCalls script history
   pub plainly : shows_no_memory (text script history) ≡ false → history ≡ plain script
 
+-- the text of the script's history was written
+abbrev pub WritesText : Script → Option (List ℕ) → Option (List ℕ) → Type 0
+WritesText script written written_now = (history : List HistoryEntry) × IsHistory script history × Appends written written_now (text script history)
+
 -- the source was read to its end; its bytes are a script; and the text of the script's history was written
 pub record IsRun (left left_now written written_now : Option (List ℕ)) (bytes : List ℕ) (script : Script) (history : List HistoryEntry) : Type 0 where
   pub read : ReadsWhole left left_now bytes

@@ -1,5 +1,5 @@
 -- How far a run has come: the calls that were made, those that are left, and the volume.
-use Rattle.std.specs.Prelude.{◌≡◌, ℕ, ◌+◌, List, [], ◌∷◌, ◌++◌, Option, Some, map, length}
+use Rattle.std.specs.Prelude.{◌≡◌, Result, Ok, Err, ℕ, ◌+◌, List, [], ◌∷◌, ◌++◌, Option, Some, map, length}
 use Rattle.std.specs.List.{enumerate_from}
 use Rattle.fsa_types.specs.declared.request.Call.{Call}
 use Rattle.fsa_model.specs.Setup.{Client, Script}
@@ -8,8 +8,10 @@ use Rattle.fsa_model.specs.Turn.{Turned, turn}
 use Rattle.fsa_model.specs.History.{HistoryEntry, Run, run}
 use Rattle.fsa_model.specs.Schedule.{AreNumbered, Scheduled, all_calls, leave_after, plain_entry}
 use Rattle.fsa_model.specs.Text.{shown_turns, turn_text}
-use Rattle.wire_io.specs.Sink.{Appends}
+use Rattle.wire_io.specs.Sink.{Appends, AppendsFront}
 use Rattle.fsa_top.specs.Try.{Goes, GivesUpTo}
+use Rattle.fsa_top.specs.declared.run.RunFault.{RunFault}
+use Rattle.fsa_top.specs.declared.run.RunFault.TheVariants.{Failed, NoMemory}
 
 -- the history in which these calls were made, and none found no memory
 abbrev pub turns_of : List Call → List HistoryEntry
@@ -40,3 +42,17 @@ pub record Turns (old new : Volume) (clients : List Client) (call : Call) (writt
   pub volume : new ≡ turned.volume
   pub goes : Goes old new
   pub wrote : Appends written written_now (turn_text clients call turned.out)
+
+-- a front of the lines of a turn of this call was written
+pub record TurnsInPart (old new : Volume) (clients : List Client) (call : Call) (written written_now : Option (List ℕ)) (turned : Turned) : Type 0 where
+  pub turns : turn old call [] ≡ Some turned
+  pub volume : new ≡ turned.volume
+  pub goes : Goes old new
+  pub wrote : AppendsFront written written_now (turn_text clients call turned.out)
+
+-- the turn was made and its lines were written; where the sink failed, a front of them was; where
+-- there was no memory, nothing was
+abbrev pub MakesTurn : Volume → Volume → List Client → Call → Option (List ℕ) → Option (List ℕ) → Result (Unit {0}) RunFault → Type 0
+MakesTurn old new clients call written written_now (Ok done) = (turned : Turned) × Turns old new clients call written written_now turned
+MakesTurn old new clients call written written_now (Err Failed) = (turned : Turned) × TurnsInPart old new clients call written written_now turned
+MakesTurn old new clients call written written_now (Err NoMemory) = written_now ≡ written

@@ -2,6 +2,7 @@
 #![tactic(auto)]
 
 mod machine;
+mod run;
 mod rows;
 mod store;
 mod text;

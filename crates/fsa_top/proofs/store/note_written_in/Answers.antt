@@ -15,4 +15,4 @@ pub returns-clause-rows : goal.returns-clause-rows
 unfolding written
 returns-clause-rows c =
     ap (λ (row : File). with_row_changed (λ _. row) c.args.files.now.rows c.args.file) c.note_written.ensures
-    ∙ with_row_changed-found (written c.args.clock) c.args.files.now.rows c.args.file c.in-Some.row.now c.as_slice.ensures.rising (sym c.in-Some.ensures.row)
+    ∙ with_row_changed-found (written c.args.clock) c.args.files.now.rows c.args.file c.in-Some.row.now c.as_slice.ensures.numbered.rising (sym c.in-Some.ensures.row)

@@ -14,7 +14,7 @@ returns-in_default-clause-ok c = sym (with_row_changed-missing (with_piece c.arg
 
 pub returns-clause-ok : goal.returns-clause-ok
 unfolding with_piece
-returns-clause-ok c = OnOk-changed _ (with_piece c.args.at c.args.piece.now) c.args.streams.now.rows c.args.stream c.in-Some.row.now _ c.as_slice.ensures.rising (sym c.in-Some.ensures.row) c.put.ensures.ok
+returns-clause-ok c = OnOk-changed _ (with_piece c.args.at c.args.piece.now) c.args.streams.now.rows c.args.stream c.in-Some.row.now _ c.as_slice.ensures.numbered.rising (sym c.in-Some.ensures.row) c.put.ensures.ok
 
 pub returns-clause-err : goal.returns-clause-err
-returns-clause-err c = OnErr-same _ c.args.streams.now.rows c.args.stream c.in-Some.row.now _ c.as_slice.ensures.rising (sym c.in-Some.ensures.row) c.put.ensures.err
+returns-clause-err c = OnErr-same _ c.args.streams.now.rows c.args.stream c.in-Some.row.now _ c.as_slice.ensures.numbered.rising (sym c.in-Some.ensures.row) c.put.ensures.err
