@@ -1,5 +1,5 @@
 -- Laws of a run: one more turn, and its end.
-use Rattle.std.proofs.Common.{◌≡◌, ℕ, ◌+◌, ◌*◌, ◌≤◌, List, [], ◌∷◌, ◌++◌, length, Option, Some, None, IsTrue, refl, ap, sym, subst, ◌∙◌, append_assoc, append-nil, arith, length-append}
+use Rattle.std.proofs.Common.{◌≡◌, ℕ, zero, suc, ◌+◌, ◌*◌, ◌≤◌, ◌<◌, get_or, drop-cons, add-one, Result, Ok, Err, OnErr, List, [], ◌∷◌, ◌++◌, length, Option, Some, None, IsTrue, refl, ap, sym, subst, ◌∙◌, append_assoc, append-nil, arith, length-append}
 use Rattle.std.specs.Prelude.{map, false, drop}
 use Rattle.std.specs.List.{list_all, enumerate_from}
 use Rattle.fsa_types.specs.declared.request.Call.{Call}
@@ -7,14 +7,18 @@ use Rattle.fsa_model.specs.Setup.{Client, Script}
 use Rattle.fsa_model.specs.Volume.{Volume, fresh}
 use Rattle.fsa_model.specs.Turn.{Turned, turn}
 use Rattle.fsa_model.specs.History.{HistoryEntry, Run, run, begun, with_turn}
-use Rattle.fsa_model.specs.Schedule.{AreNumbered, HasAllCalls, Scheduled, all_calls, is_made, next_in, plain, plain_entry}
+use Rattle.fsa_model.specs.Schedule.{AreNumbered, HasAllCalls, Scheduled, all_calls, is_made, leave_after, next_in, plain, plain_entry}
+use Rattle.fsa_types.specs.Request.{what_fits}
+use Rattle.fsa_model.proofs.ScriptLaws.{AllFit}
 use Rattle.fsa_model.specs.Text.{last_line, shown_turns, shows_no_memory, text, turn_text}
 use Rattle.fsa_model.proofs.HistoryLaws.{run-push, shown_turns-push}
 use Rattle.fsa_model.proofs.ScheduleLaws.{Scheduled-none, Scheduled-push, entries-make_all, entries-push, length-entries, next_in-first, plain-scheduled}
 use Rattle.wire_io.specs.Sink.{Appends, AppendsFront}
 use Rattle.wire_io.proofs.SinkLaws.{Appends-append, Appends-none, AppendsFront-append, AppendsFront-longer, AppendsFront-whole}
 use Rattle.fsa_top.specs.Runs.{IsHistory, WritesPart}
-use Rattle.fsa_top.specs.Stands.{Shows, Stands, Turns, turns_of}
+use Rattle.fsa_top.specs.Stands.{MakesTurn, Shows, Stands, Turns, TurnsInPart, leaves_from, turns_of}
+use Rattle.fsa_top.specs.declared.run.RunFault.{RunFault}
+use Rattle.fsa_top.specs.declared.run.RunFault.TheVariants.{Failed, NoMemory}
 use Rattle.fsa_top.specs.Try.{GivesUpTo, Goes}
 
 -- before the first turn
@@ -122,3 +126,56 @@ Shows-last_front script v old mid now shows last = (
   subst (λ (n : ℕ). AppendsFront old now (shown_turns script (turns_of (all_calls script)) ++ last_line n)) (sym (length-entries (all_calls script)))
   (AppendsFront-append old mid now _ _ (subst (λ (calls : List Call). Appends old mid (shown_turns script (turns_of calls))) (all_made script v old mid shows) shows.3) last),
 )
+
+-- a call of the script that fits
+pub AllFit-at : (calls : List Call) (i : ℕ) (call : Call) → AllFit calls → i < length calls → call ≡ get_or calls i call → IsTrue (what_fits call.what)
+AllFit-at [] i call fit within is = absurd (omega arith)
+AllFit-at (first ∷ more) zero call fit within is = subst (λ (c : Call). IsTrue (what_fits c.what)) (sym is) fit.0
+AllFit-at (first ∷ more) (suc i) call fit within is = AllFit-at more i call fit.1 (omega arith) is
+
+-- the calls from a place on
+drop-next : (calls : List Call) (i : ℕ) (call : Call) → i < length calls → call ≡ get_or calls i call → drop i calls ≡ call ∷ drop (i + 1) calls
+drop-next calls i call within is = drop-cons calls i call within ∙ ap (λ (c : Call). c ∷ drop (suc i) calls) (sym is) ∙ ap (λ n. call ∷ drop n calls) (sym (add-one i))
+
+-- the calls that are left, the next one in front
+pub Shows-next : (script : Script) (calls rest : List Call) (i : ℕ) (call : Call) (v : Volume) (old now : Option (List ℕ)) → Shows script (drop i calls ++ rest) v old now
+    → i < length calls → call ≡ get_or calls i call → Shows script (call ∷ drop (i + 1) calls ++ rest) v old now
+Shows-next script calls rest i call v old now shows within is =
+    subst (λ (left : List Call). Shows script left v old now) (ap (λ (left : List Call). left ++ rest) (drop-next calls i call within is)) shows
+
+-- the leavings from a place on
+leaves-next : (lines : List Call) (clients : List Client) (k i : ℕ) → i < length clients → leaves_from lines k (drop i clients) ≡ leave_after lines k ∷ leaves_from lines (k + 1) (drop (suc i) clients)
+leaves-next lines [] k i within = absurd (omega arith)
+leaves-next lines (client ∷ clients) k zero within = refl
+leaves-next lines (client ∷ clients) k (suc i) within = leaves-next lines clients k i (omega arith)
+
+-- the leavings that are left, the next one in front
+pub Shows-leave : (script : Script) (i : ℕ) (v : Volume) (old now : Option (List ℕ)) → Shows script (leaves_from script.lines i (drop i script.setup.clients)) v old now
+    → i < length script.setup.clients → Shows script (leave_after script.lines i ∷ leaves_from script.lines (i + 1) (drop (i + 1) script.setup.clients)) v old now
+Shows-leave script i v old now shows within =
+    subst (λ (left : List Call). Shows script left v old now)
+    (leaves-next script.lines script.setup.clients i i within ∙ ap (λ n. leave_after script.lines i ∷ leaves_from script.lines (i + 1) (drop n script.setup.clients)) (sym (add-one i))) shows
+
+-- a turn that wasn't made, or whose lines weren't written
+pub MakesTurn-part : (script : Script) (call : Call) (left : List Call) (v new : Volume) (old mid now : Option (List ℕ)) (fault : RunFault) → Shows script (call ∷ left) v old mid
+    → MakesTurn v new script.setup.clients call mid now (Err fault) → WritesPart script old now
+MakesTurn-part script call left v new old mid now Failed shows made =
+    Shows-front script call left v new old mid now made.0 shows made.1.turns made.1.volume made.1.goes made.1.wrote
+MakesTurn-part script call left v new old mid now NoMemory shows made =
+    subst (λ (o : Option (List ℕ)). WritesPart script old o) (sym made) (Shows-part script (call ∷ left) v old mid shows)
+
+pub OnErr-any : {T E : Type 0} (r : Result T E) (P : Type 0) → P → OnErr r P
+OnErr-any (Ok x) P p = tt
+OnErr-any (Err e) P p = p
+
+-- nothing was written
+pub WritesPart-none : (script : Script) (written : Option (List ℕ)) → WritesPart script written written
+WritesPart-none script written = ([], Scheduled-none script, AppendsFront-whole written written [] _ (Appends-none written))
+
+length-leaves : (lines : List Call) (k : ℕ) (clients : List Client) → length (leaves_from lines k clients) ≡ length clients
+length-leaves lines k [] = refl
+length-leaves lines k (client ∷ clients) = ap suc (length-leaves lines (k + 1) clients)
+
+-- the calls of a script are its lines and the leavings
+pub length-all_calls : (script : Script) → length (all_calls script) ≡ length script.lines + length script.setup.clients
+length-all_calls script = length-append script.lines (leaves_from script.lines 0 script.setup.clients) ∙ ap (λ n. length script.lines + n) (length-leaves script.lines 0 script.setup.clients)

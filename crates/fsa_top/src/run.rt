@@ -1,6 +1,6 @@
 //! The run of a script: each call in its turn, and the text of each turn to the sink.
 
-ghost use Rattle.std.specs.Prelude.{◌≡◌, ◌≤◌, ◌<◌, ◌+◌, ◌∷◌, ◌++◌, [], ℕ, List, length, map, drop, IfOk, OnOk, IsErrOf, IsTrue, OnErr};
+ghost use Rattle.std.specs.Prelude.{◌≡◌, ◌≤◌, ◌<◌, ◌+◌, ◌-◌, ◌^◌, ◌∷◌, ◌++◌, [], ℕ, List, length, map, drop, IfOk, OnOk, IsErrOf, IsTrue, OnErr};
 ghost use Rattle.fsa_types.specs.Request.{what_fits};
 ghost use Rattle.fsa_model.specs.Setup.{client_of};
 ghost use Rattle.fsa_model.specs.Schedule.{all_calls, calls_of, leave_after};
@@ -65,5 +65,55 @@ fn make_turn<K: Sink>(alloc: Global, store: &mut Store, clients: &ClientList, ca
     let mut lines = Vec::new(alloc);
     push_turn(&mut lines, clients, call, &out)?;
     put_all(sink, &lines)?;
+    Ok(())
+}
+
+// How many of these calls are this client's.
+fn calls_of(calls: &[Call], client: u32) -> u32
+    requires few { length calls.now < 2 ^ 32 - 1 }
+    ensures counts { result ≡ calls_of client calls.now }
+    ensures bound { result ≤ length calls.now }
+{
+    let mut count = 0;
+    for call in calls {
+        if call.client == client {
+            count += 1;
+        }
+    }
+    count
+}
+
+// The client's leaving, after its lines.
+fn leave_after(lines: &[Call], client: u32) -> Call
+    requires few { length lines.now < 2 ^ 32 - 1 }
+    ensures { result ≡ leave_after lines.now client }
+{
+    Call {
+        client,
+        number: calls_of(lines, client) + 1,
+        what: What::Leave,
+    }
+}
+
+// Makes the turns of the lines, and then those in which the clients leave.
+fn run_calls<K: Sink>(alloc: Global, store: &mut Store, script: &Script, sink: &mut K) -> Result<(), RunFault>
+    requires fit { AllFit (contents script.now).lines }
+    requires few { length (all_calls (contents script.now)) < 0xFFFFFFFF }
+    requires few_lines { length (contents script.now).lines < 0xFFFFFFFF }
+    requires shows { Shows (contents script.now) (all_calls (contents script.now)) store.old.content (K.written sink.old) (K.written sink.old) }
+    ensures ok { OnOk result (Shows (contents script.now) [] store.new.content (K.written sink.old) (K.written sink.new)) }
+    ensures part { OnErr result (WritesPart (contents script.now) (K.written sink.old) (K.written sink.new)) }
+    ensures later { K.faults sink.old ≤ K.faults sink.new }
+    ensures failed { IsErrOf result RunFault.Failed → Rose (K.faults sink.old) (K.faults sink.new) }
+{
+    let clients = script.clients();
+    let lines = script.lines().as_slice();
+    for call in lines {
+        make_turn(alloc, store, clients, call, sink)?;
+    }
+    for client in 0..clients.len() {
+        let call = leave_after(lines, client as u32);
+        make_turn(alloc, store, clients, &call, sink)?;
+    }
     Ok(())
 }
