@@ -3,7 +3,9 @@ use Rattle.std.proofs.Common.{◌≡◌, ℕ, zero, suc, ◌+◌, ◌*◌, ◌�
 use Rattle.std.specs.Prelude.{map, false, drop}
 use Rattle.std.specs.List.{list_all, enumerate_from}
 use Rattle.fsa_types.specs.declared.request.Call.{Call}
-use Rattle.fsa_model.specs.Setup.{Client, Script}
+use Rattle.std.proofs.lemmas.List.{length-map}
+use Rattle.fsa_types.specs.declared.setup.Client.{Client as GivenClient}
+use Rattle.fsa_model.specs.Setup.{Client, Script, client_of}
 use Rattle.fsa_model.specs.Volume.{Volume, fresh}
 use Rattle.fsa_model.specs.Turn.{Turned, turn}
 use Rattle.fsa_model.specs.History.{HistoryEntry, Run, run, begun, with_turn}
@@ -179,3 +181,17 @@ length-leaves lines k (client ∷ clients) = ap suc (length-leaves lines (k + 1)
 -- the calls of a script are its lines and the leavings
 pub length-all_calls : (script : Script) → length (all_calls script) ≡ length script.lines + length script.setup.clients
 length-all_calls script = length-append script.lines (leaves_from script.lines 0 script.setup.clients) ∙ ap (λ n. length script.lines + n) (length-leaves script.lines 0 script.setup.clients)
+
+-- nothing of some bytes was written
+pub AppendsFront-none : (written : Option (List ℕ)) (bytes : List ℕ) → AppendsFront written written bytes
+AppendsFront-none written bytes = AppendsFront-whole written written [] bytes (Appends-none written)
+
+-- the lines and the clients of a script, counted
+pub length-counted : (script : Script) (lines : List Call) (clients : List GivenClient) → lines ≡ script.lines → map client_of clients ≡ script.setup.clients
+    → length lines + length clients ≡ length (all_calls script)
+length-counted script lines clients same_lines same_clients =
+    let counted : length lines ≡ length script.lines = ap length same_lines in
+    let mapped : length (map client_of clients) ≡ length clients = length-map clients client_of in
+    let clients_counted : length (map client_of clients) ≡ length script.setup.clients = ap length same_clients in
+    let calls : length (all_calls script) ≡ length script.lines + length script.setup.clients = length-all_calls script in
+    omega arith

@@ -3,7 +3,8 @@
 ghost use Rattle.std.specs.Prelude.{◌≡◌, ◌≤◌, ◌<◌, ◌+◌, ◌-◌, ◌^◌, ◌∷◌, ◌++◌, [], ℕ, List, length, map, drop, IfOk, OnOk, IsErrOf, IsTrue, OnErr};
 ghost use Rattle.fsa_types.specs.Request.{what_fits};
 ghost use Rattle.fsa_model.specs.Setup.{client_of};
-ghost use Rattle.fsa_model.specs.Schedule.{all_calls, calls_of, leave_after};
+ghost use Rattle.fsa_model.specs.Schedule.{AreNumbered, all_calls, calls_of, leave_after};
+ghost use Rattle.fsa_model.specs.Volume.{fresh};
 ghost use Rattle.fsa_model.specs.Text.{last_line};
 ghost use Rattle.fsa_model.proofs.ScriptLaws.{AllFit};
 ghost use Rattle.wire_io.specs.Faults.{HasCause, Rose};
@@ -17,7 +18,7 @@ ghost use Rattle.fsa_top.specs.declared.run.RunFault.TheVariants.{Failed, NoMemo
 use crate::machine::turn;
 use crate::store::Store;
 use crate::text::{push_last, push_turn};
-use fsa_types::{Call, ClientList, What};
+use fsa_types::{Call, ClientList, TryCopy, What};
 use script_read::Script;
 use std::alloc::Global;
 use wire_io::{Sink, put_all};
@@ -116,4 +117,80 @@ fn run_calls<K: Sink>(alloc: Global, store: &mut Store, script: &Script, sink: &
         make_turn(alloc, store, clients, &call, sink)?;
     }
     Ok(())
+}
+
+// The most clients that a run has numbers for.
+const MOST_CLIENTS: usize = 0xFFFF_0000;
+
+// The volume with which a script begins.
+fn begin(alloc: Global, script: &Script) -> Result<Store, fsa_types::NoMemory>
+    ensures { IfOk result (λ store. store.content ≡ fresh (contents script.now).setup) }
+{
+    let table = script.table().copy(alloc)?;
+    let clients = script.clients().copy(alloc)?;
+    Store::new(alloc, table, clients)
+}
+
+// Writes the last line.
+fn write_last<K: Sink>(alloc: Global, turns: u32, sink: &mut K) -> Result<(), RunFault>
+    ensures ok { OnOk result (Appends (K.written sink.old) (K.written sink.new) (last_line turns)) }
+    ensures front { OnErr result (AppendsFront (K.written sink.old) (K.written sink.new) (last_line turns)) }
+    ensures failed { IsErrOf result RunFault.Failed → Rose (K.faults sink.old) (K.faults sink.new) }
+    ensures later { K.faults sink.old ≤ K.faults sink.new }
+{
+    let mut line = Vec::new(alloc);
+    push_last(&mut line, turns)?;
+    put_all(sink, &line)?;
+    Ok(())
+}
+
+// How many calls a script makes, the clients' leavings among them.
+fn turn_count(script: &Script) -> u32
+    requires few { length (all_calls (contents script.now)) < 0xFFFFFFFF }
+    ensures { result ≡ length (all_calls (contents script.now)) }
+{
+    (script.lines().len() + script.clients().len()) as u32
+}
+
+// Makes all calls of a script on this volume, and writes the text of the history.
+fn run_on<K: Sink>(alloc: Global, store: &mut Store, script: &Script, sink: &mut K) -> Result<(), RunFault>
+    requires fit { AllFit (contents script.now).lines }
+    requires few { length (all_calls (contents script.now)) < 0xFFFFFFFF }
+    requires few_lines { length (contents script.now).lines < 0xFFFFFFFF }
+    requires shows { Shows (contents script.now) (all_calls (contents script.now)) store.old.content (K.written sink.old) (K.written sink.old) }
+    ensures ok { OnOk result (WritesText (contents script.now) (K.written sink.old) (K.written sink.new)) }
+    ensures part { OnErr result (WritesPart (contents script.now) (K.written sink.old) (K.written sink.new)) }
+    ensures later { K.faults sink.old ≤ K.faults sink.new }
+    ensures failed { IsErrOf result RunFault.Failed → Rose (K.faults sink.old) (K.faults sink.new) }
+{
+    run_calls(alloc, store, script, sink)?;
+    write_last(alloc, turn_count(script), sink)?;
+    Ok(())
+}
+
+// Whether a script makes few enough calls for a run's numbers.
+fn is_short(script: &Script) -> bool
+    requires few { length (contents script.now).lines ≤ 64 }
+    ensures { IsTrue result → length (all_calls (contents script.now)) < 0xFFFFFFFF }
+{
+    script.clients().len() <= MOST_CLIENTS
+}
+
+/// Runs a script: makes all its calls on a new volume, and writes the text of the history.
+/// `Failed` where the sink failed, `NoMemory` where there was no memory; a prefix of the text of
+/// the history so far is written then.
+pub fn run_script<K: Sink>(alloc: Global, script: &Script, sink: &mut K) -> Result<(), RunFault>
+    requires fit { AllFit (contents script.now).lines }
+    requires numbered { AreNumbered [] (all_calls (contents script.now)) }
+    requires few { length (contents script.now).lines ≤ 64 }
+    ensures ok { OnOk result (WritesText (contents script.now) (K.written sink.old) (K.written sink.new)) }
+    ensures part { OnErr result (WritesPart (contents script.now) (K.written sink.old) (K.written sink.new)) }
+    ensures later { K.faults sink.old ≤ K.faults sink.new }
+    ensures failed { IsErrOf result RunFault.Failed → Rose (K.faults sink.old) (K.faults sink.new) }
+{
+    if !is_short(script) {
+        return Err(RunFault::NoMemory);
+    }
+    let mut store = begin(alloc, script)?;
+    run_on(alloc, &mut store, script, sink)
 }

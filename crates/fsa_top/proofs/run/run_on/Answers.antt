@@ -1,0 +1,30 @@
+use Rattle.std.proofs.Common.{List, ℕ, ap, subst}
+use Rattle.fsa_model.specs.Schedule.{all_calls}
+use Rattle.fsa_model.specs.Text.{last_line}
+use Rattle.script_read.specs.ScriptView.{contents}
+use Rattle.wire_io.specs.Sink.{Appends, AppendsFront}
+use Rattle.fsa_top.specs.Stands.{turns_of}
+use Rattle.fsa_top.specs.declared.run.RunFault.{RunFault}
+use Rattle.fsa_top.proofs.RunLaws.{IsHistory-whole, OnErr-any, Shows-last_front, Shows-whole}
+use Rattle.fsa_top.proofs.run.run_on.Goals as goal
+
+pub returns-in_err-write_last-clause-part : goal.returns-in_err-write_last-clause-part
+returns-in_err-write_last-clause-part g c =
+    let old = g.K.Sink.written c.args.sink.now in
+    let mid = g.K.Sink.written c.run_calls.new.sink in
+    let now = g.K.Sink.written c.write_last.new.sink in
+    OnErr-any {T = Unit {0}} {E = RunFault} c.from_residual-in_err-write_last.result _
+    (Shows-last_front (contents c.args.script.now) _ old mid now c.in_ok-run_calls.ensures.ok
+      (subst (λ (n : ℕ). AppendsFront mid now (last_line n)) c.turn_count.ensures c.in_err-write_last.ensures.front))
+
+pub returns-clause-ok : goal.returns-clause-ok
+returns-clause-ok g c =
+    let old = g.K.Sink.written c.args.sink.now in
+    let mid = g.K.Sink.written c.run_calls.new.sink in
+    let now = g.K.Sink.written c.write_last.new.sink in
+    (
+      turns_of (all_calls (contents c.args.script.now)),
+      IsHistory-whole (contents c.args.script.now) _ old mid c.in_ok-run_calls.ensures.ok,
+      Shows-whole (contents c.args.script.now) _ old mid now c.in_ok-run_calls.ensures.ok
+        (subst (λ (n : ℕ). Appends mid now (last_line n)) c.turn_count.ensures c.in_ok-write_last.ensures.ok),
+    )
