@@ -3,3 +3,4 @@ pub mod Seen
 pub mod Stands
 pub mod Store
 pub mod Try
+pub mod Words

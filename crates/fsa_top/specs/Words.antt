@@ -1,0 +1,23 @@
+-- The words that the program takes, and the lines that it writes in place of a text.
+use Rattle.std.specs.Prelude.{◌≡◌, ℕ, ◌≤◌, Bool, true, false, List, [], ◌∷◌, ◌++◌, Option, String, string_bytes, codes, nat_eq}
+use Rattle.std.specs.declared.alloc.Global.{Global}
+use Rattle.std.specs.Cmp.Lexicographic.{pointwise}
+use Rattle.wire_io.specs.Faults.{Rose}
+use Rattle.wire_io.specs.Sink.{Appends, AppendsFront}
+
+-- the one word `run`
+abbrev pub is_run : List (String Global) → Bool
+is_run [] = false
+is_run (word ∷ []) = pointwise nat_eq (string_bytes word) (codes "run")
+is_run (word ∷ second ∷ more) = false
+
+abbrev pub usage_line : List ℕ
+usage_line = codes "usage: fsa run / race / gen N\n"
+
+abbrev pub limit_bytes_line : List ℕ
+limit_bytes_line = codes "limit bytes\n"
+
+-- this line was written, or a prefix of it where the sink failed
+pub record Says (line : List ℕ) (written written_now : Option (List ℕ)) (faults faults_now : ℕ) : Type 0 where
+  pub front : AppendsFront written written_now line
+  pub whole : (Rose faults faults_now → ⊥) → Appends written written_now line

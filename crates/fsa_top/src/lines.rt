@@ -1,0 +1,65 @@
+//! The lines that stand in place of a text, and the words that the program takes.
+
+ghost use Rattle.std.specs.Prelude.{◌≡◌, ◌≤◌, ◌++◌, OnOk, OnErr, codes, decimal};
+ghost use Rattle.wire_io.specs.Faults.{HasCause, Rose};
+ghost use Rattle.wire_io.specs.Sink.{Appends, AppendsFront};
+ghost use Rattle.fsa_top.specs.Runs.{bad_line};
+ghost use Rattle.fsa_top.specs.Words.{Says, is_run, limit_bytes_line, usage_line};
+
+use itoa::Buffer;
+use wire_io::{Failed, Sink, put_all};
+
+/// Whether the words are the one list that the program takes.
+pub fn is_run(words: &[String]) -> bool
+    ensures { result ≡ is_run words.now }
+{
+    match words {
+        [word] => word.as_bytes() == b"run".as_slice(),
+        _ => false,
+    }
+}
+
+// Writes a line; a sink that fails has taken a prefix of it.
+fn say<K: Sink>(sink: &mut K, line: &[u8])
+    ensures says { Says line.now (K.written sink.old) (K.written sink.new) (K.faults sink.old) (K.faults sink.new) }
+    ensures later { K.faults sink.old ≤ K.faults sink.new }
+{
+    let _ = put_all(sink, line);
+}
+
+/// Writes how the program is used.
+pub fn say_usage<K: Sink>(sink: &mut K)
+    ensures says { Says usage_line (K.written sink.old) (K.written sink.new) (K.faults sink.old) (K.faults sink.new) }
+    ensures later { K.faults sink.old ≤ K.faults sink.new }
+{
+    say(sink, b"usage: fsa run / race / gen N\n");
+}
+
+/// Writes that the script has too many bytes.
+pub fn say_limit_bytes<K: Sink>(sink: &mut K)
+    ensures says { Says limit_bytes_line (K.written sink.old) (K.written sink.new) (K.faults sink.old) (K.faults sink.new) }
+    ensures later { K.faults sink.old ≤ K.faults sink.new }
+{
+    say(sink, b"limit bytes\n");
+}
+
+// Writes the line that names a faulty line, in three pieces.
+fn put_bad<K: Sink>(sink: &mut K, line: u32) -> Result<(), Failed>
+    ensures ok { OnOk result (Appends (K.written sink.old) (K.written sink.new) (bad_line line)) }
+    ensures front { OnErr result (AppendsFront (K.written sink.old) (K.written sink.new) (bad_line line)) }
+    ensures cause { HasCause (K.faults sink.old) (K.faults sink.new) result }
+{
+    let mut buffer = Buffer::new();
+    put_all(sink, b"bad line ")?;
+    put_all(sink, buffer.format(line).as_bytes())?;
+    put_all(sink, b"\n")?;
+    Ok(())
+}
+
+/// Writes which line is the least faulty one. It takes no memory.
+pub fn say_bad<K: Sink>(sink: &mut K, line: u32)
+    ensures says { Says (bad_line line) (K.written sink.old) (K.written sink.new) (K.faults sink.old) (K.faults sink.new) }
+    ensures later { K.faults sink.old ≤ K.faults sink.new }
+{
+    let _ = put_bad(sink, line);
+}
