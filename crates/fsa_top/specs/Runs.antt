@@ -59,3 +59,11 @@ RanInPart left left_now written written_now = (bytes : List ℕ) × ReadsWhole l
 abbrev pub FoundBad : Option (List ℕ) → Option (List ℕ) → Option (List ℕ) → Option (List ℕ) → ℕ → ℕ → Type 0
 FoundBad left left_now written written_now faults faults_now =
     (bytes : List ℕ) × ReadsWhole left left_now bytes × NamesFault bytes written written_now faults faults_now
+
+-- the bytes are a script
+abbrev pub IsScript : List ℕ → Type 0
+IsScript bytes = (script : Script) × (script_of bytes ≡ Ok script)
+
+-- the bytes are no script
+abbrev pub IsNoScript : List ℕ → Type 0
+IsNoScript bytes = (fault : Fault) × (script_of bytes ≡ Err fault)

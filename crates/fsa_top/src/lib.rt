@@ -9,3 +9,5 @@ mod store;
 mod text;
 mod top;
 mod verbs;
+
+pub use top::{MOST_SCRIPT_BYTES, fsa_main, fsa_single};
