@@ -7,7 +7,7 @@ use std::cmp::Ordering;
 use std::test::Fail;
 
 // Paths, and beside each the text of its components and its stream part, or of its fault.
-const PATHS: [(&str, &str); 46] = [
+const PATHS: [(&str, &str); 49] = [
     ("\\", ""),
     ("", "Empty"),
     ("a", "Empty"),
@@ -38,6 +38,9 @@ const PATHS: [(&str, &str); 46] = [
     ("\\a\u{0}b", "BadUnit(2)"),
     ("\\ab\\c?d\\\\", "BadUnit(5)"),
     ("\\a?:", "BadUnit(2)"),
+    ("\\:", "Empty"),
+    ("\\::", "Empty"),
+    ("\\::$DATA", "Empty"),
     ("\\:s", "Empty"),
     ("\\a:", "BadStream"),
     ("\\a::", "BadStream"),
