@@ -4,6 +4,7 @@ pub mod Numbers
 pub mod Requests
 pub mod Script
 pub mod Setup
+pub mod Soundness
 pub mod Spelling
 pub mod Volume
 pub mod Words
