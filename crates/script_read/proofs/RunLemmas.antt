@@ -1,7 +1,7 @@
 -- Lines that are taken one after the other, and how a script may go on behind them.
-use Rattle.std.proofs.Common.{◌≡◌, ◌∙◌, sym, ap, subst, ℕ, zero, suc, ◌+◌, ◌-◌, ◌<◌, ◌≤◌, Bool, true, false, ◌&&◌, not, List, [], ◌∷◌, ◌++◌, Option, Some, None, length, take, inl, inr, ◌⊎◌, refl, arith, if◌then◌else◌}
+use Rattle.std.proofs.Common.{◌≡◌, ◌∙◌, sym, ap, subst, ℕ, zero, suc, ◌+◌, ◌<◌, ◌≤◌, Bool, true, false, ◌&&◌, not, List, [], ◌∷◌, ◌++◌, Option, Some, None, length, take, inl, inr, ◌⊎◌, refl, arith, if◌then◌else◌}
 use Rattle.std.specs.Prelude.{Result, Ok, Err, ◌==◌, nat_le, nat_lt, is_some}
-use Rattle.std.specs.List.{slice_split, onto_first, AllByRecursion, flat_map}
+use Rattle.std.specs.List.{onto_first, AllByRecursion}
 use Rattle.std.proofs.lemmas.List.{append_assoc, length-append}
 use Rattle.std.proofs.lemmas.List.Elements.{All-from_recursion}
 use Rattle.std.proofs.lemmas.List.Splits.{slice_split_at, slice_split-cons_yes, slice_split-cons_no}
@@ -12,8 +12,8 @@ use Rattle.fsa_model.specs.Fault.{Kind, BadCut, BadSyntax, BadClient, Fault, ◌
 use Rattle.fsa_model.specs.Setup.{Script}
 use Rattle.fsa_model.specs.Words.{field_at, number_at}
 use Rattle.fsa_model.specs.Lines.{Line, Version, DefaultTable, PairTable, Pair, ClientLine, RequestLine, line_of, client_at, sids_at}
-use Rattle.fsa_model.specs.Script.{Stage, Nothing, Begun, Pairs, Table, Clients, Requests, Reading, nothing_read, takes_version, takes_table, takes_pairs, takes_clients, takes_requests, place_of, with_stage, with_table, with_client, with_call, take_line, take_client, take_request, take_request_of, take_call, line_after, end_after, at_line, lines_from, pieces, script_of}
-use Rattle.fsa_model.specs.Soundness.{ended_lines, BeginScript, IsLeast}
+use Rattle.fsa_model.specs.Script.{Stage, Nothing, Begun, Pairs, Table, Clients, Requests, Reading, takes_version, takes_table, takes_pairs, takes_clients, takes_requests, place_of, with_stage, with_table, with_client, with_call, take_line, take_client, take_request, take_request_of, take_call, line_after, end_after, at_line, lines_from, pieces}
+use Rattle.fsa_model.specs.Soundness.{ended_lines}
 use Rattle.script_read.proofs.SpellLemmas.{both}
 
 -- ---- answers
@@ -50,8 +50,8 @@ pub NoFeeds-pieces : (bytes : List ℕ) → NoFeeds (pieces bytes)
 NoFeeds-pieces [] = (tt, tt)
 NoFeeds-pieces (byte ∷ bytes) =
     elim (cases_Bool (is_feed byte)) [
-      inl feed ↦ rw (slice_split-cons_yes is_feed byte bytes feed) (tt, NoFeeds-pieces bytes)
-    | inr other ↦ rw (slice_split-cons_no is_feed byte bytes other) (NoFeeds-onto byte (pieces bytes) other (NoFeeds-pieces bytes))
+      | inl feed ↦ rw (slice_split-cons_yes is_feed byte bytes feed) (tt, NoFeeds-pieces bytes)
+      | inr other ↦ rw (slice_split-cons_no is_feed byte bytes other) (NoFeeds-onto byte (pieces bytes) other (NoFeeds-pieces bytes))
     ]
 
 pub NoFeeds-take : (count : ℕ) (lines : List (List ℕ)) → NoFeeds lines → NoFeeds (take count lines)
@@ -63,7 +63,7 @@ pub pieces-ended : (lines : List (List ℕ)) (more : List ℕ) → NoFeeds lines
 pieces-ended [] more none = refl
 pieces-ended (line ∷ lines) more none =
     let regrouped : ((line ++ 10 ∷ []) ++ ended_lines lines) ++ more ≡ line ++ 10 ∷ (ended_lines lines ++ more) =
-        append_assoc (line ++ 10 ∷ []) (ended_lines lines) more ∙ append_assoc line (10 ∷ []) (ended_lines lines ++ more) in
+    append_assoc (line ++ 10 ∷ []) (ended_lines lines) more ∙ append_assoc line (10 ∷ []) (ended_lines lines ++ more) in
     ap pieces regrouped
     ∙ slice_split_at is_feed line 10 (ended_lines lines ++ more) (All-from_recursion (λ byte. is_feed byte ≡ false) line none.0) refl
     ∙ ap (λ rest. line ∷ rest) (pieces-ended lines more none.1)
@@ -87,17 +87,17 @@ lines_from-run line reading reached (text ∷ lines) rest some runs =
     let step = bind_ok (line_after reading text) (λ next. run next lines) reached runs in
     let at : line + 1 + length lines ≡ line + length (text ∷ lines) = omega arith in
     rw (not_last lines rest some, step.1)
-      (lines_from-run (line + 1) step.0 reached lines rest some step.2 ∙ ap (λ n. lines_from n reached rest) at)
+    (lines_from-run (line + 1) step.0 reached lines rest some step.2 ∙ ap (λ n. lines_from n reached rest) at)
 
 pub lines_from-stop : (line : ℕ) (reading : Reading) (kind : Kind) (lines rest : List (List ℕ)) → 1 ≤ length rest → run reading lines ≡ Err kind
     → (fault : Fault) × (lines_from line reading (lines ++ rest) ≡ Err fault)
 lines_from-stop line reading kind [] rest some runs = absurd (let e : Ok reading ≡ Err kind = runs in cc)
 lines_from-stop line reading kind (text ∷ lines) rest some runs =
     elim (result_cases (line_after reading text)) [
-      inl taken ↦
-        let later = lines_from-stop (line + 1) taken.0 kind lines rest some (rw taken.1 at runs) in
-        (later.0, rw (not_last lines rest some, taken.1) later.1)
-    | inr bad ↦ (record { line = line; kind = bad.0 }, rw (not_last lines rest some, bad.1) refl)
+      | inl taken ↦
+          let later = lines_from-stop (line + 1) taken.0 kind lines rest some (rw taken.1 at runs) in
+          (later.0, rw (not_last lines rest some, taken.1) later.1)
+      | inr bad ↦ (record { line = line; kind = bad.0 }, rw (not_last lines rest some, bad.1) refl)
     ]
 
 -- ---- where the fault is
@@ -165,8 +165,8 @@ fault_at line reading (text ∷ second ∷ lines) fault some fails =
     let more : (length (second ∷ lines) == 0) ≡ false = ne_eqb _ 0 (λ e. absurd (omega arith)) in
     let split : at_line line (line_after reading text) (λ next. lines_from (line + 1) next (second ∷ lines)) ≡ Err fault = rw more at fails in
     elim (goes_on_or_not line (line_after reading text) (λ next. lines_from (line + 1) next (second ∷ lines)) fault split) [
-      inl taken ↦ fault_later line reading taken.0 text (second ∷ lines) fault taken.1 (fault_at (line + 1) taken.0 (second ∷ lines) fault (omega arith) taken.2)
-    | inr bad ↦ fault_here line reading text (second ∷ lines) fault bad.0 bad.1 bad.2
+      | inl taken ↦ fault_later line reading taken.0 text (second ∷ lines) fault taken.1 (fault_at (line + 1) taken.0 (second ∷ lines) fault (omega arith) taken.2)
+      | inr bad ↦ fault_here line reading text (second ∷ lines) fault bad.0 bad.1 bad.2
     ]
 
 -- ---- before the first client line there are no clients
@@ -221,8 +221,8 @@ request_stage : (reading next : Reading) (name : List ℕ) (number : ℕ) (what 
 unfolding take_request
 request_stage reading next name number what e =
     request_of-stage reading next (place_of reading.script.setup.clients name) number what
-      (unless_refused (not (takes_requests reading.stage && nat_lt (length reading.script.lines) 64)) BadSyntax
-        (take_request_of reading (place_of reading.script.setup.clients name) number what) next e)
+    (unless_refused (not (takes_requests reading.stage && nat_lt (length reading.script.lines) 64)) BadSyntax
+    (take_request_of reading (place_of reading.script.setup.clients name) number what) next e)
 
 client_stage : (reading next : Reading) (name sids : List ℕ) → take_client reading name sids ≡ Ok next → takes_requests next.stage ≡ true
 unfolding take_client
@@ -308,10 +308,12 @@ with_client_line line reading takes none =
 pub goes_on : (stage : Stage) (script : Script) → HasNoneYet (record { stage = stage; script = script })
     → (more : List ℕ) × (whole : Script) × ((line : ℕ) → lines_from line (record { stage = stage; script = script }) (pieces more) ≡ Ok whole) × ((takes_version stage ≡ true) → (length more == 0) ≡ false)
 goes_on Nothing script none =
-    let begun : Reading = record { stage = Begun; script = script } in
-    (version_line ++ 10 ∷ (client_line ++ 10 ∷ []), (with_client begun (97 ∷ []) (0 ∷ [])).script,
+    let begun : Reading = record { stage = Begun; script = script } in (
+      version_line ++ 10 ∷ (client_line ++ 10 ∷ []),
+      (with_client begun (97 ∷ []) (0 ∷ [])).script,
       (λ line. rw (takes_version_line (record { stage = Nothing; script = script }) refl) (with_client_line (line + 1) begun refl (none refl))),
-      (λ e. refl))
+      (λ e. refl),
+    )
 goes_on Clients script none = ([], script, (λ line. ends line (record { stage = Clients; script = script }) refl), (λ e. absurd (let never : false ≡ true = e in cc)))
 goes_on Requests script none = ([], script, (λ line. ends line (record { stage = Requests; script = script }) refl), (λ e. absurd (let never : false ≡ true = e in cc)))
 goes_on Begun script none =
