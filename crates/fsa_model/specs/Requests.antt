@@ -1,7 +1,7 @@
 -- The requests that a script can make: for each verb the fields of its line. A verb, or a form of
 -- one, that stands here is built; any other is no line.
-use Rattle.std.specs.Prelude.{ℕ, ◌==◌, ◌&&◌, ◌||◌, not, nat_le, Bool, List, Some, Result, Ok, Err, if◌then◌else◌, codes}
-use Rattle.std.specs.List.{list_any}
+use Rattle.std.specs.Prelude.{ℕ, ◌==◌, ◌&&◌, ◌||◌, not, nat_le, Bool, false, List, [], ◌∷◌, length, Option, Some, None, Result, Ok, Err, if◌then◌else◌, codes}
+use Rattle.std.specs.List.{list_all}
 use Rattle.fsa_types.specs.declared.request.What.{What}
 use Rattle.fsa_types.specs.declared.request.What.TheVariants.{Ask, Tick}
 use Rattle.fsa_types.specs.declared.request.Request.TheVariants.{Create, Close, Read, Write}
@@ -34,13 +34,26 @@ disposition_at bytes = do
   disposition ← disposition_of word.0
   Ok (disposition, word.1)
 
--- which creates are built: wanted 0x1 or 0x3, any share, options 0x0, 0x1 or 0x40, no attributes, key 0, and a path without `:`
+-- a letter, a digit, `_` or `.`
+abbrev pub is_plain_unit : ℕ → Bool
+is_plain_unit unit = nat_le 97 unit && nat_le unit 122 || nat_le 65 unit && nat_le unit 90 || nat_le 48 unit && nat_le unit 57 || unit == 95 || unit == 46
+
+-- `.` or `..`
+abbrev pub is_dots : List ℕ → Bool
+is_dots name = nat_le (length name) 2 && list_all (λ unit. unit == 46) name
+
+-- `\` and a name of 1 to 32 of these units: a file in the root
+abbrev pub is_root_path : List ℕ → Bool
+is_root_path [] = false
+is_root_path (first ∷ name) = first == 92 && nat_le 1 (length name) && nat_le (length name) 32 && list_all is_plain_unit name && not (is_dots name)
+
+-- which creates are built: of a file in the root, wanted 0x1 or 0x3, any share, no options, no attributes, key 0
 abbrev pub is_built_create : List ℕ → ℕ → ℕ → ℕ → ℕ → ℕ → Bool
 is_built_create path wanted share options attributes key =
-    not (list_any (λ unit. unit == 58) path)
+    is_root_path path
     && (wanted == 1 || wanted == 3)
     && nat_le share 7
-    && (options == 0 || options == 1 || options == 64)
+    && options == 0
     && attributes == 0
     && key == 0
 

@@ -1,7 +1,6 @@
 -- The volume: a record of plain lists, after the abstract data model of [MS-FSA], 'Per Volume' to
 -- 'Per Oplock'.
-use Rattle.std.specs.Prelude.{ℕ, Bool, true, List, [], ◌∷◌, Option, None, ◌==◌, find, filter, map, option_map, if◌then◌else◌, not}
-use Rattle.std.specs.List.{list_any}
+use Rattle.std.specs.Prelude.{ℕ, Bool, true, List, [], ◌∷◌, Option, None}
 use Rattle.fsa_types.specs.declared.request.Ace.{Ace}
 use Rattle.fsa_types.specs.declared.request.Call.{Call}
 use Rattle.fsa_types.specs.declared.request.Level.{Level}
@@ -9,7 +8,8 @@ use Rattle.fsa_types.specs.declared.reply.EndOf.{EndOf}
 use Rattle.fsa_types.specs.declared.reply.Blocker.{Blocker}
 use Rattle.fsa_model.specs.Setup.{Client, Setup}
 
--- a file or a directory ('Per File'); times are ticks of the clock; no access list grants all
+-- a file or a directory ('Per File'); times are ticks of the clock; without an
+-- access list all is granted; a reparse point is its tag and its bytes
 pub record File : Type 0 where
   pub directory : Bool
   pub attributes : ℕ
@@ -62,8 +62,8 @@ pub record Lock : Type 0 where
   pub count : ℕ
   pub exclusive : Bool
 
--- an oplock ('Per Oplock') of a handle: its level; while a break is in progress the level that was
--- told and the number of the break; and the turn of the call that is pending as granted, if there is one
+-- an oplock ('Per Oplock') of a handle: its level; while a break is in progress its target,
+-- which is the most that may stay, and the number of the break, 0 without one; and the turn of the call that is pending as granted, if there is one
 pub record Oplock : Type 0 where
   pub handle : ℕ
   pub key : ℕ
@@ -145,16 +145,3 @@ fresh setup = record {
   last_lock = 0;
   last_break = 0;
 }
-
--- the row under this number; whether there is one; all rows but it; all rows with this change to it
-abbrev pub row_of : {R : Type 0} → List (ℕ × R) → ℕ → Option R
-row_of rows id = option_map (λ entry. entry.1) (find (λ entry. entry.0 == id) rows)
-
-abbrev pub lives : {R : Type 0} → List (ℕ × R) → ℕ → Bool
-lives rows id = list_any (λ entry. entry.0 == id) rows
-
-abbrev pub without_row : {R : Type 0} → List (ℕ × R) → ℕ → List (ℕ × R)
-without_row rows id = filter (λ entry. not (entry.0 == id)) rows
-
-abbrev pub with_row_changed : {R : Type 0} → (R → R) → List (ℕ × R) → ℕ → List (ℕ × R)
-with_row_changed change rows id = map (λ entry. if entry.0 == id then (entry.0, change entry.1) else entry) rows

@@ -1,1 +1,2 @@
 mod CaseTableLemmas
+pub mod RowLemmas

@@ -1,5 +1,5 @@
 -- The case table: what each unit is upcased to, and names compared by their upcased units, after
--- [MS-FSA] 'Algorithm for Determining if a FileName Is in an Expression' and its upcase table.
+-- [MS-FSA] 'Algorithm for Determining if a FileName Is in an Expression'.
 use Rattle.std.specs.Prelude.{ℕ, Bool, ◌≡◌, List, [], ◌∷◌, Option, Some, map, find, take, ◌==◌, ◌||◌, nat_eq}
 use Rattle.std.specs.List.{list_any, enumerate_from}
 use Rattle.std.specs.Option.{option_map, option_map_or}

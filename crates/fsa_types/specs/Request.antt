@@ -32,6 +32,6 @@ request_fits (GetReparse handle room) = nat_le room 16384
 request_fits (Oplock handle level) = level_fits level
 request_fits _ = true
 
-abbrev pub call_fits : What → Bool
-call_fits (Ask request) = request_fits request
-call_fits _ = true
+abbrev pub what_fits : What → Bool
+what_fits (Ask request) = request_fits request
+what_fits _ = true

@@ -139,7 +139,7 @@ bitflag_items! {
         const DIRECTORY_FILE = 0x1;
         /// Open or make a file.
         const NON_DIRECTORY_FILE = 0x40;
-        /// Answer at once where a break of read caching has to be waited for.
+        /// Answer OPLOCK_BREAK_IN_PROGRESS at once where a break of write caching has to be waited for.
         const COMPLETE_IF_OPLOCKED = 0x100;
         /// Mark for deletion when the handle closes.
         const DELETE_ON_CLOSE = 0x1000;

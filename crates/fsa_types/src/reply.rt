@@ -238,7 +238,7 @@ impl Body {
     }
 }
 
-/// How a call stands that hasn't ended in its own turn.
+/// How a call stands that its own try didn't end.
 #[derive(Clone, Copy, Debug, PartialEq, Eq)]
 pub enum Interim {
     /// It waits for breaks of oplocks.
@@ -300,7 +300,8 @@ pub type EndList = BoundedList<EndOf>;
 pub struct Out {
     /// The answer to the turn's own call.
     pub answer: Answer,
-    /// The other calls that ended in this turn, in the order in which they ended.
+    /// The calls that ended in this turn besides that answer, in the order in which they ended; the
+    /// turn's own call too, where it was pending and ended in the settlement.
     pub ended: EndList,
     /// The calls that were taken up in this turn and ended for want of memory, in order.
     pub starved: CallIdList,

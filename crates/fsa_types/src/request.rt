@@ -1,7 +1,7 @@
 //! What a client may ask: the requests, and the calls that carry them.
 
 ghost use Rattle.std.specs.Prelude.{◌≡◌};
-ghost use Rattle.fsa_types.specs.Request.{request_fits, call_fits};
+ghost use Rattle.fsa_types.specs.Request.{request_fits, what_fits};
 
 use crate::copy::TryCopy;
 use crate::list::BoundedList;
@@ -114,7 +114,7 @@ pub enum InfoKind {
 pub enum Request {
     /// 'Server Requests an Open of a File'.
     Create {
-        /// The path, at most 32,760 units.
+        /// The path; a longer one than 32,760 units is `OBJECT_NAME_INVALID`.
         path: Name,
         /// The rights that are wanted, as an `AccessMask`.
         wanted: u32,
@@ -185,7 +185,9 @@ pub enum Request {
         handle: u32,
         /// The layout of the entries.
         kind: DirKind,
-        /// The expression that names have to match, at most 255 units; empty keeps the earlier one.
+        /// The expression that names have to match, at most 255 units, else `OBJECT_NAME_INVALID`.
+        /// It counts at the handle's first query and at a restart; empty keeps the earlier one, or
+        /// is `*`.
         expression: Name,
         /// Whether to begin anew.
         restart: bool,
@@ -216,7 +218,9 @@ pub enum Request {
     SetBasic {
         /// The handle.
         handle: u32,
-        /// The time of creation, in ticks.
+        /// The time of creation, in ticks. Of each of the four times, 2^64 - 1 and 2^64 - 2 leave
+        /// it, and other values from 2^63 on are refused; 0 leaves it too, but sets the time of the
+        /// last change to the clock.
         creation: u64,
         /// The time of the last access, in ticks.
         access: u64,
@@ -289,7 +293,7 @@ pub enum Request {
         /// The tag that has to be there.
         tag: u32,
     },
-    /// 'Server Requests Setting of Quota Information'.
+    /// 'Server Requests Setting Quota Information'.
     SetQuota {
         /// Whose limit is set.
         sid: u32,
@@ -312,7 +316,7 @@ pub enum Request {
     Ack {
         /// The handle.
         handle: u32,
-        /// The level that the holder keeps.
+        /// The level asked for; what stays is what it has in common with the break's target.
         level: Level,
     },
     /// 'Server Requests Canceling an Operation'.
@@ -364,7 +368,8 @@ pub enum What {
     Ask(Request),
     /// The clock goes on by so many ticks.
     Tick(u32),
-    /// It ends when the client's call of this number has ended.
+    /// It ends `SUCCESS` when the client's call of this number has ended, `STALLED` where every
+    /// client waits, and `INVALID_PARAMETER` where there is no such earlier call.
     WaitFor(u32),
     /// The client leaves: its handles close. Every later call of it is `INVALID_HANDLE`.
     Leave,
@@ -373,7 +378,7 @@ pub enum What {
 impl What {
     /// Whether its request fits; all else does. It takes no memory.
     pub fn fits(&self) -> bool
-        ensures { result ≡ call_fits self.now }
+        ensures { result ≡ what_fits self.now }
     {
         match self {
             What::Ask(request) => request.fits(),

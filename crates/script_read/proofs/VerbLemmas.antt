@@ -8,7 +8,7 @@ use Rattle.fsa_types.specs.declared.request.What.TheVariants.{Ask, Tick}
 use Rattle.fsa_types.specs.declared.request.Request.TheVariants.{Create, Close, Read, Write}
 use Rattle.fsa_types.specs.declared.request.Disposition.{Disposition}
 use Rattle.fsa_types.specs.declared.request.Disposition.TheVariants.{OpenExisting, CreateNew}
-use Rattle.fsa_model.specs.Requests.{most_id, most_place, is_built_create, disposition_at, create_at, close_at, read_at, write_at, tick_at, what_of}
+use Rattle.fsa_model.specs.Requests.{most_id, most_place, is_built_create, disposition_at, create_at, close_at, read_at, write_at, tick_at, what_of, is_root_path}
 use Rattle.fsa_model.specs.Spelling.{number_text, mask_text, string_text, disposition_text, is_built_disposition, verb_text, fields_text, is_built}
 use Rattle.script_read.proofs.SpellLemmas.{both, at_most, NoSpace, EndsWord, field_at-again, number_at-again, number_at-last, mask_at-again}
 use Rattle.script_read.proofs.TextLemmas.{text_at-again, string_at-last}
@@ -38,9 +38,9 @@ create_at-again path wanted share disposition options attributes key built =
     let inner = both units (is_built_disposition disposition) outer.0 in
     let k = both _ (key == 0) outer.1 in
     let a = both _ (attributes == 0) k.0 in
-    let o = both _ (options == 0 || options == 1 || options == 64) a.0 in
+    let o = both _ (options == 0) a.0 in
     let s = both _ (nat_le share 7) o.0 in
-    let w = both (not (list_any (λ unit. unit == 58) path)) (wanted == 1 || wanted == 3) s.0 in
+    let w = both (is_root_path path) (wanted == 1 || wanted == 3) s.0 in
     let wanted_small : wanted ≤ 4294967295 = grind (arith, nat_tests, w.1) in
     let share_small : share ≤ 4294967295 = grind (arith, nat_tests, s.1) in
     let options_small : options ≤ 4294967295 = grind (arith, nat_tests, o.1) in

@@ -1,8 +1,8 @@
 //! The requests: a verb, and a function that reads its fields.
 
 ghost use Rattle.std.specs.Prelude.{◌≡◌, ◌==◌};
-ghost use Rattle.std.specs.List.{list_any};
-ghost use Rattle.fsa_model.specs.Requests.{is_built_create, disposition_of, disposition_at, create_at, close_at, read_at, write_at, tick_at, what_of};
+ghost use Rattle.std.specs.List.{list_all};
+ghost use Rattle.fsa_model.specs.Requests.{is_built_create, is_dots, is_plain_unit, is_root_path, disposition_of, disposition_at, create_at, close_at, read_at, write_at, tick_at, what_of};
 ghost use Rattle.script_read.specs.Gives.{Gives};
 
 use crate::fault::{LineFault, SYNTAX};
@@ -37,11 +37,37 @@ fn disposition_at(bytes: &[u8]) -> Result<(Disposition, &[u8]), LineFault>
     Ok((disposition, rest))
 }
 
-// Whether a path names a stream.
-fn has_stream_part(units: &[u16]) -> bool
-    ensures { result ≡ list_any (λ unit. unit == 58) units.now }
+// A letter, a digit, `_` or `.`.
+fn is_plain_unit(unit: u16) -> bool
+    ensures { result ≡ is_plain_unit unit }
 {
-    units.iter().any(|unit| *unit == 58)
+    97 <= unit && unit <= 122 || 65 <= unit && unit <= 90 || 48 <= unit && unit <= 57 || unit == 95 || unit == 46
+}
+
+// `.` or `..`.
+fn is_dots(name: &[u16]) -> bool
+    ensures { result ≡ is_dots name.now }
+{
+    name.len() <= 2 && name.iter().all(|unit| *unit == 46)
+}
+
+// Whether all units are plain.
+fn are_plain(name: &[u16]) -> bool
+    ensures { result ≡ list_all is_plain_unit name.now }
+{
+    name.iter().all(|unit| is_plain_unit(*unit))
+}
+
+// Whether a path is that of a file in the root.
+fn is_root_path(units: &[u16]) -> bool
+    ensures { result ≡ is_root_path units.now }
+{
+    match units {
+        [] => false,
+        [first, name @ ..] => {
+            *first == 92 && 1 <= name.len() && name.len() <= 32 && are_plain(name) && !is_dots(name)
+        }
+    }
 }
 
 // Whether a create of this form is built.
@@ -55,10 +81,10 @@ fn is_built_create(
 ) -> bool
     ensures { result ≡ is_built_create path.now wanted share options attributes key }
 {
-    !has_stream_part(path.units())
+    is_root_path(path.units())
         && (wanted == 1 || wanted == 3)
         && share <= 7
-        && (options == 0 || options == 1 || options == 64)
+        && options == 0
         && attributes == 0
         && key == 0
 }

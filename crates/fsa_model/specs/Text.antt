@@ -1,0 +1,158 @@
+-- The printed text of a history.
+use Rattle.std.specs.Prelude.{ℕ, ◌+◌, ◌/◌, ◌%◌, nat_lt, List, [], ◌∷◌, ◌++◌, length, slice_get, codes, decimal, if◌then◌else◌, false, nat_eq, ◌==◌, Bool}
+use Rattle.std.specs.List.{slice_split, list_any}
+use Rattle.std.specs.Cmp.Lexicographic.{pointwise}
+use Rattle.std.specs.Option.{option_map_or}
+use Rattle.fsa_types.specs.Status.{status_name}
+use Rattle.fsa_types.specs.declared.request.Request.{Request}
+use Rattle.fsa_types.specs.declared.request.Request.TheVariants.{Create, Close, Read, Write, Flush, Lock, Unlock, QueryDir, Notify, QueryInfo, SetBasic, SetEnd, SetDisposition, Rename, Link, SetSecurity, SetReparse, GetReparse, DeleteReparse, SetQuota, QueryQuota, Oplock, Ack, Cancel}
+use Rattle.fsa_types.specs.declared.request.What.{What}
+use Rattle.fsa_types.specs.declared.request.What.TheVariants.{Ask, Tick, WaitFor, Leave}
+use Rattle.fsa_types.specs.declared.request.Level.{Level}
+use Rattle.fsa_types.specs.declared.request.Level.TheVariants.{Nil, R, RH, RW, RWH}
+use Rattle.fsa_types.specs.declared.request.Call.{Call}
+use Rattle.fsa_types.specs.declared.reply.Action.{Action}
+use Rattle.fsa_types.specs.declared.reply.Action.TheVariants.{Superseded, Opened as WasOpened, Created, Overwritten}
+use Rattle.fsa_types.specs.declared.reply.Body.{Body}
+use Rattle.fsa_types.specs.declared.reply.Body.TheVariants.{Nothing, Opened, Got, Count}
+use Rattle.fsa_types.specs.declared.reply.Reply.{Reply}
+use Rattle.fsa_types.specs.declared.reply.Interim.{Interim}
+use Rattle.fsa_types.specs.declared.reply.Interim.TheVariants.{Held, LockWait, Watch, Granted, Waiting}
+use Rattle.fsa_types.specs.declared.reply.Answer.{Answer}
+use Rattle.fsa_types.specs.declared.reply.Answer.TheVariants.{Ended, Pending}
+use Rattle.fsa_types.specs.declared.reply.EndOf.{EndOf}
+use Rattle.fsa_model.specs.Setup.{Client, Script}
+use Rattle.fsa_model.specs.Outcome.{TurnOut}
+use Rattle.fsa_model.specs.History.{HistoryEntry, run}
+
+-- the word of a request
+abbrev pub request_word : Request → List ℕ
+request_word (Create path wanted share disposition options attributes key) = codes "create"
+request_word (Close handle) = codes "close"
+request_word (Read handle at count) = codes "read"
+request_word (Write handle at bytes) = codes "write"
+request_word (Flush handle) = codes "flush"
+request_word (Lock handle at count exclusive wait) = codes "lock"
+request_word (Unlock handle at count) = codes "unlock"
+request_word (QueryDir handle kind expression restart room) = codes "querydir"
+request_word (Notify handle filter tree room) = codes "notify"
+request_word (QueryInfo handle kind room) = codes "query"
+request_word (SetBasic handle creation access write change attributes) = codes "setbasic"
+request_word (SetEnd handle length) = codes "setend"
+request_word (SetDisposition handle delete) = codes "setdelete"
+request_word (Rename handle path replace) = codes "rename"
+request_word (Link handle path replace) = codes "link"
+request_word (SetSecurity handle owner dacl) = codes "setsecurity"
+request_word (SetReparse handle bytes) = codes "setreparse"
+request_word (GetReparse handle room) = codes "getreparse"
+request_word (DeleteReparse handle tag) = codes "deletereparse"
+request_word (SetQuota sid limit) = codes "setquota"
+request_word (QueryQuota sid) = codes "queryquota"
+request_word (Oplock handle level) = codes "oplock"
+request_word (Ack handle level) = codes "ack"
+request_word (Cancel number) = codes "cancel"
+
+-- the word of a call
+abbrev pub verb : What → List ℕ
+verb (Ask request) = request_word request
+verb (Tick ticks) = codes "tick"
+verb (WaitFor number) = codes "wait"
+verb Leave = codes "leave"
+
+-- `none`, `r`, `rh`, `rw` or `rwh`
+abbrev pub level_word : Level → List ℕ
+level_word Nil = codes "none"
+level_word R = codes "r"
+level_word RH = codes "rh"
+level_word RW = codes "rw"
+level_word RWH = codes "rwh"
+
+-- a digit below 16, in lower case
+abbrev pub digit : ℕ → ℕ
+digit n = if nat_lt n 10 then 48 + n else 87 + n
+
+-- bytes as `x` and two hexadecimal digits each
+abbrev pub hex_digits : List ℕ → List ℕ
+hex_digits [] = []
+hex_digits (byte ∷ more) = digit (byte / 16) ∷ digit (byte % 16) ∷ hex_digits more
+
+abbrev pub bytes_text : List ℕ → List ℕ
+bytes_text bytes = 120 ∷ hex_digits bytes
+
+abbrev pub action_text : Action → List ℕ
+action_text Superseded = codes " superseded"
+action_text WasOpened = codes " opened"
+action_text Created = codes " created"
+action_text Overwritten = codes " overwritten"
+
+-- what follows the status; the bodies that no call gives yet print nothing
+abbrev pub body_text : Body → List ℕ
+body_text Nothing = []
+body_text (Opened action) = action_text action
+body_text (Got bytes) = 32 ∷ bytes_text bytes
+body_text (Count count) = 32 ∷ decimal count
+body_text _ = []
+
+abbrev pub interim_text : Interim → List ℕ
+interim_text Held = codes " held"
+interim_text LockWait = codes " lock"
+interim_text Watch = codes " watch"
+interim_text (Granted level) = codes " granted " ++ level_word level
+interim_text Waiting = codes " waiting"
+
+-- the client's name
+abbrev pub name_of : List Client → ℕ → List ℕ
+name_of clients client = option_map_or (λ c. c.name) (slice_get clients client) []
+
+-- a call's client and number
+abbrev pub call_text : List Client → ℕ → ℕ → List ℕ
+call_text clients client number = name_of clients client ++ 32 ∷ decimal number
+
+-- the line of a call that has ended
+abbrev pub end_line : List Client → ℕ → ℕ → Reply → List ℕ
+end_line clients client number reply =
+    call_text clients client number ++ 32 ∷ status_name reply.status ++ body_text reply.body ++ 10 ∷ []
+
+-- the line that answers the turn's own call
+abbrev pub answer_line : List Client → Call → Answer → List ℕ
+answer_line clients call (Ended reply) = end_line clients call.client call.number reply
+answer_line clients call (Pending interim) = call_text clients call.client call.number ++ codes " PENDING" ++ interim_text interim ++ 10 ∷ []
+
+-- the lines of the calls that ended besides
+abbrev pub ended_lines : List Client → List EndOf → List ℕ
+ended_lines clients [] = []
+ended_lines clients (end ∷ more) = end_line clients end.client end.number end.reply ++ ended_lines clients more
+
+-- the lines of one turn
+abbrev pub turn_text : List Client → Call → TurnOut → List ℕ
+turn_text clients call out =
+    codes "> " ++ call_text clients call.client call.number ++ 32 ∷ verb call.what ++ 10 ∷ []
+    ++ answer_line clients call out.answer
+    ++ ended_lines clients out.ended
+
+-- the lines of these turns, each with what it gave out
+abbrev pub turns_text : List Client → List HistoryEntry → List TurnOut → List ℕ
+turns_text clients [] outs = []
+turns_text clients (entry ∷ more) [] = []
+turns_text clients (entry ∷ more) (out ∷ outs) = turn_text clients entry.call out ++ turns_text clients more outs
+
+-- the last line: the number of turns
+abbrev pub last_line : ℕ → List ℕ
+last_line turns = codes "end " ++ decimal turns ++ 10 ∷ []
+
+-- the lines of the history's turns
+abbrev pub shown_turns : Script → List HistoryEntry → List ℕ
+shown_turns script history = option_map_or (λ r. turns_text script.setup.clients history r.outs) (run script.setup history) []
+
+-- the whole text of the history
+abbrev pub text : Script → List HistoryEntry → List ℕ
+text script history = shown_turns script history ++ last_line (length history)
+
+-- the third word of a line is NO_MEMORY: a call ended for want of memory
+abbrev pub line_shows_no_memory : List ℕ → Bool
+line_shows_no_memory line =
+    option_map_or (λ word. pointwise nat_eq word (codes "NO_MEMORY")) (slice_get (slice_split (λ byte. byte == 32) line) 2) false
+
+-- some line of a text shows NO_MEMORY
+abbrev pub shows_no_memory : List ℕ → Bool
+shows_no_memory bytes = list_any line_shows_no_memory (slice_split (λ byte. byte == 10) bytes)

@@ -1,0 +1,9 @@
+use Rattle.std.proofs.Common.{◌≡◌, ◌++◌, drop, map}
+use Rattle.fsa_model.specs.Setup.{client_of}
+use Rattle.fsa_model.specs.Text.{ended_lines}
+use Rattle.fsa_top.proofs.text.push_ended.Given as goal
+
+abbrev pub invariant-loop-end : goal.invariant-loop-end
+invariant-loop-end l =
+    l.line.items ++ ended_lines (map client_of l.clients.items) (drop l.end-index l.ended)
+    ≡ l.fn.line.items ++ ended_lines (map client_of l.clients.items) l.ended

@@ -1,0 +1,3 @@
+pub mod Lends
+pub mod Series
+pub mod Table

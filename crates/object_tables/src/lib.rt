@@ -1,0 +1,20 @@
+//! Tables of rows under numbers that rise and are never given twice, and lists in order, both with
+//! spare room that contracts see: room is taken first, and what is put in then takes no memory.
+//!
+//! A caller reserves room, which may be refused, and then adds:
+//!
+//! ```text
+//! table.reserve(1)?;
+//! let id = table.add(row);            // Ok, since there is room
+//! let row = table.get(id);            // Some, until `remove(id)`
+//! ```
+//!
+//! It asks of its caller that fewer than 2^32 numbers were given. Adding takes constant time;
+//! looking up, changing and removing take time linear in the rows.
+#![tactic(auto)]
+
+mod series;
+mod table;
+
+pub use series::Series;
+pub use table::Table;

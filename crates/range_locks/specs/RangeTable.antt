@@ -1,0 +1,28 @@
+-- The byte-range locks of one stream in order, beside the room for more of them.
+use Rattle.std.specs.Prelude.{ℕ, Bool, List}
+use Rattle.fsa_types.specs.Ranges.{Lock, read_conflicts, write_conflicts, shared_conflicts, exclusive_conflicts}
+use Rattle.fsa_types.specs.declared.reply.Blocker.{Blocker}
+use Rattle.fsa_types.specs.declared.reply.Blocker.TheVariants.{Lock as LockOf}
+use Rattle.range_locks.specs.declared.range.Range.{Range}
+use Rattle.range_locks.specs.declared.range.Want.{Want}
+use Rattle.range_locks.specs.declared.range.Want.TheVariants.{Read, Write, Shared, Exclusive}
+
+-- the ranges in order of insertion, and how many more can be put in without taking memory
+pub record Ranges : Type 0 where
+  pub ranges : List Range
+  pub room : ℕ
+
+-- a range that is held, without its number
+abbrev pub lock_of : Range → Lock
+lock_of range = record { handle = range.handle; at = range.at; count = range.count; exclusive = range.exclusive }
+
+-- a range that is held conflicts with what is wanted
+abbrev pub conflicts : Want → ℕ → ℕ → ℕ → Range → Bool
+conflicts Read handle at count range = read_conflicts handle at count (lock_of range)
+conflicts Write handle at count range = write_conflicts handle at count (lock_of range)
+conflicts Shared handle at count range = shared_conflicts handle at count (lock_of range)
+conflicts Exclusive handle at count range = exclusive_conflicts handle at count (lock_of range)
+
+-- what a call waits for that this range blocks
+abbrev pub lock_blocker : Range → Blocker
+lock_blocker range = LockOf range.id

@@ -1,0 +1,163 @@
+//! The table of the ranges that are held.
+
+ghost use Rattle.std.specs.Prelude.{◌≡◌, ◌==◌, ◌≤◌, ◌+◌, ◌++◌, ◌∷◌, [], length, map, find, filter, count_by, position, option_map, IfOk, IsOk, OnOk, OnErr};
+ghost use Rattle.fsa_types.specs.Ranges.{is_exactly, without_first};
+ghost use Rattle.fsa_types.specs.BoundedList.{full};
+ghost use Rattle.range_locks.specs.RangeTable.{conflicts, lock_of, lock_blocker};
+
+use crate::range::{Range, Want};
+use fsa_types::{Blocker, BlockerList, NoMemory};
+use std::alloc::Global;
+use std::marker::Model;
+
+/// The ranges of one stream that are held, in order of insertion.
+#[derive(Debug, Drop)]
+pub struct RangeTable {
+    ranges: Vec<Range>,
+}
+
+impl Model for RangeTable {
+    ghost use Rattle.range_locks.specs.RangeTable.{Ranges};
+    ghost use Rattle.std.specs.Prelude.{◌-◌};
+    ghost use Rattle.std.specs.Vec.{vec_capacity, vec_len};
+
+    ghost Value = { Ranges };
+
+    ghost view = { λ t. record { ranges = t.ranges.items; room = vec_capacity t.ranges - vec_len t.ranges } };
+}
+
+impl RangeTable {
+    /// A table without ranges. It takes no memory.
+    pub fn new(alloc: Global) -> RangeTable
+        ensures { result.ranges ≡ [] }
+    {
+        RangeTable {
+            ranges: Vec::new(alloc),
+        }
+    }
+
+    /// How many ranges are held.
+    pub fn len(&self) -> usize
+        ensures { result ≡ length self.now.ranges }
+    {
+        self.ranges.len()
+    }
+
+    /// Whether no range is held.
+    pub fn is_empty(&self) -> bool
+        ensures { result ≡ (length self.now.ranges == 0) }
+    {
+        self.ranges.is_empty()
+    }
+
+    /// The number of the first range that conflicts with what this handle wants; `None` exactly
+    /// where there is none.
+    pub fn conflict(&self, want: Want, handle: u64, at: u64, count: u64) -> Option<u64>
+        ensures { result ≡ option_map (λ range. range.id) (find (conflicts want handle at count) self.now.ranges) }
+    {
+        self.ranges
+            .iter()
+            .find(|range| range.conflicts(want, handle, at, count))
+            .map(|range| range.id)
+    }
+
+    /// The numbers of all ranges that conflict with what this handle wants, in order. `NoMemory`
+    /// where there is none for the list, or where it would have 2^32 items.
+    pub fn blockers(
+        &self,
+        alloc: Global,
+        want: Want,
+        handle: u64,
+        at: u64,
+        count: u64,
+    ) -> Result<BlockerList, NoMemory>
+        ensures { IfOk result (λ list. list ≡ full (map lock_blocker (filter (conflicts want handle at count) self.now.ranges))) }
+    {
+        let found = self.count_of_conflicts(want, handle, at, count);
+        let Ok(room) = u32::try_from(found) else {
+            return Err(NoMemory);
+        };
+        let mut list = BlockerList::with_room(alloc, room)?;
+        for range in &self.ranges {
+            if range.conflicts(want, handle, at, count) {
+                list.push(Blocker::Lock(range.id));
+            }
+        }
+        Ok(list)
+    }
+
+    // How many ranges conflict with what this handle wants.
+    fn count_of_conflicts(&self, want: Want, handle: u64, at: u64, count: u64) -> usize
+        ensures { result ≡ count_by (conflicts want handle at count) self.now.ranges }
+    {
+        self.ranges
+            .iter()
+            .filter(|range| range.conflicts(want, handle, at, count))
+            .count()
+    }
+
+    /// Takes room for `n` ranges beside those that are held. `NoMemory` where there is none.
+    pub fn reserve(&mut self, n: usize) -> Result<(), NoMemory>
+        ensures ranges { self.new.ranges ≡ self.old.ranges }
+        ensures room { OnOk result (n ≤ self.new.room) }
+        ensures kept { self.old.room ≤ self.new.room }
+    {
+        self.ranges.reserve(n)?;
+        Ok(())
+    }
+
+    /// Puts a range at the end. It takes memory only where there is no spare room. Nothing has
+    /// changed after `NoMemory`.
+    pub fn insert(&mut self, range: Range) -> Result<(), NoMemory>
+        ensures ok { OnOk result (self.new.ranges ≡ self.old.ranges ++ range ∷ []) }
+        ensures err { OnErr result (self.new.ranges ≡ self.old.ranges) }
+        ensures succeeds { 1 ≤ self.old.room → IsOk result }
+        ensures left { self.old.room ≤ self.new.room + 1 }
+    {
+        self.ranges.push(range)?;
+        Ok(())
+    }
+
+    /// Takes the first range of this handle with exactly this place and count out, and gives its
+    /// number; `None` exactly where there is none. It takes no memory, and leaves the spare room
+    /// as it was or larger.
+    pub fn remove(&mut self, handle: u64, at: u64, count: u64) -> Option<u64>
+        ensures id { result ≡ option_map (λ range. range.id) (find (λ range. is_exactly handle at count (lock_of range)) self.old.ranges) }
+        ensures ranges { self.new.ranges ≡ without_first (λ range. is_exactly handle at count (lock_of range)) self.old.ranges }
+        ensures room { self.old.room ≤ self.new.room }
+    {
+        match place_of_range(&self.ranges, handle, at, count) {
+            None => None,
+            Some(place) => Some(self.ranges.remove(place).id),
+        }
+    }
+
+    /// Takes the first range of this handle out, and gives its number; `None` exactly where it
+    /// has none. It takes no memory, and leaves the spare room as it was or larger.
+    pub fn remove_any_of(&mut self, handle: u64) -> Option<u64>
+        ensures id { result ≡ option_map (λ range. range.id) (find (λ range. range.handle == handle) self.old.ranges) }
+        ensures ranges { self.new.ranges ≡ without_first (λ range. range.handle == handle) self.old.ranges }
+        ensures room { self.old.room ≤ self.new.room }
+    {
+        match place_of_handle(&self.ranges, handle) {
+            None => None,
+            Some(place) => Some(self.ranges.remove(place).id),
+        }
+    }
+}
+
+// The place of the first range of this handle with exactly this place and count.
+fn place_of_range(ranges: &[Range], handle: u64, at: u64, count: u64) -> Option<usize>
+    ensures { result ≡ position (λ range. is_exactly handle at count (lock_of range)) ranges.now }
+{
+    ranges
+        .iter()
+        .position(|range| range.is_exactly(handle, at, count))
+}
+
+// The place of the first range of this handle.
+fn place_of_handle(ranges: &[Range], handle: u64) -> Option<usize>
+    ensures { result ≡ position (λ range. range.handle == handle) ranges.now }
+{
+    ranges.iter().position(|range| range.handle == handle)
+}

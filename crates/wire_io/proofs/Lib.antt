@@ -1,0 +1,4 @@
+pub mod FaultLaws
+pub mod MemoryLaws
+pub mod SinkLaws
+pub mod SourceLaws

@@ -1,0 +1,36 @@
+-- What a sink over bytes in memory has, and what one call makes of it. No public standard speaks of this.
+use Rattle.std.specs.Prelude.{ℕ, ◌-◌, ◌==◌, nat_lt, nat_le, Bool, ◌&&◌, ◌||◌, min, List, [], ◌++◌, length, take}
+use Rattle.std.specs.List.{list_any}
+use Rattle.wire_io.specs.Faults.{one_more}
+
+pub record SinkState : Type 0 where
+  pub written : List ℕ  -- the bytes that were written
+  pub room : ℕ  -- how many bytes may be written in all
+  pub piece : ℕ  -- how many bytes a call takes at most
+  pub failing : List ℕ  -- the numbers of the calls that fail
+  pub calls : ℕ  -- how many calls were made
+  pub faults : ℕ  -- how many of them failed
+
+-- a new sink: nothing was written and no call was made
+abbrev pub begun : ℕ → ℕ → List ℕ → SinkState
+begun room piece failing = record { written = []; room = room; piece = piece; failing = failing; calls = 0; faults = 0 }
+
+-- the room is full
+abbrev pub is_full : SinkState → Bool
+is_full sink = nat_le sink.room (length sink.written)
+
+-- the next call, of a piece of this length, is listed, or has bytes for a room that is full
+abbrev pub fails_next : SinkState → ℕ → Bool
+fails_next sink count = list_any (λ number. number == one_more sink.calls) sink.failing || (nat_lt 0 count && is_full sink)
+
+-- how many bytes a call that doesn't fail takes of a piece of this length
+abbrev pub count_taken : SinkState → ℕ → ℕ
+count_taken sink count = min (min count sink.piece) (sink.room - length sink.written)
+
+-- the first n bytes of the piece were written
+abbrev pub after_put : SinkState → List ℕ → ℕ → SinkState
+after_put sink piece n = record sink { written = sink.written ++ take n piece; calls = one_more sink.calls }
+
+-- the call failed
+abbrev pub after_fault : SinkState → SinkState
+after_fault sink = record sink { calls = one_more sink.calls; faults = one_more sink.faults }

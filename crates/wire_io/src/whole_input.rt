@@ -1,0 +1,90 @@
+//! All of a source's bytes, up to a limit.
+ghost use Rattle.std.specs.Prelude.{◌≡◌, ◌≤◌, ◌<◌, ◌+◌, length, vec_len, IfOk, IsErrOf};
+ghost use Rattle.wire_io.specs.Faults.{Rose};
+ghost use Rattle.wire_io.specs.Source.{ReadsWhole, HasMoreThan, HasReadAtMost};
+ghost use Rattle.wire_io.specs.declared.whole_input.ReadFault.TheVariants.{Failed, NoMemory};
+
+use super::faults::Failed;
+use super::sources::Source;
+use std::alloc::{AllocError, Global};
+
+/// Why the bytes of a source aren't all there.
+#[derive(Clone, Copy, Debug, PartialEq, Eq)]
+pub enum ReadFault {
+    /// A take failed.
+    Failed,
+    /// The source has more bytes than the limit.
+    TooMany,
+    /// There was no memory for the bytes.
+    NoMemory,
+}
+
+impl From<Failed> for ReadFault {
+    ghost from_gives = { λ _ fault. fault ≡ Failed };
+
+    fn from(_error: Failed) -> ReadFault {
+        ReadFault::Failed
+    }
+}
+
+impl From<AllocError> for ReadFault {
+    ghost from_gives = { λ _ fault. fault ≡ NoMemory };
+
+    fn from(_error: AllocError) -> ReadFault {
+        ReadFault::NoMemory
+    }
+}
+
+/// The most bytes that one take asks for.
+const PIECE: usize = 65536;
+
+/// Reads a source to its end, in at most `limit + 1` takes: each gives a byte at least, or is the
+/// last. A source of more than `limit` bytes is `TooMany`, and `limit + 1` of them were read.
+pub fn read_all<S: Source>(
+    alloc: Global,
+    source: &mut S,
+    limit: usize,
+) -> Result<Vec<u8>, ReadFault>
+    ensures whole { IfOk result (λ bytes. ReadsWhole (S.left source.old) (S.left source.new) bytes.items) }
+    ensures few { IfOk result (λ bytes. vec_len bytes ≤ limit) }
+    ensures failed { IsErrOf result ReadFault.Failed → Rose (S.faults source.old) (S.faults source.new) }
+    ensures too_many { IsErrOf result ReadFault.TooMany → HasMoreThan limit (S.left source.old) }
+
+    // At every exit, also after a failure:
+    ensures read { HasReadAtMost (limit + 1) (S.left source.old) (S.left source.new) }
+    ensures later { S.faults source.old ≤ S.faults source.new }
+{
+    let mut buffer = vec![in alloc; 0u8; PIECE]?;
+    read_pieces(alloc, source, limit, &mut buffer)
+}
+
+/// Reads a source to its end by this buffer.
+fn read_pieces<S: Source>(
+    alloc: Global,
+    source: &mut S,
+    limit: usize,
+    buffer: &mut [u8],
+) -> Result<Vec<u8>, ReadFault>
+    requires { 0 < length buffer.old }
+    ensures whole { IfOk result (λ bytes. ReadsWhole (S.left source.old) (S.left source.new) bytes.items) }
+    ensures few { IfOk result (λ bytes. vec_len bytes ≤ limit) }
+    ensures failed { IsErrOf result ReadFault.Failed → Rose (S.faults source.old) (S.faults source.new) }
+    ensures too_many { IsErrOf result ReadFault.TooMany → HasMoreThan limit (S.left source.old) }
+    ensures read { HasReadAtMost (limit + 1) (S.left source.old) (S.left source.new) }
+    ensures later { S.faults source.old ≤ S.faults source.new }
+{
+    let mut bytes = Vec::new(alloc);
+    'takes: for _take in 0..=limit {
+        let left = limit - bytes.len();
+        let wanted = left.min(buffer.len() - 1) + 1;
+        let count = source.take(&mut buffer[..wanted])?;
+        if count == 0 {
+            return Ok(bytes);
+        }
+        if count > left {
+            return Err(ReadFault::TooMany);
+        }
+        bytes.extend_from_slice(&buffer[..count])?;
+    }
+    unreachable!()
+}
