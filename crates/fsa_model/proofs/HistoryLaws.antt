@@ -14,8 +14,9 @@ pub steps-push : {S E : Type 0} (step : S → E → Option S) (s : S) (items : L
 steps-push step s [] item = elim (step s item) as (λ o. option_and_then (λ after. Some after) o ≡ o) [ None ↦ refl | Some after ↦ refl ]
 steps-push {S} {E} step s (first ∷ more) item =
     elim (step s first) as (λ o. option_and_then (λ after. steps step after (more ++ item ∷ [])) o ≡ option_and_then (λ after. step after item) (option_and_then (λ after. steps step after more) o)) [
-      None ↦ refl
-      | Some after ↦ steps-push step after more item ]
+      | None ↦ refl
+      | Some after ↦ steps-push step after more item
+    ]
 
 -- a number that each step raises by one has risen by the number of items
 pub steps-count : {S E : Type 0} (step : S → E → Option S) (count : S → ℕ) (s : S) (items : List E) (after : S)
@@ -24,16 +25,18 @@ pub steps-count : {S E : Type 0} (step : S → E → Option S) (count : S → �
 steps-count step count s [] after rises e = let same : s ≡ after = cc in let counts : count s ≡ count after = ap count same in omega arith
 steps-count {S} {E} step count s (first ∷ more) after rises e =
     elim (step s first) as (λ o. step s first ≡ o → option_and_then (λ one. steps step one more) o ≡ Some after → count after ≡ count s + suc (length more)) [
-      None ↦ λ is left. cc
-      | Some one ↦ λ is left. let rest : count after ≡ count one + length more = steps-count step count one more after rises left in let here : count one ≡ count s + 1 = rises s first one is in omega arith ]
+      | None ↦ λ is left. cc
+      | Some one ↦ λ is left. let rest : count after ≡ count one + length more = steps-count step count one more after rises left in let here : count one ≡ count s + 1 = rises s first one is in omega arith
+    ]
     refl e
 
 -- a turn gives out one thing
 pub turn_on-gives : (before : Run) (entry : HistoryEntry) (after : Run) → turn_on before entry ≡ Some after → length after.outs ≡ length before.outs + 1
 turn_on-gives before entry after e =
     elim (turn before.volume entry.call entry.starved) as (λ o. option_map (with_turn before) o ≡ Some after → length after.outs ≡ length before.outs + 1) [
-      None ↦ λ is. cc
-      | Some turned ↦ λ is. let same : with_turn before turned ≡ after = cc in let outs : length (with_turn before turned).outs ≡ length after.outs = ap (λ (r : Run). length r.outs) same in let long : length (before.outs ++ turned.out ∷ []) ≡ length before.outs + 1 = length-append before.outs (turned.out ∷ []) in omega arith ]
+      | None ↦ λ is. cc
+      | Some turned ↦ λ is. let same : with_turn before turned ≡ after = cc in let outs : length (with_turn before turned).outs ≡ length after.outs = ap (λ (r : Run). length r.outs) same in let long : length (before.outs ++ turned.out ∷ []) ≡ length before.outs + 1 = length-append before.outs (turned.out ∷ []) in omega arith
+    ]
     e
 
 -- as many things are given out as there are turns

@@ -103,8 +103,9 @@ last_or_before [] last (suc k) item e = absurd (cc)
 last_or_before (first ∷ items) last zero item e = inl (e, refl)
 last_or_before {X} (first ∷ items) last (suc k) item e =
     elim (last_or_before items last k item e) [
-      inl h ↦ inl (h.0, ap (λ (rest : List X). first ∷ rest) h.1)
-      | inr h ↦ inr (h.0, ap (λ (rest : List X). first ∷ rest) h.1) ]
+      | inl h ↦ inl (h.0, ap (λ (rest : List X). first ∷ rest) h.1)
+      | inr h ↦ inr (h.0, ap (λ (rest : List X). first ∷ rest) h.1)
+    ]
 
 -- the history with the next call's turn at its end is scheduled too
 pub Scheduled-push : (script : Script) (history : List HistoryEntry) (entry : HistoryEntry) (before : Run) (turned : Turned) → Scheduled script history → run script.setup history ≡ Some before
@@ -112,9 +113,10 @@ pub Scheduled-push : (script : Script) (history : List HistoryEntry) (entry : Hi
 Scheduled-push script history entry before turned scheduled runs is_next turns = record {
   runs = rw (run-push script.setup history entry before turned runs turns) refl;
   in_order = λ k item at. elim (last_or_before history entry k item at) [
-    inl h ↦ rw h.1 (scheduled.in_order k item h.0)
-    | inr h ↦ rw (h.1, h.0) (ap (option_and_then (λ (r : Run). next_in (all_calls script) history r.volume)) runs ∙ is_next) ];
-  }
+    | inl h ↦ rw h.1 (scheduled.in_order k item h.0)
+    | inr h ↦ rw (h.1, h.0) (ap (option_and_then (λ (r : Run). next_in (all_calls script) history r.volume)) runs ∙ is_next)
+  ];
+}
 
 pub Scheduled-none : (script : Script) → Scheduled script []
 Scheduled-none script = record { runs = refl; in_order = λ k item at. absurd (cc) }

@@ -35,10 +35,11 @@ calls_of-other client calls call below =
 leaves-numbered : (lines before : List Call) (place : ℕ) (clients : List Client) → ((client : ℕ) → place ≤ client → calls_of client before ≡ calls_of client lines)
     → AreNumbered before (map (λ numbered. leave_after lines numbered.0) (enumerate_from place clients))
 leaves-numbered lines before place [] counts = tt
-leaves-numbered lines before place (one ∷ clients) counts =
-    (ap (λ count. count + 1) (sym (counts place (omega arith))),
-     leaves-numbered lines (before ++ leave_after lines place ∷ []) (place + 1) clients
-       (λ client past. calls_of-other client before (leave_after lines place) (omega arith) ∙ counts client (omega arith)))
+leaves-numbered lines before place (one ∷ clients) counts = (
+  ap (λ count. count + 1) (sym (counts place (omega arith))),
+  leaves-numbered lines (before ++ leave_after lines place ∷ []) (place + 1) clients
+      (λ client past. calls_of-other client before (leave_after lines place) (omega arith) ∙ counts client (omega arith)),
+)
 
 -- the clients' leaves have the next numbers
 pub all_calls-numbered : (script : Script) → AreNumbered [] script.lines → AreNumbered [] (all_calls script)
@@ -108,8 +109,8 @@ number_at-bound : (most : ℕ) (bytes : List ℕ) → Gives (IsAtMost most) (num
 unfolding number_at
 number_at-bound most bytes =
     then-gives (IsAtMost most) (field_at bytes) _ (λ word.
-      bind-gives (λ (number : ℕ). number ≤ most) (IsAtMost most) (read_as (number_of 10 most word.0)) _ (read_as-gives (λ (number : ℕ). number ≤ most) (number_of 10 most word.0) (number_of-bound 10 most word.0)) (λ number below.
-        ok-gives (IsAtMost most) (number, word.1) below))
+    bind-gives (λ (number : ℕ). number ≤ most) (IsAtMost most) (read_as (number_of 10 most word.0)) _ (read_as-gives (λ (number : ℕ). number ≤ most) (number_of 10 most word.0) (number_of-bound 10 most word.0)) (λ number below.
+    ok-gives (IsAtMost most) (number, word.1) below))
 
 -- a list has at most half as many items as this
 abbrev IsHalf : ℕ → List ℕ → Type 0
@@ -149,7 +150,7 @@ string_at-short : (bytes : List ℕ) → Gives IsShortAt (string_at bytes)
 unfolding string_at
 string_at-short bytes =
     then-gives IsShortAt (field_at bytes) _ (λ word.
-      bind-gives IsShort IsShortAt (string_of word.0) _ (string_of-short word.0) (λ string short. ok-gives IsShortAt (string, word.1) short))
+    bind-gives IsShort IsShortAt (string_of word.0) _ (string_of-short word.0) (λ string short. ok-gives IsShortAt (string, word.1) short))
 
 -- ---- the requests are within the bounds
 
@@ -166,8 +167,8 @@ create_at-fits bytes =
     then-gives Fits (disposition_at share.1) _ (λ disposition. then-gives Fits (mask_at disposition.1) _ (λ options. then-gives Fits (mask_at options.1) _ (λ attributes.
     then-gives Fits (number_at 0 attributes.1) _ (λ key.
     bind-gives Fits Fits (only_if (is_built_create path.0 wanted.0 share.0 options.0 attributes.0 key.0) (Ask (Create path.0 wanted.0 share.0 disposition.0 options.0 attributes.0 key.0))) _
-      (only_if-gives Fits (is_built_create path.0 wanted.0 share.0 options.0 attributes.0 key.0) (Ask (Create path.0 wanted.0 share.0 disposition.0 options.0 attributes.0 key.0)) refl)
-      (λ what fits. ended-gives Fits key.1 what fits))))))))
+    (only_if-gives Fits (is_built_create path.0 wanted.0 share.0 options.0 attributes.0 key.0) (Ask (Create path.0 wanted.0 share.0 disposition.0 options.0 attributes.0 key.0)) refl)
+    (λ what fits. ended-gives Fits key.1 what fits))))))))
 
 close_at-fits : (bytes : List ℕ) → Gives Fits (close_at bytes)
 unfolding close_at
@@ -253,8 +254,9 @@ length-filter_calls : (calls : List Call) (client : ℕ) → length (filter (λ 
 length-filter_calls [] client = refl
 length-filter_calls (call ∷ calls) client =
     elim (call.client == client) as (λ test. length (cond test (call ∷ filter (λ (call : Call). call.client == client) calls) (filter (λ (call : Call). call.client == client) calls)) ≡ cond test 1 0 + calls_of client calls) [
-      true ↦ omega (arith, length-filter_calls calls client)
-      | false ↦ omega (arith, length-filter_calls calls client) ]
+      | true ↦ omega (arith, length-filter_calls calls client)
+      | false ↦ omega (arith, length-filter_calls calls client)
+    ]
 
 Lawful-push : (lines : List Call) (call : Call) → Lawful lines → call.number ≡ next_number lines call.client → IsTrue (what_fits call.what) → length lines < 64 → Lawful (lines ++ call ∷ [])
 Lawful-push lines call lawful next fits few = record {

@@ -21,7 +21,7 @@ pub turn-done : (v after : Volume) (call : Call) (reply : Reply) → try v call 
 turn-done v after call reply tried same =
     ap (λ (outcome : Outcome). option_map (turned v outcome (answered call (turn_number v) outcome) []) (settled (answered call (turn_number v) outcome) [])) tried
     ∙ ap (λ (ended : List EndOf). Some (record { volume = with_end after (end_of call reply); out = record { answer = Ended reply; ended = ended; starved = [] } })) (none_between)
-    where
-      none_between : ends_between v after ++ ends_between (with_end after (end_of call reply)) (with_end after (end_of call reply)) ≡ []
-      none_between = ap (λ (ended : List EndOf). drop (length v.ended) ended ++ drop (length (with_end after (end_of call reply)).ended) (with_end after (end_of call reply)).ended) same
+  where
+    none_between : ends_between v after ++ ends_between (with_end after (end_of call reply)) (with_end after (end_of call reply)) ≡ []
+    none_between = ap (λ (ended : List EndOf). drop (length v.ended) ended ++ drop (length (with_end after (end_of call reply)).ended) (with_end after (end_of call reply)).ended) same
         ∙ rw (drop-length v.ended, drop-length (after.ended ++ end_of call reply ∷ [])) refl

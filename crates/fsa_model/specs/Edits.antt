@@ -46,7 +46,7 @@ abbrev pub with_end : Volume → EndOf → Volume
 with_end v end = record v {
   pending = filter (λ entry. not ((entry.1.call.client == end.client) && (entry.1.call.number == end.number))) v.pending;
   ended = v.ended ++ end ∷ [];
-  }
+}
 
 -- one more call is pending, under its turn, with what it waits for
 abbrev pub with_pending : Volume → ℕ → Call → List Blocker → Volume

@@ -13,6 +13,7 @@ pub mod Schedule
 pub mod Script
 pub mod Setup
 pub mod Sharing
+pub mod Soundness
 pub mod Spelling
 pub mod Text
 pub mod Turn

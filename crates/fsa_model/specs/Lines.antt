@@ -1,8 +1,8 @@
 -- The lines of a script, each by itself: what its bytes say, without the line feed.
-use Rattle.std.specs.Prelude.{ℕ, zero, suc, ◌+◌, ◌-◌, ◌^◌, ◌==◌, List, [], ◌∷◌, Result, Ok, Err, if◌then◌else◌, length, drop, codes, nat_eq}
+use Rattle.std.specs.Prelude.{ℕ, zero, suc, ◌==◌, List, [], ◌∷◌, Result, Ok, if◌then◌else◌, length, drop, codes, nat_eq}
 use Rattle.std.specs.List.{starts_with}
 use Rattle.fsa_types.specs.declared.request.What.{What}
-use Rattle.fsa_model.specs.Fault.{Kind, BadSyntax, ◌>>=◌, only_if}
+use Rattle.fsa_model.specs.Fault.{Kind, ◌>>=◌, only_if}
 use Rattle.fsa_model.specs.Words.{same, word_of, after_word, field_at, number_at, mask_at, ended, is_name, onto}
 use Rattle.fsa_model.specs.Requests.{most_id, what_of}
 

@@ -1,10 +1,10 @@
 -- A script: what its bytes say, or which line is the first at fault, and how.
-use Rattle.std.specs.Prelude.{ℕ, ◌+◌, ◌-◌, ◌^◌, ◌==◌, ◌&&◌, ◌||◌, not, true, false, nat_le, nat_lt, Bool, List, [], ◌∷◌, ◌++◌, Option, Some, None, Result, Ok, Err, if◌then◌else◌, length, filter, position, is_some}
+use Rattle.std.specs.Prelude.{ℕ, ◌+◌, ◌==◌, ◌&&◌, not, true, false, nat_le, nat_lt, Bool, List, [], ◌∷◌, ◌++◌, Option, Some, None, Result, Ok, Err, if◌then◌else◌, length, filter, position, is_some}
 use Rattle.std.specs.List.{slice_split}
 use Rattle.fsa_types.specs.CaseTable.{ascii_pairs, is_at_fault}
 use Rattle.fsa_types.specs.declared.request.Call.{Call}
 use Rattle.fsa_types.specs.declared.request.What.{What}
-use Rattle.fsa_model.specs.Setup.{Client, Setup, Script}
+use Rattle.fsa_model.specs.Setup.{Client, Script}
 use Rattle.fsa_model.specs.Fault.{Kind, BadCut, BadSyntax, BadClient, BadNumber, Fault, ◌>>=◌, only_if}
 use Rattle.fsa_model.specs.Words.{same}
 use Rattle.fsa_model.specs.Lines.{Line, Version, DefaultTable, PairTable, Pair, ClientLine, RequestLine, line_of}
@@ -112,7 +112,7 @@ take_line reading DefaultTable = only_if (takes_table reading.stage) (with_table
 take_line reading PairTable = only_if (takes_table reading.stage) (with_table reading Pairs [])
 take_line reading (Pair source target) =
     only_if (takes_pairs reading.stage && nat_le source 65535 && nat_le target 65535 && not (is_at_fault reading.script.setup.table (source, target)))
-        (with_table reading Pairs (reading.script.setup.table ++ (source, target) ∷ []))
+    (with_table reading Pairs (reading.script.setup.table ++ (source, target) ∷ []))
 take_line reading (ClientLine name sids) = take_client reading name sids
 take_line reading (RequestLine name number what) = take_request reading name number what
 

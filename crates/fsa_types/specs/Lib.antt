@@ -1,4 +1,3 @@
-
 pub mod Access
 pub mod BoundedList
 pub mod CaseTable

@@ -1,7 +1,9 @@
+mod LeastLemmas
 mod LineLemmas
 mod NameLemmas
 mod PairLemmas
 mod ReadLemmas
+mod RunLemmas
 mod ScriptLemmas
 mod SidLemmas
 mod SpellLemmas

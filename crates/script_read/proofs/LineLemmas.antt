@@ -1,13 +1,13 @@
 -- Lines that are written are read again.
-use Rattle.std.proofs.Common.{◌≡◌, ◌∙◌, sym, ap, ℕ, zero, suc, ◌+◌, ◌-◌, ◌<◌, ◌≤◌, Bool, true, false, ◌&&◌, ◌||◌, not, List, [], ◌∷◌, ◌++◌, Some, None, length, take, drop, inl, inr, refl, arith, nat_eq}
-use Rattle.std.specs.Prelude.{Result, Ok, Err, nat_le, ◌==◌}
-use Rattle.std.specs.List.{list_all, flat_map, starts_with, position_or_len}
+use Rattle.std.proofs.Common.{◌≡◌, ◌∙◌, sym, ap, ℕ, zero, suc, ◌+◌, ◌≤◌, Bool, true, false, ◌&&◌, List, [], ◌∷◌, ◌++◌, length, take, drop, inl, inr, refl, arith, nat_eq}
+use Rattle.std.specs.Prelude.{Ok, Err, nat_le, ◌==◌}
+use Rattle.std.specs.List.{list_all, starts_with, position_or_len}
 use Rattle.std.proofs.lemmas.Bool.{cases_Bool, eqb-true, ne_eqb}
 use Rattle.std.proofs.lemmas.Bool.Decides.{Decides-eqb}
 use Rattle.std.proofs.lemmas.Slice.Eq.{slice_eq-Decides, starts_is}
 use Rattle.fsa_types.specs.declared.request.What.{What}
-use Rattle.fsa_model.specs.Fault.{Kind, BadSyntax}
-use Rattle.fsa_model.specs.Words.{same, word_of, field_at, number_at, is_name, is_name_byte, onto}
+use Rattle.fsa_model.specs.Fault.{BadSyntax}
+use Rattle.fsa_model.specs.Words.{same, word_of, field_at, number_at, is_name, is_name_byte}
 use Rattle.fsa_model.specs.Requests.{most_id}
 use Rattle.fsa_model.specs.Lines.{Line, Version, DefaultTable, PairTable, Pair, ClientLine, RequestLine, pair_at, sids_at, client_at, request_of, line_of}
 use Rattle.fsa_model.specs.Spelling.{number_text, mask_text, verb_text, fields_text, is_built, sids_text, line_text, is_line}
@@ -19,11 +19,11 @@ use Rattle.script_read.proofs.VerbLemmas.{what_of-again, NoSpace-verb, EndsWord-
 no_space : (byte : ℕ) → is_name_byte byte ≡ true → (byte == 32) ≡ false
 no_space byte fits =
     elim (cases_Bool (byte == 32)) [
-      inl space ↦
-        let is : byte ≡ 32 = eqb-true byte 32 space in
-        let never : is_name_byte 32 ≡ true = rw is at fits in
-        absurd (let e : false ≡ true = never in cc)
-    | inr other ↦ other
+      | inl space ↦
+          let is : byte ≡ 32 = eqb-true byte 32 space in
+          let never : is_name_byte 32 ≡ true = rw is at fits in
+          absurd (let e : false ≡ true = never in cc)
+      | inr other ↦ other
     ]
 
 NoSpace-bytes : (bytes : List ℕ) → list_all is_name_byte bytes ≡ true → NoSpace bytes
@@ -47,10 +47,14 @@ request_of-again name number what fits small built =
     let fields = 32 ∷ (verb_text what ++ fields_text what) in
     let rest = number_text number ++ fields in
     let plain = NoSpace-name name fits in
-    rw (word_of-again name rest plain refl, after_word-again name rest plain refl, fits,
+    rw (
+      word_of-again name rest plain refl,
+      after_word-again name rest plain refl,
+      fits,
       number_at-again 4294967295 number fields small refl,
       field_at-again (verb_text what) (fields_text what) (NoSpace-verb what built) (EndsWord-fields what built),
-      what_of-again what built) refl
+      what_of-again what built,
+    ) refl
 
 -- a line of another kind is no request
 same-eq : (bytes text : List ℕ) → same bytes text ≡ true → bytes ≡ text
@@ -125,9 +129,12 @@ unfolding client_at
 client_at-again name [] fits some few small = absurd (omega arith)
 client_at-again name (sid ∷ sids) fits some few small =
     let parts = both (nat_le sid most_id) (list_all (λ s. nat_le s most_id) sids) small in
-    rw (field_at-again name (sids_text (sid ∷ sids)) (NoSpace-name name fits) refl, fits,
+    rw (
+      field_at-again name (sids_text (sid ∷ sids)) (NoSpace-name name fits) refl,
+      fits,
       number_at-again 4294967295 sid (sids_text sids) (at_most sid most_id parts.0) (EndsWord-sids sids),
-      sids_at-again 15 sids (omega arith) parts.1) refl
+      sids_at-again 15 sids (omega arith) parts.1,
+    ) refl
 
 -- ---- pairs
 
@@ -155,7 +162,7 @@ line_of-again (RequestLine name number what) fits =
     let outer = both (is_name name && nat_le number most_id) (is_built what) fits in
     let inner = both (is_name name) (nat_le number most_id) outer.0 in
     line_of-request (line_text (RequestLine name number what)) (RequestLine name number what)
-      (request_of-again name number what inner.0 (at_most number most_id inner.1) outer.1)
+    (request_of-again name number what inner.0 (at_most number most_id inner.1) outer.1)
 
 -- two lines of one text are one line
 pub line_text-injective : (left right : Line) → is_line left ≡ true → is_line right ≡ true → line_text left ≡ line_text right → left ≡ right

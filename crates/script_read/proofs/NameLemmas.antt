@@ -1,10 +1,9 @@
 -- Names that are looked up.
-use Rattle.std.proofs.Common.{◌≡◌, ◌∙◌, sym, ap, ℕ, ◌+◌, ◌<◌, ◌≤◌, Bool, true, false, List, [], ◌∷◌, ◌++◌, Option, Some, None, length, cond, if◌then◌else◌, ltb, refl, arith, not, map}
+use Rattle.std.proofs.Common.{◌≡◌, ap, ℕ, ◌+◌, Bool, false, List, [], ◌∷◌, ◌++◌, None, length, cond, if◌then◌else◌, refl, arith, not, map}
 use Rattle.std.specs.List.{position, position_or_len, prefix_len, list_any}
 use Rattle.std.proofs.lemmas.List.{map-append, length-map}
 use Rattle.std.proofs.lemmas.List.Sums.{fails_before_first}
 use Rattle.std.proofs.lemmas.List.Folds.{list_any_none}
-use Rattle.std.proofs.lemmas.Bool.{ltb-false}
 use Rattle.script_read.proofs.ReadLemmas.{position_or_len-from_none}
 
 prefix_len-map : {X Y : Type 0} (f : X → Y) (p : Y → Bool) (xs : List X) → prefix_len p (map f xs) ≡ prefix_len (λ x. p (f x)) xs

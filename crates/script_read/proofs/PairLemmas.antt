@@ -1,5 +1,5 @@
 -- Pairs of a case table, read one by one.
-use Rattle.std.proofs.Common.{◌≡◌, ◌≢◌, ◌∙◌, sym, ap, subst, ℕ, ◌+◌, ◌<◌, ◌≤◌, Bool, true, false, ◌||◌, List, [], ◌∷◌, ◌++◌, Option, Some, None, take, set, get_or, length, cond, eqb, inl, inr, ◌⊎◌, refl, arith, get_or-set_same, get_or-set_other}
+use Rattle.std.proofs.Common.{◌≡◌, ◌≢◌, ◌∙◌, sym, ap, ℕ, ◌+◌, ◌<◌, Bool, true, false, ◌||◌, List, [], ◌∷◌, ◌++◌, Option, Some, None, take, set, length, cond, eqb, inl, inr, ◌⊎◌, refl, arith, get_or-set_same, get_or-set_other}
 use Rattle.std.specs.Prelude.{find}
 use Rattle.std.specs.List.{list_any, enumerate_from, AllByRecursion}
 use Rattle.std.specs.Option.{option_map}
@@ -8,7 +8,7 @@ use Rattle.std.proofs.Math.Seq.{take-append_seam}
 use Rattle.std.proofs.lemmas.List.Elements.{All-from_recursion}
 use Rattle.std.proofs.lemmas.List.Folds.{list_any-append}
 use Rattle.std.proofs.lemmas.Bool.{cases_eq, eq-eqb, ne_eqb}
-use Rattle.fsa_types.specs.CaseTable.{is_source, is_target, is_at_fault, first_fault}
+use Rattle.fsa_types.specs.CaseTable.{is_at_fault, first_fault}
 use Rattle.fsa_types.specs.CaseTableBody.{AreMarks}
 use Rattle.script_read.specs.Marks.{AreSound}
 
@@ -36,14 +36,14 @@ AreMarks-push key pairs pair marks below given = record {
   all = length-set marks (key pair) true ∙ given.all;
   each = λ unit within.
       rw (list_any-append (λ p. eqb (key p) unit) pairs (pair ∷ []))
-        (elim (cases_eq (key pair) unit) [
-            inl same ↦
-              let inside : key pair < length marks = omega arith in
-              rw (← same, get_or-set_same marks (key pair) true false inside, eq-eqb (key pair) (key pair) refl, or_true) refl
-          | inr other ↦
-              let apart : unit ≢ key pair = λ e. other (sym e) in
-              rw (get_or-set_other marks (key pair) unit true false apart, ne_eqb (key pair) unit other, or_false) (given.each unit within)
-          ]);
+      (elim (cases_eq (key pair) unit) [
+        | inl same ↦
+            let inside : key pair < length marks = omega arith in
+            rw (← same, get_or-set_same marks (key pair) true false inside, eq-eqb (key pair) (key pair) refl, or_true) refl
+        | inr other ↦
+            let apart : unit ≢ key pair = λ e. other (sym e) in
+            rw (get_or-set_other marks (key pair) unit true false apart, ne_eqb (key pair) unit other, or_false) (given.each unit within)
+      ]);
 }
 
 -- ---- no pair is at fault
@@ -71,11 +71,11 @@ none-push before (x ∷ rest) pair none sound =
     let regrouped : (before ++ x ∷ []) ++ rest ≡ before ++ x ∷ rest = append_assoc before (x ∷ []) rest in
     let counted : length (before ++ x ∷ []) ≡ length before + 1 = length_push before x in
     let later =
-        none-push (before ++ x ∷ []) rest pair
-        (rw (regrouped, counted) parts.1)
-        (rw regrouped sound) in
+    none-push (before ++ x ∷ []) rest pair
+    (rw (regrouped, counted) parts.1)
+    (rw regrouped sound) in
     let seam : take (length before) ((before ++ x ∷ rest) ++ pair ∷ []) ≡ before =
-        ap (take (length before)) (append_assoc before (x ∷ rest) (pair ∷ [])) ∙ take-append_seam before ((x ∷ rest) ++ pair ∷ []) in
+    ap (take (length before)) (append_assoc before (x ∷ rest) (pair ∷ [])) ∙ take-append_seam before ((x ∷ rest) ++ pair ∷ []) in
     rw (seam, here) (rw (regrouped, counted) at later)
 
 from_none : {X Y : Type 0} (f : X → Y) (found : Option X) → option_map f found ≡ None → found ≡ None

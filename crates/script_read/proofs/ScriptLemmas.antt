@@ -1,14 +1,13 @@
 -- The lines of a script, one after the other.
-use Rattle.std.proofs.Common.{◌≡◌, ◌∙◌, sym, ap, ℕ, ◌+◌, ◌-◌, ◌<◌, ◌≤◌, Bool, true, false, List, [], ◌∷◌, Option, Some, None, length, take, drop, eqb, nat_eq, refl, arith}
-use Rattle.std.specs.Prelude.{Result, Ok, Err, ◌==◌}
+use Rattle.std.proofs.Common.{◌≡◌, ◌∙◌, sym, ap, ℕ, ◌+◌, ◌-◌, ◌<◌, ◌≤◌, Bool, false, List, [], ◌∷◌, Some, None, length, take, drop, refl, arith}
+use Rattle.std.specs.Prelude.{Ok, Err, ◌==◌}
 use Rattle.std.specs.List.{count_by, position, position_or_len}
 use Rattle.std.proofs.lemmas.List.{take_rest}
 use Rattle.std.proofs.lemmas.List.Sums.{fails_before_first}
 use Rattle.std.proofs.lemmas.List.Splits.{length-slice_split, slice_split_first, slice_split_none}
 use Rattle.std.proofs.lemmas.Bool.{ne_eqb}
-use Rattle.fsa_model.specs.Fault.{Kind, Fault}
-use Rattle.fsa_model.specs.Setup.{Script}
-use Rattle.fsa_model.specs.Script.{Reading, line_after, end_after, lines_from, pieces, at_line}
+use Rattle.fsa_model.specs.Fault.{Kind}
+use Rattle.fsa_model.specs.Script.{Reading, line_after, end_after, lines_from, pieces}
 use Rattle.script_read.specs.declared.fault.ReadFault.{ReadFault}
 use Rattle.script_read.specs.declared.fault.ReadFault.TheVariants as read
 use Rattle.script_read.specs.Gives.{FailsScript, kind_of}

@@ -1,7 +1,7 @@
 -- What is written is read again: numbers, masks, texts and strings of bytes.
-use Rattle.std.proofs.Common.{◌≡◌, ◌∙◌, sym, ap, ℕ, zero, suc, ◌+◌, ◌-◌, ◌*◌, ◌/◌, ◌%◌, ◌^◌, ◌<◌, ◌≤◌, Bool, true, false, ◌&&◌, not, List, [], ◌∷◌, ◌++◌, Option, Some, None, length, map, take, drop, get_or, cond, eqb, ltb, inl, inr, ◌⊎◌, refl, arith, if◌then◌else◌}
-use Rattle.std.specs.Prelude.{Result, Ok, Err, nat_le, nat_lt, ◌==◌}
-use Rattle.std.specs.List.{position_or_len, prefix_len, flat_map, list_all}
+use Rattle.std.proofs.Common.{◌≡◌, ◌∙◌, sym, ap, ℕ, zero, suc, ◌+◌, ◌*◌, ◌/◌, ◌%◌, ◌<◌, ◌≤◌, Bool, true, false, ◌&&◌, List, [], ◌∷◌, ◌++◌, Option, Some, None, length, map, take, drop, get_or, inl, inr, refl, arith, if◌then◌else◌}
+use Rattle.std.specs.Prelude.{Ok, nat_le, nat_lt, ◌==◌}
+use Rattle.std.specs.List.{position_or_len}
 use Rattle.std.specs.Int.Digits.{digits_of}
 use Rattle.std.proofs.lemmas.Int.Digits.{digits_of_step, first_digits_of}
 use Rattle.std.proofs.lemmas.Nat.{div-add-mod'}
@@ -10,7 +10,6 @@ use Rattle.std.proofs.lemmas.List.{map-append, append-nil}
 use Rattle.std.proofs.lemmas.Bool.{cases_eq, ne_eqb}
 use Rattle.std.proofs.lemmas.Bool.Decides.{nat_tests}
 use Rattle.std.proofs.Math.Seq.{take-append_seam, drop-append_seam}
-use Rattle.fsa_model.specs.Fault.{Kind, BadSyntax, read_as}
 use Rattle.fsa_model.specs.Numbers.{digit_of, glyph, spelled, number_after, number_of}
 use Rattle.fsa_model.specs.Words.{word_of, after_word, field_at, number_at, mask_of, mask_at}
 use Rattle.fsa_model.specs.Spelling.{number_text, mask_text}
@@ -54,15 +53,15 @@ number_after-digits zero base most n two small enough below =
     let none : n ≡ 0 = omega arith in rw none refl
 number_after-digits (suc fuel) base most n two small enough below =
     elim (cases_eq n 0) [
-      inl none ↦ rw none refl
-    | inr some ↦
-        let less : n / base < n = div-lt_self (omega arith) (omega arith) in
-        let whole : n / base * base + n % base ≡ n = div-add-mod' n base in
-        let earlier = number_after-digits fuel base most (n / base) two small (omega arith) (omega arith) in
-        rw (digits_of_step base n two (omega arith), map-append)
+      | inl none ↦ rw none refl
+      | inr some ↦
+          let less : n / base < n = div-lt_self (omega arith) (omega arith) in
+          let whole : n / base * base + n % base ≡ n = div-add-mod' n base in
+          let earlier = number_after-digits fuel base most (n / base) two small (omega arith) (omega arith) in
+          rw (digits_of_step base n two (omega arith), map-append)
           (number_after-append base most 0 (n / base) (map glyph (digits_of base (n / base))) (glyph (n % base) ∷ []) earlier
-            ∙ number_after-digit base most (n / base) (n % base) small (omega arith) (omega arith)
-            ∙ ap Some whole)
+          ∙ number_after-digit base most (n / base) (n % base) small (omega arith) (omega arith)
+          ∙ ap Some whole)
     ]
 
 number_of-digits : (base most n : ℕ) (digits : List ℕ) → 0 < get_or digits 0 0
@@ -76,14 +75,14 @@ number_of-digits base most n (digit ∷ second ∷ digits) first reads =
 pub number_of-spelled : (base most n : ℕ) → 2 ≤ base → base ≤ 16 → n ≤ most → number_of base most (spelled base n) ≡ Some n
 number_of-spelled base most n two small below =
     elim (cases_eq n 0) [
-      inl none ↦
-        let test : (nat_lt 0 base && nat_le (0 * base + 0) most) ≡ true = grind (arith, nat_tests) in
-        let zero_ : 0 * base + 0 ≡ 0 = omega arith in
-        rw (none, test, zero_) refl
-    | inr some ↦
-        rw (ne_eqb n 0 some)
+      | inl none ↦
+          let test : (nat_lt 0 base && nat_le (0 * base + 0) most) ≡ true = grind (arith, nat_tests) in
+          let zero_ : 0 * base + 0 ≡ 0 = omega arith in
+          rw (none, test, zero_) refl
+      | inr some ↦
+          rw (ne_eqb n 0 some)
           (number_of-digits base most n (digits_of base n) (first_digits_of base n two (omega arith))
-            (number_after-digits n base most n two small (omega arith) below))
+          (number_after-digits n base most n two small (omega arith) below))
     ]
 
 -- ---- words
@@ -133,9 +132,9 @@ NoSpace-glyphs (digit ∷ digits) = ((let no : (glyph digit == 32) ≡ false = g
 
 NoSpace-spelled : (base n : ℕ) → NoSpace (spelled base n)
 NoSpace-spelled base n = elim (cases_eq n 0) [
-    inl none ↦ rw none (refl, tt)
+  | inl none ↦ rw none (refl, tt)
   | inr some ↦ rw (ne_eqb n 0 some) (NoSpace-glyphs (digits_of base n))
-  ]
+]
 
 pub number_at-again : (most n : ℕ) (rest : List ℕ) → n ≤ most → EndsWord rest → number_at most (number_text n ++ rest) ≡ Ok (n, rest)
 unfolding number_at

@@ -1,12 +1,12 @@
 -- Clients and requests that are taken after what was read.
-use Rattle.std.proofs.Common.{◌≡◌, ◌∙◌, sym, ap, ℕ, ◌+◌, ◌-◌, ◌<◌, ◌≤◌, ◌^◌, Bool, true, false, ◌&&◌, not, List, [], ◌∷◌, ◌++◌, Option, Some, None, length, map, get_or, inl, inr, nat_eq, ltb, refl, arith}
-use Rattle.std.specs.Prelude.{Result, Ok, Err, is_some, nat_lt}
+use Rattle.std.proofs.Common.{◌≡◌, ◌∙◌, sym, ap, ℕ, ◌+◌, ◌<◌, ◌^◌, true, false, List, [], ◌∷◌, ◌++◌, Some, None, length, map, inl, inr, refl, arith}
+use Rattle.std.specs.Prelude.{Ok, Err, is_some, nat_lt}
 use Rattle.std.specs.List.{position}
 use Rattle.std.proofs.lemmas.List.{length_push, map-append, get_or_append_left, get_or_push}
 use Rattle.std.proofs.lemmas.Bool.{cases_eq}
 use Rattle.fsa_types.specs.declared.setup.Client.{Client as GivenClient}
 use Rattle.fsa_types.specs.declared.request.What.{What}
-use Rattle.fsa_model.specs.Fault.{Kind, BadClient}
+use Rattle.fsa_model.specs.Fault.{BadClient}
 use Rattle.fsa_model.specs.Setup.{client_of}
 use Rattle.fsa_model.specs.Words.{same}
 use Rattle.fsa_model.specs.Script.{Reading, place_of, takes_clients, takes_requests, with_client, take_client, take_request, take_call}
@@ -55,13 +55,13 @@ IsKept-client r new client kept names clients lasts calls stage few =
       counted = rw lasts (length_push r.last_numbers.items 0 ∙ (let e : length r.last_numbers.items + 1 ≡ length new.clients.items = omega arith in e));
       numbers = λ place within.
           rw (lasts, calls)
-            (elim (cases_eq place (length r.clients.items)) [
-                inl last ↦
-                  rw (get_or_push r.last_numbers.items 0 0 place (counted ∙ sym last), kept.callers place (omega arith)) refl
-              | inr other ↦
-                  let old : place < length r.clients.items = omega arith in
-                  rw (get_or_append_left r.last_numbers.items (0 ∷ []) 0 place (omega arith)) (kept.numbers place old)
-              ]);
+          (elim (cases_eq place (length r.clients.items)) [
+            | inl last ↦
+                rw (get_or_push r.last_numbers.items 0 0 place (counted ∙ sym last), kept.callers place (omega arith)) refl
+            | inr other ↦
+                let old : place < length r.clients.items = omega arith in
+                rw (get_or_append_left r.last_numbers.items (0 ∷ []) 0 place (omega arith)) (kept.numbers place old)
+          ]);
       callers = λ place past. rw calls (kept.callers place (omega arith));
       paired = rw stage (λ e. cc);
       few = few;

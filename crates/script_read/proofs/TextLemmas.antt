@@ -1,12 +1,12 @@
 -- Texts and strings of bytes that are written are read again.
-use Rattle.std.proofs.Common.{◌≡◌, ◌∙◌, sym, ap, ℕ, ◌+◌, ◌*◌, ◌/◌, ◌%◌, ◌<◌, ◌≤◌, Bool, true, false, ◌&&◌, not, List, [], ◌∷◌, ◌++◌, length, if◌then◌else◌, inl, inr, refl, arith}
-use Rattle.std.specs.Prelude.{Result, Ok, Err, nat_le, nat_lt, ◌==◌}
+use Rattle.std.proofs.Common.{◌≡◌, ◌∙◌, sym, ap, ℕ, ◌+◌, ◌*◌, ◌/◌, ◌%◌, ◌<◌, ◌≤◌, Bool, true, false, List, [], ◌∷◌, ◌++◌, length, if◌then◌else◌, inl, inr, refl, arith}
+use Rattle.std.specs.Prelude.{Ok, Err, nat_le, nat_lt, ◌==◌}
 use Rattle.std.specs.List.{flat_map, list_all}
 use Rattle.std.proofs.lemmas.List.{append-nil}
 use Rattle.std.proofs.lemmas.Bool.{cases_Bool}
 use Rattle.std.proofs.lemmas.Bool.Decides.{nat_tests}
-use Rattle.fsa_model.specs.Fault.{Kind, BadSyntax}
-use Rattle.fsa_model.specs.Numbers.{digit_of, glyph}
+use Rattle.fsa_model.specs.Fault.{BadSyntax}
+use Rattle.fsa_model.specs.Numbers.{glyph}
 use Rattle.fsa_model.specs.Words.{onto, is_plain, upper_digit_of, units_of, escaped_units, text_of, text_at, bytes_of, string_of, string_at}
 use Rattle.fsa_model.specs.Spelling.{upper_glyph, unit_text, text_text, byte_text, string_text}
 use Rattle.script_read.proofs.SpellLemmas.{both, at_most, digit_of-glyph, NoSpace, EndsWord, NoSpace-append, field_at-again}
@@ -20,8 +20,17 @@ below_16 digit small = grind (arith, nat_tests)
 escaped : (a b c d unit : ℕ) (rest : List ℕ) → a < 16 → b < 16 → c < 16 → d < 16 → a * 4096 + b * 256 + c * 16 + d ≡ unit
     → escaped_units (upper_glyph a ∷ upper_glyph b ∷ upper_glyph c ∷ upper_glyph d ∷ rest) ≡ onto unit (units_of rest)
 escaped a b c d unit rest small_a small_b small_c small_d whole =
-    rw (upper_digit_of-glyph a small_a, upper_digit_of-glyph b small_b, upper_digit_of-glyph c small_c, upper_digit_of-glyph d small_d,
-      below_16 a small_a, below_16 b small_b, below_16 c small_c, below_16 d small_d, whole) refl
+    rw (
+      upper_digit_of-glyph a small_a,
+      upper_digit_of-glyph b small_b,
+      upper_digit_of-glyph c small_c,
+      upper_digit_of-glyph d small_d,
+      below_16 a small_a,
+      below_16 b small_b,
+      below_16 c small_c,
+      below_16 d small_d,
+      whole,
+    ) refl
 
 second_of : {A : Type 0} (first second : Bool) (x y z : A) → first ≡ false → second ≡ true
     → (if first then x else if second then y else z) ≡ y
@@ -30,24 +39,24 @@ second_of first second x y z not_first is_second = rw (not_first, is_second) ref
 units_of-unit : (unit : ℕ) (rest : List ℕ) → unit ≤ 65535 → units_of (unit_text unit ++ rest) ≡ onto unit (units_of rest)
 units_of-unit unit rest small =
     elim (cases_Bool (is_plain unit)) [
-      inl plain ↦
-        let other : (unit == 37) ≡ false = grind (arith, nat_tests) in
-        rw plain (second_of (unit == 37) (is_plain unit) (escaped_units rest) (onto unit (units_of rest)) (Err BadSyntax) other plain)
-    | inr not_plain ↦
-        rw not_plain
+      | inl plain ↦
+          let other : (unit == 37) ≡ false = grind (arith, nat_tests) in
+          rw plain (second_of (unit == 37) (is_plain unit) (escaped_units rest) (onto unit (units_of rest)) (Err BadSyntax) other plain)
+      | inr not_plain ↦
+          rw not_plain
           (escaped (unit / 16 / 16 / 16) (unit / 16 / 16 % 16) (unit / 16 % 16) (unit % 16) unit rest
-            (omega arith) (omega arith) (omega arith) (omega arith) (omega arith))
+          (omega arith) (omega arith) (omega arith) (omega arith) (omega arith))
     ]
 
 NoSpace-unit : (unit : ℕ) → NoSpace (unit_text unit)
 NoSpace-unit unit =
     elim (cases_Bool (is_plain unit)) [
-      inl plain ↦
-        let no : (unit == 32) ≡ false = grind (arith, nat_tests) in
-        rw plain (no, tt)
-    | inr not_plain ↦
-        let no = λ (digit : ℕ). (let e : (upper_glyph digit == 32) ≡ false = grind (arith, nat_tests) in e) in
-        rw not_plain (refl, (no (unit / 16 / 16 / 16), (no (unit / 16 / 16 % 16), (no (unit / 16 % 16), (no (unit % 16), tt)))))
+      | inl plain ↦
+          let no : (unit == 32) ≡ false = grind (arith, nat_tests) in
+          rw plain (no, tt)
+      | inr not_plain ↦
+          let no = λ (digit : ℕ). (let e : (upper_glyph digit == 32) ≡ false = grind (arith, nat_tests) in e) in
+          rw not_plain (refl, (no (unit / 16 / 16 / 16), (no (unit / 16 / 16 % 16), (no (unit / 16 % 16), (no (unit % 16), tt)))))
     ]
 
 units_of-again : (units : List ℕ) → list_all (λ unit. nat_le unit 65535) units ≡ true → units_of (flat_map unit_text units) ≡ Ok units

@@ -1,6 +1,6 @@
 -- Verbs and their fields that are written are read again.
-use Rattle.std.proofs.Common.{◌≡◌, ◌∙◌, sym, ap, ℕ, ◌≤◌, Bool, true, false, ◌&&◌, ◌||◌, not, List, [], ◌∷◌, ◌++◌, Some, None, length, refl, arith}
-use Rattle.std.specs.Prelude.{Result, Ok, Err, nat_le, ◌==◌}
+use Rattle.std.proofs.Common.{◌≡◌, ℕ, ◌≤◌, true, ◌&&◌, ◌||◌, not, List, [], ◌∷◌, ◌++◌, Some, length, refl, arith}
+use Rattle.std.specs.Prelude.{Ok, nat_le, ◌==◌}
 use Rattle.std.specs.List.{list_all, list_any}
 use Rattle.std.proofs.lemmas.Bool.Decides.{nat_tests}
 use Rattle.fsa_types.specs.declared.request.What.{What}
@@ -8,9 +8,8 @@ use Rattle.fsa_types.specs.declared.request.What.TheVariants.{Ask, Tick}
 use Rattle.fsa_types.specs.declared.request.Request.TheVariants.{Create, Close, Read, Write}
 use Rattle.fsa_types.specs.declared.request.Disposition.{Disposition}
 use Rattle.fsa_types.specs.declared.request.Disposition.TheVariants.{OpenExisting, CreateNew}
-use Rattle.fsa_model.specs.Fault.{Kind}
 use Rattle.fsa_model.specs.Requests.{most_id, most_place, is_built_create, disposition_at, create_at, close_at, read_at, write_at, tick_at, what_of, is_root_path}
-use Rattle.fsa_model.specs.Spelling.{number_text, mask_text, text_text, string_text, disposition_text, is_built_disposition, verb_text, fields_text, is_built}
+use Rattle.fsa_model.specs.Spelling.{number_text, mask_text, string_text, disposition_text, is_built_disposition, verb_text, fields_text, is_built}
 use Rattle.script_read.proofs.SpellLemmas.{both, at_most, NoSpace, EndsWord, field_at-again, number_at-again, number_at-last, mask_at-again}
 use Rattle.script_read.proofs.TextLemmas.{text_at-again, string_at-last}
 
@@ -52,14 +51,16 @@ create_at-again path wanted share disposition options attributes key built =
     let from_options = mask_text options ++ from_attributes in
     let from_disposition = disposition_text disposition ++ from_options in
     let from_share = mask_text share ++ from_disposition in
-    rw (text_at-again path (mask_text wanted ++ from_share) inner.0 refl,
+    rw (
+      text_at-again path (mask_text wanted ++ from_share) inner.0 refl,
       mask_at-again wanted from_share wanted_small refl,
       mask_at-again share from_disposition share_small (EndsWord-disposition disposition from_options inner.1),
       disposition_at-again disposition from_options inner.1 refl,
       mask_at-again options from_attributes options_small refl,
       mask_at-again attributes from_key attributes_small refl,
       number_at-last 0 key key_small,
-      outer.1) refl
+      outer.1,
+    ) refl
 
 close_at-again : (handle : ℕ) → handle ≤ most_id → close_at (number_text handle) ≡ Ok (Ask (Close handle))
 unfolding close_at
@@ -69,17 +70,21 @@ read_at-again : (handle place count : ℕ) → handle ≤ most_id → place ≤ 
     → read_at (number_text handle ++ (number_text place ++ number_text count)) ≡ Ok (Ask (Read handle place count))
 unfolding read_at
 read_at-again handle place count small near few =
-    rw (number_at-again 4294967295 handle (number_text place ++ number_text count) small refl,
+    rw (
+      number_at-again 4294967295 handle (number_text place ++ number_text count) small refl,
       number_at-again 65535 place (number_text count) near refl,
-      number_at-last 16384 count few) refl
+      number_at-last 16384 count few,
+    ) refl
 
 write_at-again : (handle place : ℕ) (bytes : List ℕ) → handle ≤ most_id → place ≤ most_place → list_all (λ byte. nat_le byte 255) bytes ≡ true
     → length bytes ≤ 16384 → write_at (number_text handle ++ (number_text place ++ string_text bytes)) ≡ Ok (Ask (Write handle (Some place) bytes))
 unfolding write_at
 write_at-again handle place bytes small near are_bytes few =
-    rw (number_at-again 4294967295 handle (number_text place ++ string_text bytes) small refl,
+    rw (
+      number_at-again 4294967295 handle (number_text place ++ string_text bytes) small refl,
       number_at-again 65535 place (string_text bytes) near refl,
-      string_at-last bytes are_bytes few) refl
+      string_at-last bytes are_bytes few,
+    ) refl
 
 tick_at-again : (ticks : ℕ) → ticks ≤ most_id → tick_at (number_text ticks) ≡ Ok (Tick ticks)
 unfolding tick_at

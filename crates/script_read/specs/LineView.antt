@@ -1,5 +1,4 @@
 -- What the reader's lines say, in the words of the definition.
-use Rattle.std.specs.Prelude.{ℕ}
 use Rattle.script_read.specs.declared.line.Line.{Line as ReadLine}
 use Rattle.script_read.specs.declared.line.Line.TheVariants as read
 use Rattle.fsa_model.specs.Lines.{Line, Version, DefaultTable, PairTable, Pair, ClientLine, RequestLine}

@@ -1,9 +1,8 @@
 -- What the reader has read so far, in the words of the definition, and what it keeps beside it.
-use Rattle.std.specs.Prelude.{◌≡◌, ℕ, ◌+◌, ◌^◌, ◌<◌, ◌≤◌, Bool, true, false, List, Result, OnOk, if◌then◌else◌, map, length, slice_index}
+use Rattle.std.specs.Prelude.{◌≡◌, ℕ, ◌+◌, ◌^◌, ◌<◌, ◌≤◌, true, false, Result, OnOk, if◌then◌else◌, map, length, slice_index}
 use Rattle.fsa_types.specs.CaseTable.{ascii_pairs}
-use Rattle.fsa_types.specs.declared.setup.Client.{Client as GivenClient}
 use Rattle.fsa_model.specs.Fault.{Kind}
-use Rattle.fsa_model.specs.Setup.{Setup, Script, client_of}
+use Rattle.fsa_model.specs.Setup.{client_of}
 use Rattle.fsa_model.specs.Script.{Reading, takes_pairs, next_number}
 use Rattle.script_read.specs.declared.reading.Reading.{Reading as ReadReading}
 use Rattle.script_read.specs.declared.fault.LineFault.{LineFault}

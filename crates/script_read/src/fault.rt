@@ -1,8 +1,7 @@
 //! Why a script, or a line of one, is not read.
 
 use fsa_types::NoMemory;
-use std::alloc::AllocError;
-use std::alloc::AllocFailed;
+use std::alloc::{AllocError, AllocFailed};
 
 /// The kind of a line's fault. Of several the first of this order is named.
 #[derive(Clone, Copy, Debug, PartialEq, Eq)]
@@ -31,7 +30,8 @@ pub struct ScriptFault {
 pub enum ReadFault {
     /// The bytes are no script.
     Bad(ScriptFault),
-    /// There is no memory for what the script says, or it has 2 ^ 32 bytes or more.
+    /// There is no memory for what the script says, or it has 2 ^ 32 - 1 bytes or more, so that the
+    /// number of a line may not fit.
     NoMemory,
 }
 

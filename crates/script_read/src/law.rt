@@ -1,12 +1,20 @@
 //! What holds of the lines of every script.
 
-ghost use Rattle.std.specs.Prelude.{◌≡◌, true, Ok};
+ghost use Rattle.std.specs.Prelude.{◌≡◌, ℕ, List, true, Ok, Err};
+ghost use Rattle.fsa_model.specs.Fault.{Fault};
 ghost use Rattle.fsa_model.specs.Lines.{Line, line_of};
+ghost use Rattle.fsa_model.specs.Script.{script_of};
+ghost use Rattle.fsa_model.specs.Soundness.{IsLeast};
 ghost use Rattle.fsa_model.specs.Spelling.{is_line, line_text};
 
 /// The text of a line is read as that line, and no text is that of two lines.
 pub fn one_reading()
     ensures again { (line : Line) → is_line line ≡ true → line_of (line_text line) ≡ Ok line }
     ensures only { (left right : Line) → is_line left ≡ true → is_line right ≡ true → line_text left ≡ line_text right → left ≡ right }
-{
-}
+{}
+
+/// The faulty line is the least that is not sound: some script begins with the lines before it, and
+/// none with those lines and it, where it has a line feed.
+pub fn least_fault()
+    ensures { (bytes : List ℕ) (fault : Fault) → script_of bytes ≡ Err fault → IsLeast bytes fault }
+{}

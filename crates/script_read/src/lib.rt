@@ -43,7 +43,7 @@ mod tests;
 mod text;
 mod word;
 
-pub use law::one_reading;
 pub use fault::{ReadFault, ScriptFault, ScriptKind};
+pub use law::{least_fault, one_reading};
 pub use read::read_script;
 pub use script::Script;

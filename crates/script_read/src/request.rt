@@ -41,7 +41,11 @@ fn disposition_at(bytes: &[u8]) -> Result<(Disposition, &[u8]), LineFault>
 fn is_plain_unit(unit: u16) -> bool
     ensures { result ≡ is_plain_unit unit }
 {
-    97 <= unit && unit <= 122 || 65 <= unit && unit <= 90 || 48 <= unit && unit <= 57 || unit == 95 || unit == 46
+    97 <= unit && unit <= 122
+        || 65 <= unit && unit <= 90
+        || 48 <= unit && unit <= 57
+        || unit == 95
+        || unit == 46
 }
 
 // `.` or `..`.

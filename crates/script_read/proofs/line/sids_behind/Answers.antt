@@ -1,10 +1,8 @@
-use Rattle.std.proofs.Common.{◌≡◌, ◌∙◌, sym, ap, ℕ, ◌+◌, ◌≤◌, ◌<◌, List, ◌++◌, ◌∷◌, [], length, false, arith, rules}
-use Rattle.std.specs.Prelude.{◌==◌, Ok, Err}
+use Rattle.std.proofs.Common.{◌≡◌, ◌∙◌, sym, ◌<◌, [], length, false, arith, rules}
+use Rattle.std.specs.Prelude.{◌==◌}
 use Rattle.std.proofs.lemmas.List.{length_push}
 use Rattle.std.proofs.lemmas.Result.{err_from_is_err_and}
 use Rattle.std.proofs.lemmas.Grind.{common_steps}
-use Rattle.fsa_model.specs.Words.{onto}
-use Rattle.fsa_model.specs.Lines.{sids_at}
 use Rattle.script_read.proofs.SidLemmas.{sids-more, sids-over, sids-end, sids-fault}
 use Rattle.script_read.proofs.ReadLemmas.{ahead-end}
 use Rattle.script_read.proofs.line.sids_behind.Goals as goal

@@ -1,6 +1,5 @@
-use Rattle.std.proofs.Common.{◌≡◌, ◌∙◌, sym, ap, arith, ℕ, ◌+◌, ◌≤◌, ◌∷◌, length}
-use Rattle.fsa_model.specs.Script.{pieces, line_after}
-use Rattle.script_read.specs.Gives.{FailsScript}
+use Rattle.std.proofs.Common.{◌≡◌, ◌∙◌, sym, ap, arith, ◌+◌, ◌≤◌, ◌∷◌, length}
+use Rattle.fsa_model.specs.Script.{pieces}
 use Rattle.script_read.specs.ReadingView.{reading_of}
 use Rattle.script_read.proofs.ScriptLemmas.{lines_from-more, lines_from-bad, some_pieces}
 use Rattle.script_read.proofs.read.read_lines.Goals as goal
@@ -18,8 +17,8 @@ take_text-requires-clause-room c =
 pub returns-in-Err : goal.returns-in-Err
 returns-in-Err c =
     let bad =
-        lines_from-bad c.lines.line (reading_of c.lines.reading) c.lines.rest.now c.in-Some.text.now c.in-Some.after.now c.at_line.result
-        c.in-Some.ensures.line (c.at_line.ensures _ c.in-Err.ensures.gives) in
+    lines_from-bad c.lines.line (reading_of c.lines.reading) c.lines.rest.now c.in-Some.text.now c.in-Some.after.now c.at_line.result
+    c.in-Some.ensures.line (c.at_line.ensures _ c.in-Err.ensures.gives) in
     rw (← c.lines.invariant.read) bad
 
 pub lines-preserved : goal.lines-preserved
@@ -29,7 +28,7 @@ lines-preserved c =
     record {
       read =
           sym (lines_from-more c.lines.line (reading_of c.lines.reading) (reading_of c.take_text.new.self) c.lines.rest.now c.in-Some.text.now c.in-Some.after.now
-            c.in-Some.ensures.line c.in-Ok.ensures.gives)
+          c.in-Some.ensures.line c.in-Ok.ensures.gives)
           ∙ c.lines.invariant.read;
       kept = c.in-Ok.ensures.kept;
       line = omega (arith, c.in-Some.ensures.shorter);

@@ -1,5 +1,5 @@
-use Rattle.std.proofs.Common.{◌≡◌, ◌∙◌, sym, ap, refl, nat_eq, map, List, ℕ, Bool, None, ◌++◌, ◌∷◌, []}
-use Rattle.std.specs.List.{position, list_any}
+use Rattle.std.proofs.Common.{◌≡◌, ◌∙◌, sym, ap, refl, nat_eq, map, List, ℕ, None}
+use Rattle.std.specs.List.{position}
 use Rattle.std.specs.Cmp.Lexicographic.{pointwise}
 use Rattle.script_read.proofs.NameLemmas.{position-map, list_any-from_position, added}
 use Rattle.script_read.proofs.names.NameList.add.Goals as goal
