@@ -1,3 +1,5 @@
 pub mod Examples
 pub mod HistoryLaws
 pub mod ScheduleLaws
+pub mod ScriptLaws
+pub mod TurnLaws

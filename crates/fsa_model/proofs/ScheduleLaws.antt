@@ -31,7 +31,7 @@ AllBelow-push : (calls : List Call) (call : Call) (client n : ℕ) → AllBelow 
 AllBelow-push [] call client n below last = (last, tt)
 AllBelow-push (first ∷ more) call client n below last = (below.0, AllBelow-push more call client n below.1 last)
 
-calls_of-push : (client : ℕ) (calls : List Call) (call : Call) → calls_of client (calls ++ call ∷ []) ≡ calls_of client calls + cond (call.client == client) 1 0
+pub calls_of-push : (client : ℕ) (calls : List Call) (call : Call) → calls_of client (calls ++ call ∷ []) ≡ calls_of client calls + cond (call.client == client) 1 0
 calls_of-push client [] call = omega arith
 calls_of-push client (first ∷ more) call = let rest : calls_of client (more ++ call ∷ []) ≡ calls_of client more + cond (call.client == client) 1 0 = calls_of-push client more call in omega arith
 

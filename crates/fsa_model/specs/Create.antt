@@ -26,17 +26,16 @@ pub record Asked : Type 0 where
   pub access : ℕ
   pub share : ℕ
 
--- a file as it is made: owned by the client's first SID, with no access list, ARCHIVE, and the clock
--- as all its times
+-- a file as it is made: with this owner and no access list, ARCHIVE, and the clock as all its times
 abbrev pub new_file : Volume → ℕ → File
-new_file v client = record {
+new_file v owner = record {
   directory = false;
   attributes = 0x20;
   creation = v.clock;
   access = v.clock;
   write = v.clock;
   change = v.clock;
-  owner = first_sid v client;
+  owner = owner;
   dacl = None;
   point = None;
 }
@@ -60,25 +59,26 @@ opened v action = Done v (record { status = Success; body = Opened action })
 
 -- the file made in the root, with its link and its default stream
 abbrev pub with_new_file : Volume → ℕ → List ℕ → Volume
-with_new_file v client name = with_stream (with_link (with_file v (new_file v client)) 1 name (v.last_file + 1)) (v.last_file + 1) []
+with_new_file v owner name = with_stream (with_link (with_file v (new_file v owner)) 1 name (v.last_file + 1)) (v.last_file + 1) []
 
 -- the last name is missing: an open needs it, and else the file is made and opened
 abbrev pub create_missing : Volume → Asked → Bool → List ℕ → Outcome
 create_missing v asked makes name =
-    if makes then opened (with_open (with_new_file v asked.client name) asked (v.last_link + 1) (v.last_stream + 1)) WasCreated
+    if makes then opened (with_open (with_new_file v (first_sid v asked.client) name) asked (v.last_link + 1) (v.last_stream + 1)) WasCreated
     else refused v ObjectNameNotFound
 
 -- the last name is there: its default stream is opened, unless the file was to be made or the opens clash
 abbrev pub create_found : Volume → Asked → Bool → ℕ → ℕ → Outcome
-create_found v asked makes link stream =
+create_found v asked makes link file =
     if makes then refused v ObjectNameCollision
-    else if clashes_on_stream v stream asked.access asked.share then refused v SharingViolation
-    else opened (with_open v asked link stream) WasOpened
+    else if clashes_on_stream v (default_stream v file) asked.access asked.share then refused v SharingViolation
+    else opened (with_open v asked link (default_stream v file)) WasOpened
+
+-- the name is looked for in the root
+abbrev pub create_named : Volume → Asked → Bool → List ℕ → Outcome
+create_named v asked makes name =
+    option_map_or (λ entry. create_found v asked makes entry.0 entry.1.file) (child_of v 1 name) (create_missing v asked makes name)
 
 -- a path `\NAME`
 abbrev pub try_create : Volume → Asked → Disposition → List ℕ → Outcome
-try_create v asked disposition path =
-    option_map_or
-    (λ entry. create_found v asked (only_makes disposition) entry.0 (default_stream v entry.1.file))
-    (child_of v 1 (drop 1 path))
-    (create_missing v asked (only_makes disposition) (drop 1 path))
+try_create v asked disposition path = create_named v asked (only_makes disposition) (drop 1 path)

@@ -51,3 +51,7 @@ with_end v end = record v {
 -- one more call is pending, under its turn, with what it waits for
 abbrev pub with_pending : Volume → ℕ → Call → List Blocker → Volume
 with_pending v turn call blockers = record v { pending = v.pending ++ (turn, record { call = call; blockers = blockers }) ∷ [] }
+
+-- the clock goes on by so many ticks
+abbrev pub with_ticks : Volume → ℕ → Volume
+with_ticks v ticks = record v { clock = v.clock + ticks }

@@ -1,5 +1,5 @@
 -- What is looked for in a volume, over its whole lists.
-use Rattle.std.specs.Prelude.{ℕ, Bool, ◌==◌, ◌&&◌, List, [], Option, find, length, slice_get, slice_index}
+use Rattle.std.specs.Prelude.{ℕ, Bool, ◌==◌, ◌&&◌, List, [], Option, find, length, slice_get, unwrap_or}
 use Rattle.std.specs.Option.{option_map_or}
 use Rattle.std.specs.List.{list_any}
 use Rattle.fsa_types.specs.CaseTable.{same_name}
@@ -28,7 +28,7 @@ file_of_stream v stream = option_map_or (λ row. row.file) (row_of v.streams str
 
 -- the client's first SID
 abbrev pub first_sid : Volume → ℕ → ℕ
-first_sid v client = option_map_or (λ c. slice_index c.sids 0) (slice_get v.clients client) 0
+first_sid v client = option_map_or (λ c. unwrap_or (slice_get c.sids 0) 0) (slice_get v.clients client) 0
 
 -- the client has left
 abbrev pub has_left : Volume → ℕ → Bool

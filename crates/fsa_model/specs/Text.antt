@@ -1,5 +1,7 @@
 -- The printed text of a history.
-use Rattle.std.specs.Prelude.{ℕ, ◌+◌, ◌/◌, ◌%◌, nat_lt, List, [], ◌∷◌, ◌++◌, length, slice_get, codes, decimal, if◌then◌else◌}
+use Rattle.std.specs.Prelude.{ℕ, ◌+◌, ◌/◌, ◌%◌, nat_lt, List, [], ◌∷◌, ◌++◌, length, slice_get, codes, decimal, if◌then◌else◌, false, nat_eq, ◌==◌, Bool}
+use Rattle.std.specs.List.{slice_split, list_any}
+use Rattle.std.specs.Cmp.Lexicographic.{pointwise}
 use Rattle.std.specs.Option.{option_map_or}
 use Rattle.fsa_types.specs.Status.{status_name}
 use Rattle.fsa_types.specs.declared.request.Request.{Request}
@@ -145,3 +147,12 @@ shown_turns script history = option_map_or (λ r. turns_text script.setup.client
 -- the whole text of the history
 abbrev pub text : Script → List HistoryEntry → List ℕ
 text script history = shown_turns script history ++ last_line (length history)
+
+-- the third word of a line is NO_MEMORY: a call ended for want of memory
+abbrev pub line_shows_no_memory : List ℕ → Bool
+line_shows_no_memory line =
+    option_map_or (λ word. pointwise nat_eq word (codes "NO_MEMORY")) (slice_get (slice_split (λ byte. byte == 32) line) 2) false
+
+-- some line of a text shows NO_MEMORY
+abbrev pub shows_no_memory : List ℕ → Bool
+shows_no_memory bytes = list_any line_shows_no_memory (slice_split (λ byte. byte == 10) bytes)

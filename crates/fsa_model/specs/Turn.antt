@@ -1,10 +1,10 @@
 -- One turn: the try of the turn's own call, and then the settlement of what is pending.
 use Rattle.std.specs.Prelude.{ℕ, ◌+◌, List, [], ◌∷◌, ◌++◌, Option, Some, None, drop, length, option_map, if◌then◌else◌}
-use Rattle.fsa_types.specs.declared.status.Status.TheVariants.{InvalidHandle, InvalidDeviceRequest}
+use Rattle.fsa_types.specs.declared.status.Status.TheVariants.{Success, InvalidHandle, InvalidDeviceRequest}
 use Rattle.fsa_types.specs.declared.request.Request.{Request}
 use Rattle.fsa_types.specs.declared.request.Request.TheVariants.{Create, Close, Read, Write}
 use Rattle.fsa_types.specs.declared.request.What.{What}
-use Rattle.fsa_types.specs.declared.request.What.TheVariants.{Ask, Leave}
+use Rattle.fsa_types.specs.declared.request.What.TheVariants.{Ask, Tick, Leave}
 use Rattle.fsa_types.specs.declared.request.Call.{Call}
 use Rattle.fsa_types.specs.declared.request.CallId.{CallId}
 use Rattle.fsa_types.specs.declared.reply.Answer.{Answer}
@@ -12,8 +12,8 @@ use Rattle.fsa_types.specs.declared.reply.Answer.TheVariants.{Ended, Pending}
 use Rattle.fsa_types.specs.declared.reply.EndOf.{EndOf}
 use Rattle.fsa_model.specs.Volume.{Volume}
 use Rattle.fsa_model.specs.Lookups.{has_left}
-use Rattle.fsa_model.specs.Edits.{with_end, with_pending}
-use Rattle.fsa_model.specs.Outcome.{Outcome, Done, Stay, Hold, refused, TurnOut}
+use Rattle.fsa_model.specs.Edits.{with_end, with_pending, with_ticks}
+use Rattle.fsa_model.specs.Outcome.{Outcome, Done, Stay, Hold, ends_with, refused, TurnOut}
 use Rattle.fsa_model.specs.Create.{try_create}
 use Rattle.fsa_model.specs.Read.{try_read}
 use Rattle.fsa_model.specs.Write.{try_write}
@@ -30,6 +30,7 @@ try_request v client number _ = refused v InvalidDeviceRequest
 
 abbrev pub try_what : Volume → ℕ → ℕ → What → Outcome
 try_what v client number (Ask request) = try_request v client number request
+try_what v client number (Tick ticks) = ends_with (with_ticks v ticks) Success
 try_what v client number Leave = try_leave v client
 try_what v client number _ = refused v InvalidDeviceRequest
 

@@ -1,0 +1,5 @@
+pub mod Runs
+pub mod Seen
+pub mod Stands
+pub mod Store
+pub mod Try

@@ -6,6 +6,7 @@ mod copy;
 mod list;
 mod mask;
 mod memory;
+mod oplock;
 mod reply;
 mod request;
 mod request_copy;
@@ -13,13 +14,14 @@ mod setup;
 mod status;
 mod text;
 
-pub use case::UpcaseTable;
+pub use case::{TableFault, UpcaseTable};
 pub use copy::TryCopy;
 pub use list::BoundedList;
 pub use mask::{
     ATTRIBUTE_REPARSE_POINT, AccessMask, CreateOptions, FileAttributes, NotifyFilter, ShareAccess,
 };
 pub use memory::NoMemory;
+pub use oplock::{Class, HandleSet};
 pub use reply::{
     Action, Answer, Blocker, BlockerList, Body, EndList, EndOf, Entry, Interim, Out, PackKind,
     Poll, Reply, ReplyRoom, Submitted, Why,

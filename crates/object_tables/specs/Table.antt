@@ -1,5 +1,5 @@
 -- A table: rows under numbers that rise and are never given twice, beside the room for more rows.
-use Rattle.std.specs.Prelude.{ℕ, ◌<◌, ◌≤◌, List, refl, All, AllPairs}
+use Rattle.std.specs.Prelude.{ℕ, List, refl}
 use Rattle.std.specs.Coded.{Coded, code_by, coded×, coded_ℕ, coded_list}
 
 -- the rows with their numbers, in order; the last number that was given; and how many more rows
@@ -13,8 +13,3 @@ abbrev pub rows_code : {T : Type 0} → Coded T → Coded (Rows T)
 rows_code {T} code =
     code_by (List (ℕ × T) × (ℕ × ℕ)) (coded× (coded_list (coded× coded_ℕ code)) (coded× coded_ℕ coded_ℕ))
     (λ s. (s.rows, (s.last, s.room))) (λ p. record { rows = p.0; last = p.1.0; room = p.1.1 }) (λ _. refl)
-
--- the numbers rise, and each is at most the last one given
-pub record IsTable {T : Type 0} (rows : List (ℕ × T)) (last : ℕ) : Type 0 where
-  pub rising : AllPairs (λ a b. a.0 < b.0) rows
-  pub given : All (λ entry. entry.0 ≤ last) rows

@@ -1,9 +1,11 @@
 //! Rows under numbers that rise and are never given twice.
 
-ghost use Rattle.std.specs.Prelude.{◌≡◌, ◌≤◌, ◌<◌, ◌+◌, ◌^◌, ◌++◌, ◌∷◌, [], OnOk, OnErr, IsOk, IfOk, IfErr, All, AllPairs, position, ◌==◌};
+ghost use Rattle.std.specs.Prelude.{◌≡◌, ◌≤◌, ◌<◌, ◌+◌, ◌^◌, ◌++◌, ◌∷◌, [], OnOk, OnErr, IsOk, IfOk, IfErr, position, ◌==◌};
 ghost use Rattle.std.specs.Borrow.{sem};
-ghost use Rattle.std.specs.Option.{option_copied, option_copied_mut};
-ghost use Rattle.fsa_types.specs.Rows.{row_of, without_row};
+ghost use Rattle.std.specs.Fn.{CalledAt};
+ghost use Rattle.std.specs.List.Retain.{IsFiltered};
+ghost use Rattle.std.specs.Option.{option_copied, option_copied_mut, option_map_or};
+ghost use Rattle.fsa_types.specs.Rows.{row_of, without_row, with_row_changed, IsNumbered};
 
 use fsa_types::NoMemory;
 use std::alloc::{AllocFailed, Global};
@@ -17,7 +19,8 @@ pub struct Table<T> {
 }
 
 impl<T> Model for Table<T> {
-    ghost use Rattle.object_tables.specs.Table.{Rows, rows_code, IsTable};
+    ghost use Rattle.fsa_types.specs.Rows.{IsNumbered};
+    ghost use Rattle.object_tables.specs.Table.{Rows, rows_code};
     ghost use Rattle.std.specs.Prelude.{◌-◌};
     ghost use Rattle.std.specs.Vec.{vec_capacity, vec_len};
 
@@ -27,7 +30,7 @@ impl<T> Model for Table<T> {
 
     ghost view = { λ t. record { rows = t.rows.items; last = t.last; room = vec_capacity t.rows - vec_len t.rows } };
 
-    ghost invariant = { λ t. IsTable t.rows.items t.last };
+    ghost invariant = { λ t. IsNumbered t.rows.items t.last };
 }
 
 impl<T: Drop> Table<T> {
@@ -81,8 +84,7 @@ impl<T: Drop> Table<T> {
     /// All rows with their numbers, by rising number.
     pub fn as_slice(&self) -> &[(u64, T)]
         ensures rows { result.now ≡ self.now.rows }
-        ensures rising { AllPairs (λ a b. a.0 < b.0) self.now.rows }
-        ensures given { All (λ entry. entry.0 ≤ self.now.last) self.now.rows }
+        ensures numbered { IsNumbered self.now.rows self.now.last }
     {
         self.rows.as_slice()
     }
@@ -108,6 +110,9 @@ impl<T: Drop> Table<T> {
     pub fn get_mut(&mut self, id: u64) -> Option<&mut T>
         ensures* writes_back { sem 𝓛 (LendsRow T.row self.entry id result) }
         ensures row { option_copied_mut result ≡ row_of self.old.rows id }
+
+        // A change of the row that was found is a change of the row of this number.
+        ensures one { (change : T → T) → option_map_or (λ row. with_row_changed (λ _. change row) self.old.rows id) (row_of self.old.rows id) self.old.rows ≡ with_row_changed change self.old.rows id }
     {
         match place_of(&self.rows, id) {
             None => None,
@@ -137,6 +142,17 @@ impl<T: Drop> Table<T> {
             None => None,
             Some(place) => Some(self.rows.remove(place).1),
         }
+    }
+
+    /// Keeps the rows, seen with their numbers, at which `keep` answers `true`. It takes no memory,
+    /// and leaves the room as it was or larger.
+    pub fn retain<F: FnMut(&(u64, T)) -> bool>(&mut self, keep: F)
+        requires { F.IsAlwaysCallable keep }
+        ensures rows { IsFiltered (CalledAt F.FnMut) keep self.old.rows self.new.rows }
+        ensures last { self.new.last ≡ self.old.last }
+        ensures room { self.old.room ≤ self.new.room }
+    {
+        self.rows.retain(keep);
     }
 }
 

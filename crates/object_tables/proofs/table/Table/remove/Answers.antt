@@ -1,6 +1,6 @@
 use Rattle.std.proofs.Common.{sym, ◌∙◌, ap, Some, None, ◌≡◌, ℕ, ◌==◌}
 use Rattle.std.specs.List.{position}
-use Rattle.object_tables.proofs.RowLemmas.{row_of-none, without_row-none, IsTable-remove, IsAt-position, row_of-at, remove-at}
+use Rattle.fsa_types.proofs.RowLemmas.{row_of-none, without_row-none, IsNumbered-remove, IsAt-position, row_of-at, remove-at}
 use Rattle.object_tables.proofs.table.Table.remove.Goals as goal
 
 pub returns-in-None-clause-row : goal.returns-in-None-clause-row
@@ -12,7 +12,7 @@ returns-in-None-clause-rows g c = rw (← c.self.view_is) (sym (without_row-none
 pub invariant_of-self : goal.invariant_of-self
 invariant_of-self g c =
     let found : position (λ e. e.0 == c.args.id) c.self.inside.rows.items ≡ Some c.in-Some.place = sym (rw c.deref.ensures.value at c.in-Some.ensures) in
-    rw c.remove.ensures.items (IsTable-remove c.self.inside.rows.items _ c.args.id c.in-Some.place c.remove.result c.self.invariant found)
+    rw c.remove.ensures.items (IsNumbered-remove c.self.inside.rows.items _ c.args.id c.in-Some.place c.remove.result c.self.invariant found)
 
 pub returns-in-Some-clause-row : goal.returns-in-Some-clause-row
 returns-in-Some-clause-row g c =

@@ -1,6 +1,6 @@
 use Rattle.std.proofs.Common.{sym, ◌∙◌, ap, refl, Some, None, ◌≡◌, ℕ, ◌==◌}
 use Rattle.std.specs.List.{position}
-use Rattle.object_tables.proofs.RowLemmas.{IsTable-set, IsAt-position, row_of-at, set-at}
+use Rattle.fsa_types.proofs.RowLemmas.{IsNumbered-set, IsAt-position, row_of-at, set-at}
 use Rattle.object_tables.proofs.table.Table.row_mut.Goals as goal
 
 pub invariant_of-self-lent : goal.invariant_of-self-lent
@@ -8,7 +8,7 @@ invariant_of-self-lent g c w =
     let found : position (λ e. e.0 == c.args.id) c.self.inside.rows.items ≡ Some c.args.place = rw (← c.self.view_is) at c.requires in
     let at = IsAt-position c.self.inside.rows.items c.args.id c.args.place c.index_mut-entry.result.now found in
     let number : c.index_mut-entry.result.now.0 ≡ c.args.id = ap (λ e. e.0) c.index_mut-entry.ensures.value ∙ at.here c.index_mut-entry.result.now in
-    rw number (IsTable-set c.self.inside.rows.items _ c.args.id c.args.place c.index_mut-entry.result.now w c.self.invariant found)
+    rw number (IsNumbered-set c.self.inside.rows.items _ c.args.id c.args.place c.index_mut-entry.result.now w c.self.invariant found)
 
 pub returns : goal.returns
 returns g c =

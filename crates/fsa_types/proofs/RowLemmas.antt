@@ -1,15 +1,16 @@
 -- Laws of rows under rising numbers: what is at the place of a number.
-use Rattle.std.proofs.Common.{◌≡◌, ℕ, zero, suc, ◌+◌, ◌<◌, ◌≤◌, Bool, true, false, not, cond, List, [], ◌∷◌, ◌++◌, length, get_or, take, drop, refl, ap, sym, ◌∙◌, arith, inl, inr, Option, Some, None, eq-eqb, get_or-set_same, get_or-set_other}
-use Rattle.std.specs.List.{find, filter, list_any, remove, All, AllPairs, position, position_or_len}
-use Rattle.std.specs.Prelude.{◌==◌, map, option_map, if◌then◌else◌}
-use Rattle.std.proofs.lemmas.Bool.{ne_eqb, cases_eq, cases_lt, lt-ltb}
+use Rattle.std.proofs.Common.{◌≡◌, ℕ, zero, suc, ◌+◌, ◌<◌, ◌≤◌, Bool, true, false, not, cond, List, [], ◌∷◌, ◌++◌, length, get_or, take, drop, refl, ap, sym, ◌∙◌, arith, inl, inr, ◌⊎◌, Option, Some, None, eq-eqb, get_or-set_same, get_or-set_other}
+use Rattle.std.specs.List.{find, filter, list_any, remove, All, AllPairs, position, position_or_len, items_where_true}
+use Rattle.std.specs.Option.{option_map_or}
+use Rattle.std.specs.Prelude.{◌==◌, ◌||◌, map, option_map, if◌then◌else◌}
+use Rattle.std.proofs.lemmas.Bool.{ne_eqb, cases_Bool, cases_eq, cases_lt, lt-ltb}
 use Rattle.std.proofs.lemmas.List.Sums.{prefix_len-le-length, fails_before_first}
 use Rattle.std.proofs.lemmas.List.Quantifiers.{position-Some}
 use Rattle.std.proofs.lemmas.Bool.{eqb-true}
 use Rattle.std.proofs.Math.ListN.{set, length-set}
-use Rattle.std.proofs.lemmas.List.Kept.{AllPairs-filter}
+use Rattle.std.proofs.lemmas.List.Kept.{AllPairs-filter, AllPairs-cons}
 use Rattle.std.proofs.lemmas.List.Elements.{All-filter}
-use Rattle.object_tables.specs.Table.{IsTable}
+use Rattle.fsa_types.specs.Rows.{IsNumbered}
 use Rattle.fsa_types.specs.Rows.{row_of, lives, without_row, with_row_changed}
 
 -- the numbers rise
@@ -114,8 +115,8 @@ IsAt-position xs id i some found =
     }
 
 -- a table without the row at a place is a table
-pub IsTable-remove : {T : Type 0} (xs : List (ℕ × T)) (last id i : ℕ) (some : ℕ × T) → IsTable xs last → position (λ e. e.0 == id) xs ≡ Some i → IsTable (remove xs i) last
-IsTable-remove xs last id i some table found =
+pub IsNumbered-remove : {T : Type 0} (xs : List (ℕ × T)) (last id i : ℕ) (some : ℕ × T) → IsNumbered xs last → position (λ e. e.0 == id) xs ≡ Some i → IsNumbered (remove xs i) last
+IsNumbered-remove xs last id i some table found =
     let at = IsAt-position xs id i some found in
     rw (remove-at xs i some id table.rising at.within (at.here some)) (record {
       rising = AllPairs-filter (λ a b. a.0 < b.0) (λ e. not (e.0 == id)) xs table.rising;
@@ -131,12 +132,113 @@ number-set {T} xs id i row at k d =
     ]
 
 -- so it is a table with another row at that place
-pub IsTable-set : {T : Type 0} (xs : List (ℕ × T)) (last id i : ℕ) (some : ℕ × T) (row : T) → IsTable xs last → position (λ e. e.0 == id) xs ≡ Some i
-    → IsTable (set xs i (id, row)) last
-IsTable-set {T} xs last id i some row table found =
+pub IsNumbered-set : {T : Type 0} (xs : List (ℕ × T)) (last id i : ℕ) (some : ℕ × T) (row : T) → IsNumbered xs last → position (λ e. e.0 == id) xs ≡ Some i
+    → IsNumbered (set xs i (id, row)) last
+IsNumbered-set {T} xs last id i some row table found =
     let at = IsAt-position xs id i some found in
     record {
       rising = λ j k d below within.
           rw (number-set xs id i row at j d, number-set xs id i row at k d) (table.rising j k d below (omega (arith, length-set {A = ℕ × T})));
       given = λ k d within. rw (number-set xs id i row at k d) (table.given k d (omega (arith, length-set {A = ℕ × T})));
     }
+
+-- to change the row of a number is to put there what the change makes of it
+pub with_row_changed-one : {T : Type 0} (xs : List (ℕ × T)) (id : ℕ) (row : T) (change : T → T) → AreRising xs → row_of xs id ≡ Some row
+    → with_row_changed (λ _. change row) xs id ≡ with_row_changed change xs id
+with_row_changed-one [] id row change rising found = refl
+with_row_changed-one (x ∷ xs) id row change rising found =
+    elim (cases_Bool (x.0 == id)) [
+      | inl same ↦ (let is : Some x.1 ≡ Some row = rw same at found in
+          let here : x.1 ≡ row = cc in
+          let above : All (λ y. id < y.0) xs = λ k e w. let b : x.0 < (get_or xs k e).0 = AreRising-first x xs rising k e w in let n = eqb-true x.0 id same in omega arith in
+          rw (same, with_row_changed-above (λ _. change row) xs id above, with_row_changed-above change xs id above, here) refl)
+      | inr other ↦ rw other (ap (λ rest. x ∷ rest) (with_row_changed-one xs id row change (AreRising-rest x xs rising) (rw other at found)))
+    ]
+
+-- where there is no such row, nothing changes
+pub with_row_changed-none : {T : Type 0} (xs : List (ℕ × T)) (id : ℕ) (change : T → T) → row_of xs id ≡ None → with_row_changed change xs id ≡ xs
+with_row_changed-none [] id change none = refl
+with_row_changed-none (x ∷ xs) id change none =
+    elim (cases_Bool (x.0 == id)) [
+      | inl same ↦ (let impossible : Some x.1 ≡ None = rw same at none in cc)
+      | inr other ↦ rw other (ap (λ rest. x ∷ rest) (with_row_changed-none xs id change (rw other at none)))
+    ]
+
+option_cases : {X : Type 0} (o : Option X) → (o ≡ None) ⊎ ((x : X) × (o ≡ Some x))
+option_cases None = inl refl
+option_cases (Some x) = inr (x, refl)
+
+-- both at once
+pub changes_one : {T : Type 0} (xs : List (ℕ × T)) (id : ℕ) (change : T → T) → AreRising xs
+    → option_map_or (λ row. with_row_changed (λ _. change row) xs id) (row_of xs id) xs ≡ with_row_changed change xs id
+changes_one xs id change rising =
+    elim (option_cases (row_of xs id)) [
+      | inl none ↦ rw none (sym (with_row_changed-none xs id change none))
+      | inr some ↦ rw some.1 (with_row_changed-one xs id some.0 change rising some.1)
+    ]
+
+-- what is true of all is true of those that are kept
+pub All-where : {T : Type 0} (P : ℕ × T → Type 0) (bs : List Bool) (xs : List (ℕ × T)) → All P xs → All P (items_where_true bs xs)
+All-where P [] xs all k d within = absurd (omega arith)
+All-where P (b ∷ bs) [] all k d within = absurd (omega arith)
+All-where P (true ∷ bs) (x ∷ xs) all zero d within = all zero d (omega arith)
+All-where P (true ∷ bs) (x ∷ xs) all (suc k) d within = All-where P bs xs (λ j e w. all (suc j) e (omega arith)) k d (omega arith)
+All-where P (false ∷ bs) (x ∷ xs) all k d within = All-where P bs xs (λ j e w. all (suc j) e (omega arith)) k d within
+
+AreRising-where : {T : Type 0} (bs : List Bool) (xs : List (ℕ × T)) → AreRising xs → AreRising (items_where_true bs xs)
+AreRising-where [] xs rising = λ i j d below within. absurd (omega arith)
+AreRising-where (b ∷ bs) [] rising = λ i j d below within. absurd (omega arith)
+AreRising-where (true ∷ bs) (x ∷ xs) rising =
+    AllPairs-cons (λ a b. a.0 < b.0) x (items_where_true bs xs)
+    (All-where (λ y. x.0 < y.0) bs xs (AreRising-first x xs rising)) (AreRising-where bs xs (AreRising-rest x xs rising))
+AreRising-where (false ∷ bs) (x ∷ xs) rising = AreRising-where bs xs (AreRising-rest x xs rising)
+
+-- so the numbers of those that are kept rise
+pub IsNumbered-where : {T : Type 0} (bs : List Bool) (xs : List (ℕ × T)) (last : ℕ) → IsNumbered xs last → IsNumbered (items_where_true bs xs) last
+IsNumbered-where bs xs last numbered = record {
+  rising = AreRising-where bs xs numbered.rising;
+  given = All-where (λ entry. entry.0 ≤ last) bs xs numbered.given;
+}
+
+-- rows seen by a view: what changes one row changes what is seen of it
+pub map-change : {R S : Type 0} (view : R → S) (change : R → R) (seen_change : S → S) (rows : List (ℕ × R)) (id : ℕ)
+    → ((row : R) → view (change row) ≡ seen_change (view row))
+    → map (λ e. (e.0, view e.1)) (with_row_changed change rows id) ≡ with_row_changed seen_change (map (λ e. (e.0, view e.1)) rows) id
+map-change view change seen_change [] id seen = refl
+map-change view change seen_change (x ∷ xs) id seen =
+    elim (cases_Bool (x.0 == id)) [
+      | inl here ↦ rw (here, map-change view change seen_change xs id seen, seen x.1) refl
+      | inr other ↦ rw (other, map-change view change seen_change xs id seen) refl
+    ]
+
+-- a change that is not seen
+pub map-unseen : {R S : Type 0} (view : R → S) (change : R → R) (rows : List (ℕ × R)) (id : ℕ) → ((row : R) → view (change row) ≡ view row)
+    → map {B = ℕ × S} (λ e. (e.0, view e.1)) (with_row_changed change rows id) ≡ map (λ e. (e.0, view e.1)) rows
+map-unseen view change [] id same = refl
+map-unseen view change (x ∷ xs) id same =
+    elim (cases_Bool (x.0 == id)) [
+      | inl here ↦ rw (here, map-unseen view change xs id same, same x.1) refl
+      | inr other ↦ rw (other, map-unseen view change xs id same) refl
+    ]
+
+pub row_of-map : {R S : Type 0} (view : R → S) (rows : List (ℕ × R)) (id : ℕ) → row_of (map (λ e. (e.0, view e.1)) rows) id ≡ option_map view (row_of rows id)
+row_of-map view [] id = refl
+row_of-map view (x ∷ xs) id =
+    elim (cases_Bool (x.0 == id)) [
+      | inl here ↦ rw here refl
+      | inr other ↦ rw other (row_of-map view xs id)
+    ]
+
+pub lives-map : {R S : Type 0} (view : R → S) (rows : List (ℕ × R)) (id : ℕ) → lives (map (λ e. (e.0, view e.1)) rows) id ≡ lives rows id
+lives-map view [] id = refl
+lives-map view (x ∷ xs) id = ap (λ rest. x.0 == id || rest) (lives-map view xs id)
+
+-- a filter by what is seen
+pub map-filter_seen : {R S : Type 0} (view : R → S) (keep : ℕ × S → Bool) (rows : List (ℕ × R))
+    → map (λ e. (e.0, view e.1)) (filter (λ e. keep (e.0, view e.1)) rows) ≡ filter keep (map (λ e. (e.0, view e.1)) rows)
+map-filter_seen view keep [] = refl
+map-filter_seen view keep (x ∷ xs) =
+    elim (cases_Bool (keep (x.0, view x.1))) [
+      | inl kept ↦ rw kept (ap (λ rest. (x.0, view x.1) ∷ rest) (map-filter_seen view keep xs))
+      | inr gone ↦ rw gone (map-filter_seen view keep xs)
+    ]

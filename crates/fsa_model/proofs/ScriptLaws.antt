@@ -1,0 +1,351 @@
+-- Laws of scripts: their calls are numbered in turn, few, and within the bounds of requests.
+use Rattle.std.proofs.Common.{◌≡◌, ℕ, ◌+◌, ◌*◌, ◌<◌, ◌≤◌, suc, List, [], ◌∷◌, ◌++◌, length, map, Bool, true, false, cond, if◌then◌else◌, Option, Some, None, Result, Ok, Err, refl, ap, sym, subst, ◌∙◌, append_assoc, append-nil, arith, length-append, ne_eqb, eqb-true, leb-true, le-leb, ltb-true}
+use Rattle.std.proofs.lemmas.Bool.{and_parts}
+use Rattle.std.specs.Prelude.{◌==◌, ◌&&◌, not, nat_le, nat_lt, IsTrue, filter, is_some, codes, nat_eq, drop}
+use Rattle.std.specs.List.{enumerate_from, starts_with}
+use Rattle.fsa_types.specs.declared.request.Call.{Call}
+use Rattle.fsa_types.specs.declared.request.What.{What}
+use Rattle.fsa_types.specs.declared.request.What.TheVariants.{Ask, Tick}
+use Rattle.fsa_types.specs.declared.request.Request.TheVariants.{Create, Close, Read, Write}
+use Rattle.fsa_types.specs.Request.{what_fits}
+use Rattle.fsa_types.specs.CaseTable.{is_at_fault}
+use Rattle.fsa_model.specs.Setup.{Client, Script}
+use Rattle.fsa_model.specs.Fault.{Kind, Fault, ◌>>=◌, only_if, read_as}
+use Rattle.fsa_model.specs.Numbers.{digit_of, number_after, number_of}
+use Rattle.fsa_model.specs.Words.{same, word_of, after_word, field_at, number_at, mask_at, text_at, onto, bytes_of, string_of, string_at, ended, is_name}
+use Rattle.fsa_model.specs.Requests.{most_id, most_place, most_bytes, disposition_at, is_built_create, create_at, close_at, read_at, write_at, tick_at, what_of}
+use Rattle.fsa_model.specs.Lines.{Line, Version, DefaultTable, PairTable, Pair, ClientLine, RequestLine, pair_at, sids_at, client_at, request_of, line_of}
+use Rattle.fsa_model.specs.Script.{Reading, nothing_read, takes_version, takes_table, takes_pairs, takes_clients, takes_requests, place_of, next_number, with_call, with_client, take_client, take_call, take_request_of, take_request, take_line, line_after, end_after, at_line, lines_from, pieces, script_of}
+use Rattle.fsa_model.specs.Schedule.{calls_of, leave_after, AreNumbered, all_calls}
+use Rattle.fsa_model.proofs.ScheduleLaws.{calls_of-push}
+
+-- ---- the leaves behind the lines
+
+AreNumbered-append : (before front back : List Call) → AreNumbered before front → AreNumbered (before ++ front) back → AreNumbered before (front ++ back)
+AreNumbered-append before [] back first rest = subst (λ (calls : List Call). AreNumbered calls back) (append-nil before) rest
+AreNumbered-append before (call ∷ front) back first rest =
+    (first.0, AreNumbered-append (before ++ call ∷ []) front back first.1 (subst (λ (calls : List Call). AreNumbered calls back) (sym (append_assoc before (call ∷ []) front)) rest))
+
+-- a call of another client doesn't count
+calls_of-other : (client : ℕ) (calls : List Call) (call : Call) → call.client < client → calls_of client (calls ++ call ∷ []) ≡ calls_of client calls
+calls_of-other client calls call below =
+    let other : (call.client == client) ≡ false = ne_eqb call.client client (λ same. omega arith) in
+    calls_of-push client calls call ∙ rw other (omega arith)
+
+leaves-numbered : (lines before : List Call) (place : ℕ) (clients : List Client) → ((client : ℕ) → place ≤ client → calls_of client before ≡ calls_of client lines)
+    → AreNumbered before (map (λ numbered. leave_after lines numbered.0) (enumerate_from place clients))
+leaves-numbered lines before place [] counts = tt
+leaves-numbered lines before place (one ∷ clients) counts =
+    (ap (λ count. count + 1) (sym (counts place (omega arith))),
+     leaves-numbered lines (before ++ leave_after lines place ∷ []) (place + 1) clients
+       (λ client past. calls_of-other client before (leave_after lines place) (omega arith) ∙ counts client (omega arith)))
+
+-- the clients' leaves have the next numbers
+pub all_calls-numbered : (script : Script) → AreNumbered [] script.lines → AreNumbered [] (all_calls script)
+all_calls-numbered script numbered =
+    AreNumbered-append [] script.lines (map (λ numbered. leave_after script.lines numbered.0) (enumerate_from 0 script.setup.clients)) numbered
+    (leaves-numbered script.lines script.lines 0 script.setup.clients (λ client past. refl))
+
+-- ---- what holds of all that may be read
+
+-- what was read, if anything was, is so
+record Gives {A E : Type 0} (P : A → Type 0) (read : Result A E) : Type 0 where
+  given : (value : A) → read ≡ Ok value → P value
+
+ok-gives : {A E : Type 0} (P : A → Type 0) (value : A) → P value → Gives {E = E} P (Ok value)
+ok-gives P value holds = record { given = λ other is. let same : value ≡ other = cc in subst P same holds }
+
+err-gives : {A E : Type 0} (P : A → Type 0) (fault : E) → Gives {A = A} P (Err fault)
+err-gives P fault = record { given = λ value is. cc }
+
+bind-gives : {A B : Type 0} (P : A → Type 0) (Q : B → Type 0) (read : Result A Kind) (more : A → Result B Kind) → Gives P read → ((value : A) → P value → Gives Q (more value)) → Gives Q (read >>= more)
+bind-gives P Q (Ok value) more gives next = next value (gives.given value refl)
+bind-gives P Q (Err kind) more gives next = err-gives Q kind
+
+then-gives : {A B : Type 0} (Q : B → Type 0) (read : Result A Kind) (more : A → Result B Kind) → ((value : A) → Gives Q (more value)) → Gives Q (read >>= more)
+then-gives Q (Ok value) more next = next value
+then-gives Q (Err kind) more next = err-gives Q kind
+
+if-gives : {A E : Type 0} (P : A → Type 0) (test : Bool) (one other : Result A E) → (test ≡ true → Gives P one) → (test ≡ false → Gives P other) → Gives P (if test then one else other)
+if-gives P true one other holds fails = holds refl
+if-gives P false one other holds fails = fails refl
+
+only_if-gives : {A : Type 0} (P : A → Type 0) (test : Bool) (value : A) → P value → Gives P (only_if test value)
+only_if-gives P true value holds = ok-gives P value holds
+only_if-gives P false value holds = err-gives P _
+
+-- ---- the bounds of the fields
+
+-- the number that was read is at most this
+abbrev IsAtMost : ℕ → ℕ × List ℕ → Type 0
+IsAtMost most read = read.0 ≤ most
+
+if_some : {A : Type 0} (test : Bool) (read : Option A) (value : A) → (if test then read else None) ≡ Some value → test ≡ true
+if_some true read value is = refl
+if_some false read value is = cc
+
+else_some : {A : Type 0} (test : Bool) (read : Option A) (value : A) → (if test then None else read) ≡ Some value → read ≡ Some value
+else_some true read value is = cc
+else_some false read value is = is
+
+number_after-bound : (base most n : ℕ) (bytes : List ℕ) (number : ℕ) → n ≤ most → number_after base most n bytes ≡ Some number → number ≤ most
+number_after-bound base most n [] number below is = let same : n ≡ number = cc in omega arith
+number_after-bound base most n (byte ∷ bytes) number below is =
+    let within : (nat_lt (digit_of byte) base && nat_le (n * base + digit_of byte) most) ≡ true = if_some _ _ number is in
+    number_after-bound base most (n * base + digit_of byte) bytes number (leb-true _ most (and_parts (nat_lt (digit_of byte) base) (nat_le (n * base + digit_of byte) most) within).1) (rw within at is)
+
+number_of-bound : (base most : ℕ) (bytes : List ℕ) (number : ℕ) → number_of base most bytes ≡ Some number → number ≤ most
+number_of-bound base most [] number is = cc
+number_of-bound base most (byte ∷ []) number is = number_after-bound base most 0 (byte ∷ []) number (omega arith) is
+number_of-bound base most (byte ∷ second ∷ bytes) number is =
+    number_after-bound base most 0 (byte ∷ second ∷ bytes) number (omega arith) (else_some (byte == 48) _ number is)
+
+read_as-gives : {A : Type 0} (P : A → Type 0) (read : Option A) → ((value : A) → read ≡ Some value → P value) → Gives P (read_as read)
+read_as-gives P None holds = err-gives P _
+read_as-gives P (Some value) holds = ok-gives P value (holds value refl)
+
+number_at-bound : (most : ℕ) (bytes : List ℕ) → Gives (IsAtMost most) (number_at most bytes)
+unfolding number_at
+number_at-bound most bytes =
+    then-gives (IsAtMost most) (field_at bytes) _ (λ word.
+      bind-gives (λ (number : ℕ). number ≤ most) (IsAtMost most) (read_as (number_of 10 most word.0)) _ (read_as-gives (λ (number : ℕ). number ≤ most) (number_of 10 most word.0) (number_of-bound 10 most word.0)) (λ number below.
+        ok-gives (IsAtMost most) (number, word.1) below))
+
+-- a list has at most half as many items as this
+abbrev IsHalf : ℕ → List ℕ → Type 0
+IsHalf most items = length items + length items ≤ most
+
+onto-half : (most item : ℕ) (read : Result (List ℕ) Kind) → Gives (IsHalf most) read → Gives (IsHalf (suc (suc most))) (onto item read)
+onto-half most item (Ok items) half = ok-gives (IsHalf (suc (suc most))) (item ∷ items) (let few : length items + length items ≤ most = half.given items refl in omega arith)
+onto-half most item (Err kind) half = err-gives (IsHalf (suc (suc most))) kind
+
+bytes_of-half : (digits : List ℕ) → Gives (IsHalf (length digits)) (bytes_of digits)
+bytes_of-half [] = ok-gives (IsHalf 0) [] (omega arith)
+bytes_of-half (digit ∷ []) = err-gives (IsHalf 1) _
+bytes_of-half (high ∷ low ∷ digits) =
+    if-gives (IsHalf (suc (suc (length digits)))) (nat_lt (digit_of high) 16 && nat_lt (digit_of low) 16) _ _
+    (λ good. onto-half (length digits) (digit_of high * 16 + digit_of low) (bytes_of digits) (bytes_of-half digits))
+    (λ bad. err-gives (IsHalf (suc (suc (length digits)))) _)
+
+-- at most 16,384 bytes
+abbrev IsShort : List ℕ → Type 0
+IsShort items = length items ≤ 16384
+
+half-short : (most : ℕ) (read : Result (List ℕ) Kind) → most ≤ 32768 → Gives (IsHalf most) read → Gives IsShort read
+half-short most read few half = record { given = λ items is. let twice : length items + length items ≤ most = half.given items is in omega arith }
+
+string_of-short : (word : List ℕ) → Gives IsShort (string_of word)
+unfolding string_of
+string_of-short [] = err-gives IsShort _
+string_of-short (byte ∷ digits) =
+    if-gives IsShort (byte == 120 && nat_le (length digits) 32768) _ _
+    (λ good. half-short (length digits) (bytes_of digits) (leb-true _ 32768 (and_parts (byte == 120) (nat_le (length digits) 32768) good).1) (bytes_of-half digits))
+    (λ bad. err-gives IsShort _)
+
+abbrev IsShortAt : List ℕ × List ℕ → Type 0
+IsShortAt read = IsShort read.0
+
+string_at-short : (bytes : List ℕ) → Gives IsShortAt (string_at bytes)
+unfolding string_at
+string_at-short bytes =
+    then-gives IsShortAt (field_at bytes) _ (λ word.
+      bind-gives IsShort IsShortAt (string_of word.0) _ (string_of-short word.0) (λ string short. ok-gives IsShortAt (string, word.1) short))
+
+-- ---- the requests are within the bounds
+
+abbrev Fits : What → Type 0
+Fits what = IsTrue (what_fits what)
+
+ended-gives : {A : Type 0} (P : A → Type 0) (rest : List ℕ) (value : A) → P value → Gives P (ended rest value)
+ended-gives P rest value holds = only_if-gives P (length rest == 0) value holds
+
+create_at-fits : (bytes : List ℕ) → Gives Fits (create_at bytes)
+unfolding create_at
+create_at-fits bytes =
+    then-gives Fits (text_at bytes) _ (λ path. then-gives Fits (mask_at path.1) _ (λ wanted. then-gives Fits (mask_at wanted.1) _ (λ share.
+    then-gives Fits (disposition_at share.1) _ (λ disposition. then-gives Fits (mask_at disposition.1) _ (λ options. then-gives Fits (mask_at options.1) _ (λ attributes.
+    then-gives Fits (number_at 0 attributes.1) _ (λ key.
+    bind-gives Fits Fits (only_if (is_built_create path.0 wanted.0 share.0 options.0 attributes.0 key.0) (Ask (Create path.0 wanted.0 share.0 disposition.0 options.0 attributes.0 key.0))) _
+      (only_if-gives Fits (is_built_create path.0 wanted.0 share.0 options.0 attributes.0 key.0) (Ask (Create path.0 wanted.0 share.0 disposition.0 options.0 attributes.0 key.0)) refl)
+      (λ what fits. ended-gives Fits key.1 what fits))))))))
+
+close_at-fits : (bytes : List ℕ) → Gives Fits (close_at bytes)
+unfolding close_at
+close_at-fits bytes = then-gives Fits (number_at most_id bytes) _ (λ handle. ended-gives Fits handle.1 (Ask (Close handle.0)) refl)
+
+read_at-fits : (bytes : List ℕ) → Gives Fits (read_at bytes)
+unfolding read_at
+read_at-fits bytes =
+    then-gives Fits (number_at most_id bytes) _ (λ handle. then-gives Fits (number_at most_place handle.1) _ (λ place.
+    bind-gives (IsAtMost most_bytes) Fits (number_at most_bytes place.1) _ (number_at-bound most_bytes place.1) (λ count below.
+    ended-gives Fits count.1 (Ask (Read handle.0 place.0 count.0)) (le-leb count.0 16384 below))))
+
+write_at-fits : (bytes : List ℕ) → Gives Fits (write_at bytes)
+unfolding write_at
+write_at-fits bytes =
+    then-gives Fits (number_at most_id bytes) _ (λ handle. then-gives Fits (number_at most_place handle.1) _ (λ place.
+    bind-gives IsShortAt Fits (string_at place.1) _ (string_at-short place.1) (λ string short.
+    ended-gives Fits string.1 (Ask (Write handle.0 (Some place.0) string.0)) (le-leb (length string.0) 16384 short))))
+
+tick_at-fits : (bytes : List ℕ) → Gives Fits (tick_at bytes)
+unfolding tick_at
+tick_at-fits bytes = then-gives Fits (number_at most_id bytes) _ (λ ticks. ended-gives Fits ticks.1 (Tick ticks.0) refl)
+
+what_of-fits : (verb fields : List ℕ) → Gives Fits (what_of verb fields)
+unfolding what_of
+what_of-fits verb fields =
+    if-gives Fits (same verb (codes "create")) _ _ (λ is. create_at-fits fields)
+    (λ no. if-gives Fits (same verb (codes "close")) _ _ (λ is. close_at-fits fields)
+    (λ no. if-gives Fits (same verb (codes "read")) _ _ (λ is. read_at-fits fields)
+    (λ no. if-gives Fits (same verb (codes "write")) _ _ (λ is. write_at-fits fields)
+    (λ no. if-gives Fits (same verb (codes "tick")) _ _ (λ is. tick_at-fits fields)
+    (λ no. err-gives Fits _)))))
+
+-- a line that is a request is within the bounds
+abbrev LineFits : Line → Type 0
+LineFits (RequestLine name number what) = Fits what
+LineFits _ = Unit {0}
+
+pair_at-fits : (bytes : List ℕ) → Gives LineFits (pair_at bytes)
+unfolding pair_at
+pair_at-fits bytes = then-gives LineFits (mask_at bytes) _ (λ source. then-gives LineFits (mask_at source.1) _ (λ target. ended-gives LineFits target.1 (Pair source.0 target.0) tt))
+
+client_at-fits : (bytes : List ℕ) → Gives LineFits (client_at bytes)
+unfolding client_at
+client_at-fits bytes =
+    then-gives LineFits (field_at bytes) _ (λ word. then-gives LineFits (only_if (is_name word.0) word.0) _ (λ name. then-gives LineFits (number_at most_id word.1) _ (λ sid.
+    then-gives LineFits (sids_at 15 sid.1) _ (λ sids. ok-gives LineFits (ClientLine name (sid.0 ∷ sids)) tt))))
+
+request_of-fits : (bytes : List ℕ) → Gives LineFits (request_of bytes)
+unfolding request_of
+request_of-fits bytes =
+    then-gives LineFits (only_if (is_name (word_of bytes)) (word_of bytes)) _ (λ name. then-gives LineFits (number_at most_id (after_word bytes)) _ (λ number. then-gives LineFits (field_at number.1) _ (λ verb.
+    bind-gives Fits LineFits (what_of verb.0 verb.1) _ (what_of-fits verb.0 verb.1) (λ what fits. ok-gives LineFits (RequestLine name number.0 what) fits))))
+
+line_of-fits : (bytes : List ℕ) → Gives LineFits (line_of bytes)
+unfolding line_of
+line_of-fits bytes =
+    if-gives LineFits (same bytes (codes "fsa 1")) _ _ (λ is. ok-gives LineFits Version tt)
+    (λ no. if-gives LineFits (same bytes (codes "table default")) _ _ (λ is. ok-gives LineFits DefaultTable tt)
+    (λ no. if-gives LineFits (same bytes (codes "table pairs")) _ _ (λ is. ok-gives LineFits PairTable tt)
+    (λ no. if-gives LineFits (starts_with nat_eq bytes (codes "up 0x")) _ _ (λ is. pair_at-fits (drop 2 bytes))
+    (λ no. if-gives LineFits (starts_with nat_eq bytes (codes "client ")) _ _ (λ is. client_at-fits (drop 6 bytes))
+    (λ no. request_of-fits bytes)))))
+
+-- ---- the calls of the lines so far
+
+-- each call is within the bounds of requests
+abbrev pub AllFit : List Call → Type 0
+AllFit [] = Unit {0}
+AllFit (call ∷ more) = IsTrue (what_fits call.what) × AllFit more
+
+-- the calls are numbered in turn, each is within the bounds, and there are few
+record Lawful (lines : List Call) : Type 0 where
+  numbered : AreNumbered [] lines
+  fits : AllFit lines
+  few : length lines ≤ 64
+
+AllFit-push : (calls : List Call) (call : Call) → AllFit calls → IsTrue (what_fits call.what) → AllFit (calls ++ call ∷ [])
+AllFit-push [] call fit last = (last, tt)
+AllFit-push (one ∷ calls) call fit last = (fit.0, AllFit-push calls call fit.1 last)
+
+length-filter_calls : (calls : List Call) (client : ℕ) → length (filter (λ (call : Call). call.client == client) calls) ≡ calls_of client calls
+length-filter_calls [] client = refl
+length-filter_calls (call ∷ calls) client =
+    elim (call.client == client) as (λ test. length (cond test (call ∷ filter (λ (call : Call). call.client == client) calls) (filter (λ (call : Call). call.client == client) calls)) ≡ cond test 1 0 + calls_of client calls) [
+      true ↦ omega (arith, length-filter_calls calls client)
+      | false ↦ omega (arith, length-filter_calls calls client) ]
+
+Lawful-push : (lines : List Call) (call : Call) → Lawful lines → call.number ≡ next_number lines call.client → IsTrue (what_fits call.what) → length lines < 64 → Lawful (lines ++ call ∷ [])
+Lawful-push lines call lawful next fits few = record {
+  numbered = AreNumbered-append [] lines (call ∷ []) lawful.numbered (next ∙ ap (λ count. count + 1) (length-filter_calls lines call.client), tt);
+  fits = AllFit-push lines call lawful.fits fits;
+  few = omega (arith, length-append lines (call ∷ []));
+}
+
+abbrev IsLawful : Reading → Type 0
+IsLawful reading = Lawful reading.script.lines
+
+take_call-lawful : (reading : Reading) (client number : ℕ) (what : What) → IsLawful reading → IsTrue (what_fits what) → length reading.script.lines < 64 → Gives IsLawful (take_call reading client number what)
+unfolding take_call
+take_call-lawful reading client number what lawful fits few =
+    if-gives IsLawful (number == next_number reading.script.lines client) _ _
+    (λ is. ok-gives IsLawful (with_call reading client number what) (Lawful-push reading.script.lines (record { client = client; number = number; what = what }) lawful (eqb-true number (next_number reading.script.lines client) is) fits few))
+    (λ out. err-gives IsLawful _)
+
+take_request_of-lawful : (reading : Reading) (place : Option ℕ) (number : ℕ) (what : What) → IsLawful reading → IsTrue (what_fits what) → length reading.script.lines < 64 → Gives IsLawful (take_request_of reading place number what)
+take_request_of-lawful reading None number what lawful fits few = err-gives IsLawful _
+take_request_of-lawful reading (Some client) number what lawful fits few = take_call-lawful reading client number what lawful fits few
+
+right_true : (left right : Bool) → not (left && right) ≡ false → right ≡ true
+right_true true true e = refl
+right_true true false e = cc
+right_true false right e = cc
+
+take_request-lawful : (reading : Reading) (name : List ℕ) (number : ℕ) (what : What) → IsLawful reading → IsTrue (what_fits what) → Gives IsLawful (take_request reading name number what)
+unfolding take_request
+take_request-lawful reading name number what lawful fits =
+    if-gives IsLawful (not (takes_requests reading.stage && nat_lt (length reading.script.lines) 64)) _ _
+    (λ over. err-gives IsLawful _)
+    (λ within. take_request_of-lawful reading (place_of reading.script.setup.clients name) number what lawful fits (ltb-true _ 64 (right_true (takes_requests reading.stage) (nat_lt (length reading.script.lines) 64) within)))
+
+take_client-lawful : (reading : Reading) (name sids : List ℕ) → IsLawful reading → Gives IsLawful (take_client reading name sids)
+unfolding take_client
+take_client-lawful reading name sids lawful =
+    if-gives IsLawful (not (takes_clients reading.stage)) _ _ (λ bad. err-gives IsLawful _)
+    (λ good. if-gives IsLawful (is_some (place_of reading.script.setup.clients name)) _ _ (λ named. err-gives IsLawful _) (λ new. ok-gives IsLawful (with_client reading name sids) lawful))
+
+take_line-lawful : (reading : Reading) (line : Line) → IsLawful reading → LineFits line → Gives IsLawful (take_line reading line)
+unfolding take_line
+take_line-lawful reading Version lawful fits = only_if-gives IsLawful (takes_version reading.stage) _ lawful
+take_line-lawful reading DefaultTable lawful fits = only_if-gives IsLawful (takes_table reading.stage) _ lawful
+take_line-lawful reading PairTable lawful fits = only_if-gives IsLawful (takes_table reading.stage) _ lawful
+take_line-lawful reading (Pair source target) lawful fits =
+    only_if-gives IsLawful (takes_pairs reading.stage && nat_le source 65535 && nat_le target 65535 && not (is_at_fault reading.script.setup.table (source, target))) _ lawful
+take_line-lawful reading (ClientLine name sids) lawful fits = take_client-lawful reading name sids lawful
+take_line-lawful reading (RequestLine name number what) lawful fits = take_request-lawful reading name number what lawful fits
+
+line_after-lawful : (reading : Reading) (bytes : List ℕ) → IsLawful reading → Gives IsLawful (line_after reading bytes)
+unfolding line_after
+line_after-lawful reading bytes lawful = bind-gives LineFits IsLawful (line_of bytes) (take_line reading) (line_of-fits bytes) (λ line fits. take_line-lawful reading line lawful fits)
+
+abbrev HasLawful : Script → Type 0
+HasLawful script = Lawful script.lines
+
+end_after-lawful : (line : ℕ) (reading : Reading) (rest : List ℕ) → IsLawful reading → Gives HasLawful (end_after line reading rest)
+unfolding end_after
+end_after-lawful line reading rest lawful =
+    if-gives HasLawful (not (length rest == 0)) _ _ (λ cut. err-gives HasLawful _)
+    (λ whole. if-gives HasLawful (not (takes_requests reading.stage)) _ _ (λ bad. err-gives HasLawful _) (λ good. ok-gives HasLawful reading.script lawful))
+
+at_line-lawful : (line : ℕ) (read : Result Reading Kind) (more : Reading → Result Script Fault) → Gives IsLawful read → ((next : Reading) → IsLawful next → Gives HasLawful (more next)) → Gives HasLawful (at_line line read more)
+at_line-lawful line (Ok reading) more lawful next = next reading (lawful.given reading refl)
+at_line-lawful line (Err kind) more lawful next = err-gives HasLawful _
+
+lines_from-lawful : (line : ℕ) (reading : Reading) (texts : List (List ℕ)) → IsLawful reading → Gives HasLawful (lines_from line reading texts)
+lines_from-lawful line reading [] lawful = end_after-lawful line reading [] lawful
+lines_from-lawful line reading (bytes ∷ more) lawful =
+    if-gives HasLawful (length more == 0) _ _
+    (λ last. end_after-lawful line reading bytes lawful)
+    (λ inner. at_line-lawful line (line_after reading bytes) (λ next. lines_from (line + 1) next more) (line_after-lawful reading bytes lawful) (λ next kept. lines_from-lawful (line + 1) next more kept))
+
+script_of-gives : (bytes : List ℕ) → Gives HasLawful (script_of bytes)
+unfolding script_of
+script_of-gives bytes =
+    if-gives HasLawful (length bytes == 0) _ _ (λ none. err-gives HasLawful _)
+    (λ some. lines_from-lawful 1 nothing_read (pieces bytes) (record { numbered = tt; fits = tt; few = omega arith }))
+
+script_of-lawful : (bytes : List ℕ) (script : Script) → script_of bytes ≡ Ok script → Lawful script.lines
+script_of-lawful bytes script is = (script_of-gives bytes).given script is
+
+-- a script's calls are numbered in turn
+pub script_of-numbered : (bytes : List ℕ) (script : Script) → script_of bytes ≡ Ok script → AreNumbered [] script.lines
+script_of-numbered bytes script is = (script_of-lawful bytes script is).numbered
+
+-- a script's requests are within the bounds
+pub script_of-fits : (bytes : List ℕ) (script : Script) → script_of bytes ≡ Ok script → AllFit script.lines
+script_of-fits bytes script is = (script_of-lawful bytes script is).fits
+
+-- a script has few calls
+pub script_of-few : (bytes : List ℕ) (script : Script) → script_of bytes ≡ Ok script → length script.lines ≤ 64
+script_of-few bytes script is = (script_of-lawful bytes script is).few

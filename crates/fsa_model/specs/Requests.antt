@@ -1,0 +1,111 @@
+-- The requests that a script can make: for each verb the fields of its line. A verb, or a form of
+-- one, that stands here is built; any other is no line.
+use Rattle.std.specs.Prelude.{ℕ, ◌==◌, ◌&&◌, ◌||◌, not, nat_le, Bool, false, List, [], ◌∷◌, length, Option, Some, None, Result, Ok, Err, if◌then◌else◌, codes}
+use Rattle.std.specs.List.{list_all}
+use Rattle.fsa_types.specs.declared.request.What.{What}
+use Rattle.fsa_types.specs.declared.request.What.TheVariants.{Ask, Tick}
+use Rattle.fsa_types.specs.declared.request.Request.{Request}
+use Rattle.fsa_types.specs.declared.request.Request.TheVariants.{Create, Close, Read, Write}
+use Rattle.fsa_types.specs.declared.request.Disposition.{Disposition}
+use Rattle.fsa_types.specs.declared.request.Disposition.TheVariants.{OpenExisting, CreateNew}
+use Rattle.fsa_model.specs.Fault.{Kind, BadSyntax, ◌>>=◌, only_if}
+use Rattle.fsa_model.specs.Words.{same, word_of, after_word, field_at, number_at, mask_at, text_at, string_at, ended}
+
+-- handles, numbers of calls and SIDs are below 2 ^ 32
+abbrev pub most_id : ℕ
+most_id = 4294967295
+
+-- the places of a read and a write go up to here
+abbrev pub most_place : ℕ
+most_place = 65535
+
+-- the lengths of reads, writes and buffers go up to here
+abbrev pub most_bytes : ℕ
+most_bytes = 16384
+
+abbrev pub disposition_of : List ℕ → Result Disposition Kind
+disposition_of word =
+    if same word (codes "open") then Ok OpenExisting
+    else if same word (codes "create") then Ok CreateNew
+    else Err BadSyntax
+
+unfoldable pub disposition_at : List ℕ → Result (Disposition × List ℕ) Kind
+disposition_at bytes = do
+  word ← field_at bytes
+  disposition ← disposition_of word.0
+  Ok (disposition, word.1)
+
+-- a letter, a digit, `_` or `.`
+abbrev pub is_plain_unit : ℕ → Bool
+is_plain_unit unit = nat_le 97 unit && nat_le unit 122 || nat_le 65 unit && nat_le unit 90 || nat_le 48 unit && nat_le unit 57 || unit == 95 || unit == 46
+
+-- `.` or `..`
+abbrev pub is_dots : List ℕ → Bool
+is_dots name = nat_le (length name) 2 && list_all (λ unit. unit == 46) name
+
+-- `\` and a name of 1 to 32 of these units: a file in the root
+abbrev pub is_root_path : List ℕ → Bool
+is_root_path [] = false
+is_root_path (first ∷ name) = first == 92 && nat_le 1 (length name) && nat_le (length name) 32 && list_all is_plain_unit name && not (is_dots name)
+
+-- which creates are built: of a file in the root, wanted 0x1 or 0x3, any share, no options, no attributes, key 0
+abbrev pub is_built_create : List ℕ → ℕ → ℕ → ℕ → ℕ → ℕ → Bool
+is_built_create path wanted share options attributes key =
+    is_root_path path
+    && (wanted == 1 || wanted == 3)
+    && nat_le share 7
+    && options == 0
+    && attributes == 0
+    && key == 0
+
+-- path, wanted access, share access, disposition, options, attributes, key
+unfoldable pub create_at : List ℕ → Result What Kind
+create_at bytes = do
+  path ← text_at bytes
+  wanted ← mask_at path.1
+  share ← mask_at wanted.1
+  disposition ← disposition_at share.1
+  options ← mask_at disposition.1
+  attributes ← mask_at options.1
+  key ← number_at 0 attributes.1
+  what ← only_if (is_built_create path.0 wanted.0 share.0 options.0 attributes.0 key.0)
+      (Ask (Create path.0 wanted.0 share.0 disposition.0 options.0 attributes.0 key.0))
+  ended key.1 what
+
+-- handle
+unfoldable pub close_at : List ℕ → Result What Kind
+close_at bytes = do
+  handle ← number_at most_id bytes
+  ended handle.1 (Ask (Close handle.0))
+
+-- handle, place, length
+unfoldable pub read_at : List ℕ → Result What Kind
+read_at bytes = do
+  handle ← number_at most_id bytes
+  place ← number_at most_place handle.1
+  count ← number_at most_bytes place.1
+  ended count.1 (Ask (Read handle.0 place.0 count.0))
+
+-- handle, place, bytes
+unfoldable pub write_at : List ℕ → Result What Kind
+write_at bytes = do
+  handle ← number_at most_id bytes
+  place ← number_at most_place handle.1
+  string ← string_at place.1
+  ended string.1 (Ask (Write handle.0 (Some place.0) string.0))
+
+-- how far the clock goes on
+unfoldable pub tick_at : List ℕ → Result What Kind
+tick_at bytes = do
+  ticks ← number_at most_id bytes
+  ended ticks.1 (Tick ticks.0)
+
+-- what a verb and its fields say
+unfoldable pub what_of : List ℕ → List ℕ → Result What Kind
+what_of verb fields =
+    if same verb (codes "create") then create_at fields
+    else if same verb (codes "close") then close_at fields
+    else if same verb (codes "read") then read_at fields
+    else if same verb (codes "write") then write_at fields
+    else if same verb (codes "tick") then tick_at fields
+    else Err BadSyntax

@@ -1,0 +1,99 @@
+-- The text of a line: how a script writes what its lines say.
+use Rattle.std.specs.Prelude.{ℕ, ◌+◌, ◌*◌, ◌/◌, ◌%◌, ◌==◌, ◌&&◌, not, true, false, nat_le, nat_lt, Bool, List, [], ◌∷◌, ◌++◌, Some, None, if◌then◌else◌, length, codes}
+use Rattle.std.specs.List.{flat_map, list_all}
+use Rattle.fsa_types.specs.declared.request.What.{What}
+use Rattle.fsa_types.specs.declared.request.What.TheVariants.{Ask, Tick}
+use Rattle.fsa_types.specs.declared.request.Request.{Request}
+use Rattle.fsa_types.specs.declared.request.Request.TheVariants.{Create, Close, Read, Write}
+use Rattle.fsa_types.specs.declared.request.Disposition.{Disposition}
+use Rattle.fsa_types.specs.declared.request.Disposition.TheVariants.{OpenExisting, CreateNew}
+use Rattle.fsa_model.specs.Numbers.{glyph, spelled}
+use Rattle.fsa_model.specs.Words.{is_plain, is_name}
+use Rattle.fsa_model.specs.Requests.{most_id, most_place, is_built_create}
+use Rattle.fsa_model.specs.Lines.{Line, Version, DefaultTable, PairTable, Pair, ClientLine, RequestLine}
+
+-- a decimal number, and a mask, as fields
+abbrev pub number_text : ℕ → List ℕ
+number_text n = 32 ∷ spelled 10 n
+
+abbrev pub mask_text : ℕ → List ℕ
+mask_text n = 32 ∷ 48 ∷ 120 ∷ spelled 16 n
+
+-- the upper-case hexadecimal digit of a value
+abbrev pub upper_glyph : ℕ → ℕ
+upper_glyph digit = if nat_lt digit 10 then 48 + digit else 55 + digit
+
+-- a unit, as itself or as `%` and four digits
+abbrev pub unit_text : ℕ → List ℕ
+unit_text unit =
+    if is_plain unit then unit ∷ []
+    else 37 ∷ upper_glyph (unit / 16 / 16 / 16) ∷ upper_glyph (unit / 16 / 16 % 16) ∷ upper_glyph (unit / 16 % 16) ∷ upper_glyph (unit % 16) ∷ []
+
+abbrev pub text_text : List ℕ → List ℕ
+text_text units = 32 ∷ 61 ∷ flat_map unit_text units
+
+-- a byte in two digits
+abbrev pub byte_text : ℕ → List ℕ
+byte_text byte = glyph (byte / 16) ∷ glyph (byte % 16) ∷ []
+
+abbrev pub string_text : List ℕ → List ℕ
+string_text bytes = 32 ∷ 120 ∷ flat_map byte_text bytes
+
+abbrev pub disposition_text : Disposition → List ℕ
+disposition_text OpenExisting = 32 ∷ codes "open"
+disposition_text CreateNew = 32 ∷ codes "create"
+disposition_text _ = []
+
+abbrev pub is_built_disposition : Disposition → Bool
+is_built_disposition OpenExisting = true
+is_built_disposition CreateNew = true
+is_built_disposition _ = false
+
+-- a verb and its fields
+abbrev pub verb_text : What → List ℕ
+verb_text (Ask (Create path wanted share disposition options attributes key)) = codes "create"
+verb_text (Ask (Close handle)) = codes "close"
+verb_text (Ask (Read handle place count)) = codes "read"
+verb_text (Ask (Write handle place bytes)) = codes "write"
+verb_text (Tick ticks) = codes "tick"
+verb_text _ = []
+
+abbrev pub fields_text : What → List ℕ
+fields_text (Ask (Create path wanted share disposition options attributes key)) =
+    text_text path ++ (mask_text wanted ++ (mask_text share ++ (disposition_text disposition ++ (mask_text options ++ (mask_text attributes ++ number_text key)))))
+fields_text (Ask (Close handle)) = number_text handle
+fields_text (Ask (Read handle place count)) = number_text handle ++ (number_text place ++ number_text count)
+fields_text (Ask (Write handle (Some place) bytes)) = number_text handle ++ (number_text place ++ string_text bytes)
+fields_text (Tick ticks) = number_text ticks
+fields_text _ = []
+
+-- which calls a script can make at this time
+abbrev pub is_built : What → Bool
+is_built (Ask (Create path wanted share disposition options attributes key)) =
+    list_all (λ unit. nat_le unit 65535) path && is_built_disposition disposition && is_built_create path wanted share options attributes key
+is_built (Ask (Close handle)) = nat_le handle most_id
+is_built (Ask (Read handle place count)) = nat_le handle most_id && nat_le place most_place && nat_le count 16384
+is_built (Ask (Write handle (Some place) bytes)) =
+    nat_le handle most_id && nat_le place most_place && list_all (λ byte. nat_le byte 255) bytes && nat_le (length bytes) 16384
+is_built (Tick ticks) = nat_le ticks most_id
+is_built _ = false
+
+-- SIDs, each a field
+abbrev pub sids_text : List ℕ → List ℕ
+sids_text sids = flat_map number_text sids
+
+-- the text of a line, without its line feed
+abbrev pub line_text : Line → List ℕ
+line_text Version = codes "fsa 1"
+line_text DefaultTable = codes "table default"
+line_text PairTable = codes "table pairs"
+line_text (Pair source target) = codes "up" ++ (mask_text source ++ mask_text target)
+line_text (ClientLine name sids) = codes "client" ++ (32 ∷ (name ++ sids_text sids))
+line_text (RequestLine name number what) = name ++ (number_text number ++ (32 ∷ (verb_text what ++ fields_text what)))
+
+-- what lines can say
+abbrev pub is_line : Line → Bool
+is_line (Pair source target) = nat_le source 4294967295 && nat_le target 4294967295
+is_line (ClientLine name sids) = is_name name && nat_le 1 (length sids) && nat_le (length sids) 16 && list_all (λ sid. nat_le sid most_id) sids
+is_line (RequestLine name number what) = is_name name && nat_le number most_id && is_built what
+is_line _ = true

@@ -1,0 +1,3 @@
+pub mod RowChanges
+pub mod TurnFollows
+pub mod RunLaws

@@ -1,0 +1,124 @@
+-- Laws of a run: one more turn, and its end.
+use Rattle.std.proofs.Common.{◌≡◌, ℕ, ◌+◌, ◌*◌, ◌≤◌, List, [], ◌∷◌, ◌++◌, length, Option, Some, None, IsTrue, refl, ap, sym, subst, ◌∙◌, append_assoc, append-nil, arith, length-append}
+use Rattle.std.specs.Prelude.{map, false, drop}
+use Rattle.std.specs.List.{list_all, enumerate_from}
+use Rattle.fsa_types.specs.declared.request.Call.{Call}
+use Rattle.fsa_model.specs.Setup.{Client, Script}
+use Rattle.fsa_model.specs.Volume.{Volume, fresh}
+use Rattle.fsa_model.specs.Turn.{Turned, turn}
+use Rattle.fsa_model.specs.History.{HistoryEntry, Run, run, begun, with_turn}
+use Rattle.fsa_model.specs.Schedule.{AreNumbered, HasAllCalls, Scheduled, all_calls, is_made, next_in, plain, plain_entry}
+use Rattle.fsa_model.specs.Text.{last_line, shown_turns, shows_no_memory, text, turn_text}
+use Rattle.fsa_model.proofs.HistoryLaws.{run-push, shown_turns-push}
+use Rattle.fsa_model.proofs.ScheduleLaws.{Scheduled-none, Scheduled-push, entries-make_all, entries-push, length-entries, next_in-first, plain-scheduled}
+use Rattle.wire_io.specs.Sink.{Appends, AppendsFront}
+use Rattle.wire_io.proofs.SinkLaws.{Appends-append, Appends-none, AppendsFront-append, AppendsFront-longer, AppendsFront-whole}
+use Rattle.fsa_top.specs.Runs.{IsHistory, WritesPart}
+use Rattle.fsa_top.specs.Stands.{Shows, Stands, Turns, turns_of}
+use Rattle.fsa_top.specs.Try.{GivesUpTo, Goes}
+
+-- before the first turn
+pub Shows-begun : (script : Script) (v : Volume) (written : Option (List ℕ)) → v ≡ fresh script.setup → AreNumbered [] (all_calls script) → Shows script (all_calls script) v written written
+Shows-begun script v written is_fresh numbered = (
+  [],
+  begun script.setup,
+  record {
+    all = refl;
+    numbered = numbered;
+    runs = refl;
+    volume = sym is_fresh;
+    idle = ap (λ (w : Volume). w.pending) is_fresh;
+    scheduled = Scheduled-none script;
+    few = subst (λ (w : Volume). GivesUpTo w 1) (sym is_fresh) (record { files = omega arith; links = omega arith; streams = omega arith; handles = omega arith; clock = omega arith });
+  },
+  Appends-none written,
+)
+
+-- the history with one more call's turn
+pushed : (made : List Call) (call : Call) → turns_of (made ++ call ∷ []) ≡ turns_of made ++ plain_entry call ∷ []
+pushed made call = entries-push made call
+
+-- the next call of the history
+is_next : (script : Script) (made : List Call) (call : Call) (left : List Call) (v : Volume) (before : Run) → Stands script made (call ∷ left) v before → next_in (all_calls script) (turns_of made) before.volume ≡ Some call
+is_next script made call left v before stands =
+    subst (λ (calls : List Call). next_in calls (turns_of made) before.volume ≡ Some call) (sym stands.all)
+    (next_in-first made call left before.volume (subst (AreNumbered []) stands.all stands.numbered) (ap (λ (w : Volume). w.pending) stands.volume ∙ stands.idle))
+
+-- the turn of the next call, on the volume of the run
+turns_there : (script : Script) (made left : List Call) (v : Volume) (before : Run) (call : Call) (turned : Turned) → Stands script made left v before → turn v call [] ≡ Some turned → turn before.volume call [] ≡ Some turned
+turns_there script made left v before call turned stands turns = ap (λ (w : Volume). turn w call []) stands.volume ∙ turns
+
+-- one more turn of the next call
+Stands-turn : (script : Script) (made : List Call) (call : Call) (left : List Call) (v new : Volume) (before : Run) (turned : Turned) → Stands script made (call ∷ left) v before
+    → turn v call [] ≡ Some turned → new ≡ turned.volume → Goes v new → Stands script (made ++ call ∷ []) left new (with_turn before turned)
+Stands-turn script made call left v new before turned stands turns is_new goes =
+    let there = turns_there script made (call ∷ left) v before call turned stands turns in
+    record {
+      all = stands.all ∙ sym (append_assoc made (call ∷ []) left);
+      numbered = stands.numbered;
+      runs = ap (run script.setup) (pushed made call) ∙ run-push script.setup (turns_of made) (plain_entry call) before turned stands.runs there;
+      volume = sym is_new;
+      idle = goes.idle stands.idle;
+      scheduled = subst (Scheduled script) (sym (pushed made call)) (Scheduled-push script (turns_of made) (plain_entry call) before turned stands.scheduled stands.runs (is_next script made call left v before stands) there);
+      few = subst (GivesUpTo new) (ap (λ n. n + 1) (sym (length-append made (call ∷ [])))) (goes.gives (length made + 1) stands.few);
+    }
+
+-- what is shown after one more turn
+shown-turn : (script : Script) (made : List Call) (call : Call) (left : List Call) (v : Volume) (before : Run) (turned : Turned) → Stands script made (call ∷ left) v before
+    → turn v call [] ≡ Some turned → shown_turns script (turns_of (made ++ call ∷ [])) ≡ shown_turns script (turns_of made) ++ turn_text script.setup.clients call turned.out
+shown-turn script made call left v before turned stands turns =
+    ap (shown_turns script) (pushed made call)
+    ∙ shown_turns-push script (turns_of made) (plain_entry call) before turned stands.runs (turns_there script made (call ∷ left) v before call turned stands turns)
+
+-- the turn of the next call was made, and its lines were written
+pub Shows-turn : (script : Script) (call : Call) (left : List Call) (v new : Volume) (old mid now : Option (List ℕ)) (turned : Turned) → Shows script (call ∷ left) v old mid
+    → Turns v new script.setup.clients call mid now turned → Shows script left new old now
+Shows-turn script call left v new old mid now turned shows turns = (
+  shows.0 ++ call ∷ [],
+  with_turn shows.1 turned,
+  Stands-turn script shows.0 call left v new shows.1 turned shows.2 turns.turns turns.volume turns.goes,
+  subst (Appends old now) (sym (shown-turn script shows.0 call left v shows.1 turned shows.2 turns.turns)) (Appends-append old mid now _ _ shows.3 turns.wrote),
+)
+
+-- what was shown so far is a part of a text
+pub Shows-part : (script : Script) (left : List Call) (v : Volume) (old now : Option (List ℕ)) → Shows script left v old now → WritesPart script old now
+Shows-part script left v old now shows = (turns_of shows.0, shows.2.scheduled, AppendsFront-whole old now _ _ shows.3)
+
+-- what was shown so far, and a front of the lines of the next turn, is a part of a text
+pub Shows-front : (script : Script) (call : Call) (left : List Call) (v new : Volume) (old mid now : Option (List ℕ)) (turned : Turned) → Shows script (call ∷ left) v old mid
+    → turn v call [] ≡ Some turned → new ≡ turned.volume → Goes v new → AppendsFront mid now (turn_text script.setup.clients call turned.out) → WritesPart script old now
+Shows-front script call left v new old mid now turned shows turns is_new goes front = (
+  turns_of (shows.0 ++ call ∷ []),
+  (Stands-turn script shows.0 call left v new shows.1 turned shows.2 turns is_new goes).scheduled,
+  AppendsFront-longer old now _ _
+      (subst (AppendsFront old now) (sym (shown-turn script shows.0 call left v shows.1 turned shows.2 turns)) (AppendsFront-append old mid now _ _ shows.3 front)),
+)
+
+-- all calls were made
+all_made : (script : Script) (v : Volume) (old now : Option (List ℕ)) (shows : Shows script [] v old now) → shows.0 ≡ all_calls script
+all_made script v old now shows = sym (append-nil shows.0) ∙ sym shows.2.all
+
+-- the history of all calls
+pub IsHistory-whole : (script : Script) (v : Volume) (old now : Option (List ℕ)) (shows : Shows script [] v old now) → IsHistory script (turns_of (all_calls script))
+IsHistory-whole script v old now shows =
+    let scheduled : Scheduled script (turns_of (all_calls script)) = subst (λ (calls : List Call). Scheduled script (turns_of calls)) (all_made script v old now shows) shows.2.scheduled in
+    record {
+      scheduled = scheduled;
+      whole = entries-make_all (all_calls script);
+      plainly = λ _. sym (plain-scheduled script scheduled);
+    }
+
+-- the last line was written behind the lines of all turns
+pub Shows-whole : (script : Script) (v : Volume) (old mid now : Option (List ℕ)) (shows : Shows script [] v old mid) → Appends mid now (last_line (length (all_calls script))) → Appends old now (text script (turns_of (all_calls script)))
+Shows-whole script v old mid now shows last =
+    subst (λ (n : ℕ). Appends old now (shown_turns script (turns_of (all_calls script)) ++ last_line n)) (sym (length-entries (all_calls script)))
+    (Appends-append old mid now _ _ (subst (λ (calls : List Call). Appends old mid (shown_turns script (turns_of calls))) (all_made script v old mid shows) shows.3) last)
+
+-- a front of the last line was written behind them
+pub Shows-last_front : (script : Script) (v : Volume) (old mid now : Option (List ℕ)) (shows : Shows script [] v old mid) → AppendsFront mid now (last_line (length (all_calls script))) → WritesPart script old now
+Shows-last_front script v old mid now shows last = (
+  turns_of (all_calls script),
+  (IsHistory-whole script v old mid shows).scheduled,
+  subst (λ (n : ℕ). AppendsFront old now (shown_turns script (turns_of (all_calls script)) ++ last_line n)) (sym (length-entries (all_calls script)))
+  (AppendsFront-append old mid now _ _ (subst (λ (calls : List Call). Appends old mid (shown_turns script (turns_of calls))) (all_made script v old mid shows) shows.3) last),
+)

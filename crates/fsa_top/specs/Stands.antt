@@ -1,0 +1,58 @@
+-- How far a run has come: the calls that were made, those that are left, and the volume.
+use Rattle.std.specs.Prelude.{◌≡◌, Result, Ok, Err, ℕ, ◌+◌, List, [], ◌∷◌, ◌++◌, Option, Some, map, length}
+use Rattle.std.specs.List.{enumerate_from}
+use Rattle.fsa_types.specs.declared.request.Call.{Call}
+use Rattle.fsa_model.specs.Setup.{Client, Script}
+use Rattle.fsa_model.specs.Volume.{Volume}
+use Rattle.fsa_model.specs.Turn.{Turned, turn}
+use Rattle.fsa_model.specs.History.{HistoryEntry, Run, run}
+use Rattle.fsa_model.specs.Schedule.{AreNumbered, Scheduled, all_calls, leave_after, plain_entry}
+use Rattle.fsa_model.specs.Text.{shown_turns, turn_text}
+use Rattle.wire_io.specs.Sink.{Appends, AppendsFront}
+use Rattle.fsa_top.specs.Try.{Goes, GivesUpTo}
+use Rattle.fsa_top.specs.declared.run.RunFault.{RunFault}
+use Rattle.fsa_top.specs.declared.run.RunFault.TheVariants.{Failed, NoMemory}
+
+-- the history in which these calls were made, and none found no memory
+abbrev pub turns_of : List Call → List HistoryEntry
+turns_of calls = map plain_entry calls
+
+-- these calls were made and those are left, and the volume is as they left it
+pub record Stands (script : Script) (made left : List Call) (v : Volume) (before : Run) : Type 0 where
+  pub all : all_calls script ≡ made ++ left
+  pub numbered : AreNumbered [] (all_calls script)
+  pub runs : run script.setup (turns_of made) ≡ Some before
+  pub volume : before.volume ≡ v
+  pub idle : v.pending ≡ []
+  pub scheduled : Scheduled script (turns_of made)
+  pub few : GivesUpTo v (length made + 1)
+
+-- the lines of the calls that were made were written, and those calls are left
+abbrev pub Shows : Script → List Call → Volume → Option (List ℕ) → Option (List ℕ) → Type 0
+Shows script left v written written_now =
+    (made : List Call) × (before : Run) × Stands script made left v before × Appends written written_now (shown_turns script (turns_of made))
+
+-- the clients leave, from this one on
+abbrev pub leaves_from : List Call → ℕ → List Client → List Call
+leaves_from lines first clients = map (λ numbered. leave_after lines numbered.0) (enumerate_from first clients)
+
+-- a turn of this call was made, and its lines were written
+pub record Turns (old new : Volume) (clients : List Client) (call : Call) (written written_now : Option (List ℕ)) (turned : Turned) : Type 0 where
+  pub turns : turn old call [] ≡ Some turned
+  pub volume : new ≡ turned.volume
+  pub goes : Goes old new
+  pub wrote : Appends written written_now (turn_text clients call turned.out)
+
+-- a front of the lines of a turn of this call was written
+pub record TurnsInPart (old new : Volume) (clients : List Client) (call : Call) (written written_now : Option (List ℕ)) (turned : Turned) : Type 0 where
+  pub turns : turn old call [] ≡ Some turned
+  pub volume : new ≡ turned.volume
+  pub goes : Goes old new
+  pub wrote : AppendsFront written written_now (turn_text clients call turned.out)
+
+-- the turn was made and its lines were written; where the sink failed, a front of them was; where
+-- there was no memory, nothing was
+abbrev pub MakesTurn : Volume → Volume → List Client → Call → Option (List ℕ) → Option (List ℕ) → Result (Unit {0}) RunFault → Type 0
+MakesTurn old new clients call written written_now (Ok done) = (turned : Turned) × Turns old new clients call written written_now turned
+MakesTurn old new clients call written written_now (Err Failed) = (turned : Turned) × TurnsInPart old new clients call written written_now turned
+MakesTurn old new clients call written written_now (Err NoMemory) = written_now ≡ written

@@ -1,0 +1,2 @@
+mod CaseTableLemmas
+pub mod RowLemmas

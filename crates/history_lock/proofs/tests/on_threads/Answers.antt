@@ -1,0 +1,13 @@
+use Rattle.std.proofs.Common.{◌≡◌, ◌<◌, get_or, length, Some, sym, ap, ◌∙◌, subst, arith}
+use Rattle.history_lock.specs.Lock.{known, IsPassOf}
+use Rattle.history_lock.proofs.Places.{given_below, given_read, read_given}
+use Rattle.history_lock.proofs.tests.on_threads.Goals as goal
+
+-- the pass at place i is what the thread gave that took the pass at place i
+pub returns-clause-passes : goal.returns-clause-passes
+returns-clause-passes g c i p at = let below : i < length c.args.passes.items = (let a = given_below c.in-Ok.passes.items i p at in let b = c.in-Ok.ensures.len in let d = c.in-Ok.passes.ok.0 in let h = c.args.passes.ok.0 in omega arith) in
+    let is : get_or c.in-Ok.passes.items i p ≡ p = given_read c.in-Ok.passes.items i p p at in
+    let job = (c.in-Ok.ensures.each i p below).1 in
+    let taken = c.requires i job.job (read_given c.args.passes.items i job.job below ∙ ap Some (sym job.job_read)) in
+    let met = job.call.met in
+    (subst (λ z. IsPassOf (λ adder. adder.limit) c.args.lock.now z) is met.0, ap (λ z. (known z).own.client) (sym is) ∙ (met.1 ∙ taken.1))

@@ -1,0 +1,5 @@
+pub mod Answers
+pub mod History
+pub mod Lock
+pub mod Passes
+pub mod Turns

@@ -1,0 +1,148 @@
+//! The lock, and the calls that take a turn, look at the history or count its entries.
+ghost use Rattle.std.specs.Prelude.{◌≡◌, ◌<◌, ◌≤◌, length, IfOk, IfErr};
+
+use crate::answers::{Looked, Turned};
+use crate::machine::Machine;
+use crate::moves::{TURN, commit, look, release, take};
+use crate::pass::Pass;
+use crate::rule::{About, Turns};
+use crate::view::View;
+use atomic_table::Table;
+use fsa_types::NoMemory;
+use std::alloc::Global;
+use std::sync::Wait;
+
+/// A machine of which many threads make turns, one at a time. Threads share it by reference.
+///
+/// Clauses read of it the machine's base, `base_of`, and the number of its clients, `clients_of`.
+#[derive(Drop)]
+pub struct TurnLock<M: Machine> {
+    /// The turn word, the count of entries and the slot of the machine.
+    pub(crate) table: Table<
+        Option<M>,
+        View<M::Base, M::Entry, M::Call>,
+        About<M>,
+        Turns<M>,
+        Global,
+    >,
+    ghost sized: { (table.shared.table_id.words ≡ 2) × (table.shared.table_id.slots ≡ 1) × (1 ≤ table.shared.key.clients) },
+}
+
+impl<M: Machine> TurnLock<M> {
+    ghost use Rattle.history_lock.specs.Answers.{IfDid, IfBusy, IfRefused, IfSaw, OnUnseen, OnNoMemory};
+    ghost use Rattle.history_lock.specs.Turns.{beaten};
+    ghost use Rattle.history_lock.specs.Lock.{base_of, clients_of, known, IsPassOf};
+    ghost use Rattle.history_lock.specs.Passes.{Makes, Looks, Waited};
+
+    /// Makes one turn with the call, unless another pass holds the turn. It never waits.
+    ///
+    /// The call has to be one of the pass's client, which the machine allows after the calls that the
+    /// pass has made. `Busy` comes exactly where the exchange found the turn held by another pass: the
+    /// pass counts it, nothing else changes and no memory is taken. `Refused` is the machine's own
+    /// refusal, on the history that the pass has then seen; nothing was added to it.
+    pub fn try_turn(
+        &self,
+        alloc: Global,
+        pass: &mut Pass<M>,
+        call: M::Call,
+    ) -> Turned<M::Out, M::Call, M::Why>
+        requires pass { IsPassOf M.base self.now pass.old }
+        requires client { M.client_of call ≡ (known pass.old).own.client }
+        requires may { M.may_turn (base_of M.base self.now) (known pass.old).own.mine call }
+
+        ensures pass { IsPassOf M.base self.now pass.new }
+        ensures did { IfDid result (λ out. Makes M.call_of call (known pass.old) (known pass.new) × (out ≡ M.out_of (base_of M.base self.now) (known pass.new).own.seen)) }
+        ensures busy { IfBusy result (λ back. (back ≡ call) × (known pass.new ≡ beaten (known pass.old)) × (1 < clients_of self.now)) }
+        ensures refused { IfRefused result (λ back why. (back ≡ call) × Looks (known pass.old) (known pass.new) × M.why_of (base_of M.base self.now) (known pass.new).own.seen why) }
+    {
+        let top = &self.table.shared;
+        let Some(mut machine) = take(top, &mut pass.seat, pass.client) else {
+            return Turned::Busy(call);
+        };
+        match machine.turn(alloc, call) {
+            Ok(out) => {
+                commit(top, &mut pass.seat, machine);
+                pass.made += 1;
+                Turned::Did(out)
+            }
+            Err((back, why)) => {
+                look(top, &mut pass.seat);
+                release(top, &mut pass.seat, machine);
+                Turned::Refused(back, why)
+            }
+        }
+    }
+
+    /// Makes one turn with the call, as `try_turn` does. While another pass holds the turn it sleeps,
+    /// and tries again: it may wait forever, and no clause says that its turn comes.
+    pub fn turn(
+        &self,
+        rt: &impl Wait,
+        alloc: Global,
+        pass: &mut Pass<M>,
+        call: M::Call,
+    ) -> Result<M::Out, (M::Call, M::Why)>
+        requires pass { IsPassOf M.base self.now pass.old }
+        requires client { M.client_of call ≡ (known pass.old).own.client }
+        requires may { M.may_turn (base_of M.base self.now) (known pass.old).own.mine call }
+
+        ensures pass { IsPassOf M.base self.now pass.new }
+        ensures did { IfOk result (λ out. Waited (known pass.old) (known pass.new) (λ v w. Makes M.call_of call v w × (out ≡ M.out_of (base_of M.base self.now) w.own.seen))) }
+        ensures refused { IfErr result (λ back. (back.0 ≡ call) × Waited (known pass.old) (known pass.new) (λ v w. Looks v w × M.why_of (base_of M.base self.now) w.own.seen back.1)) }
+    {
+        let top = &self.table.shared;
+        let mut call = call;
+        for _ in rt.forever() {
+            match self.try_turn(alloc, pass, call) {
+                Turned::Did(out) => return Ok(out),
+                Turned::Refused(back, why) => return Err((back, why)),
+                Turned::Busy(back) => call = back,
+            }
+            let holder = top.peek(TURN);
+            if holder != 0 {
+                top.park(rt, TURN, (holder % (1 << 32)) as u32);
+            }
+        }
+        unreachable!()
+    }
+
+    /// Asks the machine what the history shows, unless another pass holds the turn. It never waits, and
+    /// adds nothing to the history.
+    ///
+    /// What is asked has to be allowed of what the pass has seen. `Saw` and `NoMemory` speak of the
+    /// history as it was when the pass loaded its length, which the pass has then seen. `NoMemory` comes
+    /// only where the look is a costly one, and `Busy` as in `try_turn`.
+    pub fn try_look(&self, alloc: Global, pass: &mut Pass<M>, ask: &M::Ask) -> Looked<M::Seen>
+        requires pass { IsPassOf M.base self.now pass.old }
+        requires may { M.may_look (known pass.old).own.seen ask.now }
+
+        ensures pass { IsPassOf M.base self.now pass.new }
+        ensures saw { IfSaw result (λ shown. Looks (known pass.old) (known pass.new) × (shown ≡ M.seen_of (base_of M.base self.now) (known pass.new).own.seen ask.now)) }
+        ensures busy { OnUnseen result ((known pass.new ≡ beaten (known pass.old)) × (1 < clients_of self.now)) }
+        ensures no_memory { OnNoMemory result (Looks (known pass.old) (known pass.new) × M.costly (base_of M.base self.now) (known pass.new).own.seen ask.now) }
+    {
+        let top = &self.table.shared;
+        let Some(machine) = take(top, &mut pass.seat, pass.client) else {
+            return Looked::Busy;
+        };
+        look(top, &mut pass.seat);
+        let answer = machine.look(alloc, ask);
+        release(top, &mut pass.seat, machine);
+        match answer {
+            Ok(shown) => Looked::Saw(shown),
+            Err(NoMemory) => Looked::NoMemory,
+        }
+    }
+
+    /// The number of entries of the history, which the pass has then seen. It never waits, not even
+    /// while another pass holds the turn, and takes no memory.
+    pub fn front(&self, pass: &mut Pass<M>) -> u64
+        requires pass { IsPassOf M.base self.now pass.old }
+
+        ensures pass { IsPassOf M.base self.now pass.new }
+        ensures looks { Looks (known pass.old) (known pass.new) }
+        ensures length { result ≡ length (known pass.new).own.seen }
+    {
+        look(&self.table.shared, &mut pass.seat)
+    }
+}

@@ -1,0 +1,5 @@
+mod CutLemmas
+mod NameExamples
+mod OrderLemmas
+mod PathExamples
+mod PathLemmas

@@ -1,0 +1,17 @@
+-- What the calls of this crate answer, in the words of the faults of paths.
+use Rattle.std.specs.Prelude.{◌≡◌, Option, Some, None, Result, Ok, Err}
+use Rattle.fsa_types.specs.Paths.{PathFault}
+use Rattle.fsa_types.specs.Paths as path
+use Rattle.names.specs.declared.fault.NameFault.{NameFault}
+use Rattle.names.specs.declared.fault.NameFault.TheVariants.{Empty, TooLong, BadUnit, BadStream}
+
+abbrev pub fault_of : NameFault → PathFault
+fault_of Empty = path.Empty
+fault_of TooLong = path.TooLong
+fault_of (BadUnit place) = path.BadUnit place
+fault_of BadStream = path.BadStream
+
+-- a check that answers `Ok` found no fault, and one that answers `Err` found this one
+abbrev pub Answers : {T : Type 0} → Option PathFault → Result T NameFault → Type 0
+Answers found (Ok value) = found ≡ None
+Answers found (Err fault) = found ≡ Some (fault_of fault)

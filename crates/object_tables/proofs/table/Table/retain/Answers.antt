@@ -1,0 +1,7 @@
+use Rattle.fsa_types.proofs.RowLemmas.{IsNumbered-where}
+use Rattle.object_tables.proofs.table.Table.retain.Goals as goal
+
+pub invariant_of-self : goal.invariant_of-self
+invariant_of-self g c =
+    let kept = c.retain.ensures.filtered in
+    rw kept.4 (IsNumbered-where kept.0 _ _ c.self.invariant)

@@ -1,0 +1,10 @@
+mod LineLemmas
+mod NameLemmas
+mod PairLemmas
+mod ReadLemmas
+mod ScriptLemmas
+mod SidLemmas
+mod SpellLemmas
+mod TakeLemmas
+mod TextLemmas
+mod VerbLemmas

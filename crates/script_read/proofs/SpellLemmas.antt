@@ -1,0 +1,158 @@
+-- What is written is read again: numbers, masks, texts and strings of bytes.
+use Rattle.std.proofs.Common.{◌≡◌, ◌∙◌, sym, ap, ℕ, zero, suc, ◌+◌, ◌-◌, ◌*◌, ◌/◌, ◌%◌, ◌^◌, ◌<◌, ◌≤◌, Bool, true, false, ◌&&◌, not, List, [], ◌∷◌, ◌++◌, Option, Some, None, length, map, take, drop, get_or, cond, eqb, ltb, inl, inr, ◌⊎◌, refl, arith, if◌then◌else◌}
+use Rattle.std.specs.Prelude.{Result, Ok, Err, nat_le, nat_lt, ◌==◌}
+use Rattle.std.specs.List.{position_or_len, prefix_len, flat_map, list_all}
+use Rattle.std.specs.Int.Digits.{digits_of}
+use Rattle.std.proofs.lemmas.Int.Digits.{digits_of_step, first_digits_of}
+use Rattle.std.proofs.lemmas.Nat.{div-add-mod'}
+use Rattle.std.proofs.Math.Nat.{div-lt_self}
+use Rattle.std.proofs.lemmas.List.{map-append, append-nil}
+use Rattle.std.proofs.lemmas.Bool.{cases_eq, ne_eqb}
+use Rattle.std.proofs.lemmas.Bool.Decides.{nat_tests}
+use Rattle.std.proofs.Math.Seq.{take-append_seam, drop-append_seam}
+use Rattle.fsa_model.specs.Fault.{Kind, BadSyntax, read_as}
+use Rattle.fsa_model.specs.Numbers.{digit_of, glyph, spelled, number_after, number_of}
+use Rattle.fsa_model.specs.Words.{word_of, after_word, field_at, number_at, mask_of, mask_at}
+use Rattle.fsa_model.specs.Spelling.{number_text, mask_text}
+
+-- ---- tests
+
+pub both : (a b : Bool) → (a && b) ≡ true → (a ≡ true) × (b ≡ true)
+both true true e = (refl, refl)
+both true false e = cc
+both false b e = cc
+
+pub at_most : (a b : ℕ) → nat_le a b ≡ true → a ≤ b
+at_most a b e = grind (arith, nat_tests)
+
+if_some : (test : Bool) (o : Option ℕ) (m : ℕ) → (if test then o else None) ≡ Some m → (test ≡ true) × (o ≡ Some m)
+if_some true o m e = (refl, e)
+if_some false o m e = cc
+
+-- ---- numbers
+
+pub digit_of-glyph : (digit : ℕ) → digit < 16 → digit_of (glyph digit) ≡ digit
+digit_of-glyph digit small = grind (arith, nat_tests)
+
+number_after-append : (base most n m : ℕ) (xs ys : List ℕ) → number_after base most n xs ≡ Some m
+    → number_after base most n (xs ++ ys) ≡ number_after base most m ys
+number_after-append base most n m [] ys e = let same : n ≡ m = cc in ap (λ k. number_after base most k ys) same
+number_after-append base most n m (x ∷ xs) ys e =
+    let parts = if_some (nat_lt (digit_of x) base && nat_le (n * base + digit_of x) most) (number_after base most (n * base + digit_of x) xs) m e in
+    rw parts.0 (number_after-append base most (n * base + digit_of x) m xs ys parts.1)
+
+number_after-digit : (base most n digit : ℕ) → base ≤ 16 → digit < base → n * base + digit ≤ most
+    → number_after base most n (glyph digit ∷ []) ≡ Some (n * base + digit)
+number_after-digit base most n digit small within below =
+    let reads : digit_of (glyph digit) ≡ digit = digit_of-glyph digit (omega arith) in
+    let test : (nat_lt digit base && nat_le (n * base + digit) most) ≡ true = grind (arith, nat_tests) in
+    rw (reads, test) refl
+
+number_after-digits : (fuel base most n : ℕ) → 2 ≤ base → base ≤ 16 → n ≤ fuel → n ≤ most
+    → number_after base most 0 (map glyph (digits_of base n)) ≡ Some n
+number_after-digits zero base most n two small enough below =
+    let none : n ≡ 0 = omega arith in rw none refl
+number_after-digits (suc fuel) base most n two small enough below =
+    elim (cases_eq n 0) [
+      inl none ↦ rw none refl
+    | inr some ↦
+        let less : n / base < n = div-lt_self (omega arith) (omega arith) in
+        let whole : n / base * base + n % base ≡ n = div-add-mod' n base in
+        let earlier = number_after-digits fuel base most (n / base) two small (omega arith) (omega arith) in
+        rw (digits_of_step base n two (omega arith), map-append)
+          (number_after-append base most 0 (n / base) (map glyph (digits_of base (n / base))) (glyph (n % base) ∷ []) earlier
+            ∙ number_after-digit base most (n / base) (n % base) small (omega arith) (omega arith)
+            ∙ ap Some whole)
+    ]
+
+number_of-digits : (base most n : ℕ) (digits : List ℕ) → 0 < get_or digits 0 0
+    → number_after base most 0 (map glyph digits) ≡ Some n → number_of base most (map glyph digits) ≡ Some n
+number_of-digits base most n [] first reads = absurd (omega arith)
+number_of-digits base most n (digit ∷ []) first reads = reads
+number_of-digits base most n (digit ∷ second ∷ digits) first reads =
+    let no_zero : (glyph digit == 48) ≡ false = grind (arith, nat_tests) in
+    rw no_zero reads
+
+pub number_of-spelled : (base most n : ℕ) → 2 ≤ base → base ≤ 16 → n ≤ most → number_of base most (spelled base n) ≡ Some n
+number_of-spelled base most n two small below =
+    elim (cases_eq n 0) [
+      inl none ↦
+        let test : (nat_lt 0 base && nat_le (0 * base + 0) most) ≡ true = grind (arith, nat_tests) in
+        let zero_ : 0 * base + 0 ≡ 0 = omega arith in
+        rw (none, test, zero_) refl
+    | inr some ↦
+        rw (ne_eqb n 0 some)
+          (number_of-digits base most n (digits_of base n) (first_digits_of base n two (omega arith))
+            (number_after-digits n base most n two small (omega arith) below))
+    ]
+
+-- ---- words
+
+-- no space among these bytes
+abbrev pub NoSpace : List ℕ → Type 0
+NoSpace [] = Unit {0}
+NoSpace (byte ∷ bytes) = ((byte == 32) ≡ false) × NoSpace bytes
+
+-- a word ends before these bytes
+abbrev pub EndsWord : List ℕ → Type 0
+EndsWord [] = Unit {0}
+EndsWord (byte ∷ bytes) = byte ≡ 32
+
+pub NoSpace-append : (xs ys : List ℕ) → NoSpace xs → NoSpace ys → NoSpace (xs ++ ys)
+NoSpace-append [] ys no_x no_y = no_y
+NoSpace-append (x ∷ xs) ys no_x no_y = (no_x.0, NoSpace-append xs ys no_x.1 no_y)
+
+abbrev is_space : ℕ → Bool
+is_space byte = byte == 32
+
+word_end : (word rest : List ℕ) → NoSpace word → EndsWord rest → position_or_len is_space (word ++ rest) ≡ length word
+word_end [] [] none ends = refl
+word_end [] (byte ∷ rest) none ends = rw ends refl
+word_end (byte ∷ word) rest none ends =
+    let later : position_or_len is_space (word ++ rest) ≡ length word = word_end word rest none.1 ends in
+    rw (none.0, later) (omega arith)
+
+pub word_of-again : (word rest : List ℕ) → NoSpace word → EndsWord rest → word_of (word ++ rest) ≡ word
+word_of-again word rest none ends = ap (λ n. take n (word ++ rest)) (word_end word rest none ends) ∙ take-append_seam word rest
+
+pub after_word-again : (word rest : List ℕ) → NoSpace word → EndsWord rest → after_word (word ++ rest) ≡ rest
+after_word-again word rest none ends = ap (λ n. drop n (word ++ rest)) (word_end word rest none ends) ∙ drop-append_seam word rest
+
+pub field_at-again : (word rest : List ℕ) → NoSpace word → EndsWord rest → field_at (32 ∷ (word ++ rest)) ≡ Ok (word, rest)
+unfolding field_at
+field_at-again word rest none ends =
+    let first : word_of (word ++ rest) ≡ word = word_of-again word rest none ends in
+    let second : after_word (word ++ rest) ≡ rest = after_word-again word rest none ends in
+    λ i. Ok (first i, second i)
+
+-- ---- numbers and masks as fields
+
+NoSpace-glyphs : (digits : List ℕ) → NoSpace (map glyph digits)
+NoSpace-glyphs [] = tt
+NoSpace-glyphs (digit ∷ digits) = ((let no : (glyph digit == 32) ≡ false = grind (arith, nat_tests) in no), NoSpace-glyphs digits)
+
+NoSpace-spelled : (base n : ℕ) → NoSpace (spelled base n)
+NoSpace-spelled base n = elim (cases_eq n 0) [
+    inl none ↦ rw none (refl, tt)
+  | inr some ↦ rw (ne_eqb n 0 some) (NoSpace-glyphs (digits_of base n))
+  ]
+
+pub number_at-again : (most n : ℕ) (rest : List ℕ) → n ≤ most → EndsWord rest → number_at most (number_text n ++ rest) ≡ Ok (n, rest)
+unfolding number_at
+number_at-again most n rest below ends =
+    rw (field_at-again (spelled 10 n) rest (NoSpace-spelled 10 n) ends, number_of-spelled 10 most n (omega arith) (omega arith) below) refl
+
+mask_of-again : (n : ℕ) → n ≤ 4294967295 → mask_of (48 ∷ 120 ∷ spelled 16 n) ≡ Ok n
+unfolding mask_of
+mask_of-again n below = rw (number_of-spelled 16 4294967295 n (omega arith) (omega arith) below) refl
+
+pub mask_at-again : (n : ℕ) (rest : List ℕ) → n ≤ 4294967295 → EndsWord rest → mask_at (mask_text n ++ rest) ≡ Ok (n, rest)
+unfolding mask_at
+mask_at-again n rest below ends =
+    rw (field_at-again (48 ∷ 120 ∷ spelled 16 n) rest (refl, (refl, NoSpace-spelled 16 n)) ends, mask_of-again n below) refl
+
+pub number_at-last : (most n : ℕ) → n ≤ most → number_at most (number_text n) ≡ Ok (n, [])
+number_at-last most n below = ap (number_at most) (sym (append-nil (number_text n))) ∙ number_at-again most n [] below tt
+
+pub mask_at-last : (n : ℕ) → n ≤ 4294967295 → mask_at (mask_text n) ≡ Ok (n, [])
+mask_at-last n below = ap mask_at (sym (append-nil (mask_text n))) ∙ mask_at-again n [] below tt

@@ -1,0 +1,34 @@
+-- How the answers of the reader stand to the definition of a script.
+use Rattle.std.specs.Prelude.{◌≡◌, Result, Ok, Err}
+use Rattle.script_read.specs.declared.fault.ScriptKind.{ScriptKind}
+use Rattle.script_read.specs.declared.fault.ScriptKind.TheVariants.{Cut, Syntax, Client, Number}
+use Rattle.script_read.specs.declared.fault.ScriptFault.{ScriptFault}
+use Rattle.script_read.specs.declared.fault.LineFault.{LineFault}
+use Rattle.script_read.specs.declared.fault.LineFault.TheVariants as line
+use Rattle.script_read.specs.declared.fault.ReadFault.{ReadFault}
+use Rattle.script_read.specs.declared.fault.ReadFault.TheVariants as read
+use Rattle.fsa_model.specs.Fault.{Kind, BadCut, BadSyntax, BadClient, BadNumber, Fault}
+
+abbrev pub kind_of : ScriptKind → Kind
+kind_of Cut = BadCut
+kind_of Syntax = BadSyntax
+kind_of Client = BadClient
+kind_of Number = BadNumber
+
+abbrev pub fault_of : ScriptFault → Fault
+fault_of fault = record { line = fault.line; kind = kind_of fault.kind }
+
+-- an error that a line's reader answers is the fault of the definition, or want of memory
+abbrev pub Fails : {Y : Type 0} → LineFault → Result Y Kind → Type 0
+Fails line.NoMemory defined = Unit {0}
+Fails (line.Bad kind) defined = defined ≡ Err (kind_of kind)
+
+-- what a line's reader answers, seen so, is what the definition gives, or want of memory
+abbrev pub Gives : {X Y : Type 0} → (X → Y) → Result X LineFault → Result Y Kind → Type 0
+Gives view (Ok x) defined = defined ≡ Ok (view x)
+Gives view (Err fault) defined = Fails fault defined
+
+-- the same of a whole script
+abbrev pub FailsScript : {Y : Type 0} → ReadFault → Result Y Fault → Type 0
+FailsScript read.NoMemory defined = Unit {0}
+FailsScript (read.Bad fault) defined = defined ≡ Err (fault_of fault)

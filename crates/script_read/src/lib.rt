@@ -1,0 +1,49 @@
+//! Reads scripts: the case table and the clients that a volume begins with, and the calls that the
+//! clients make, a line each. A script is one or it is refused with its least faulty line.
+//!
+//! ```text
+//! fsa 1
+//! client a 7
+//! client b 9 10
+//! a 1 create =\A.txt 0x3 0x7 create 0x0 0x0 0
+//! a 2 write 1 0 x68656c6c6f
+//! b 1 create =\a.TXT 0x1 0x7 open 0x0 0x0 0
+//! b 2 read 1 0 5
+//! ```
+//!
+//! `read_script(alloc, bytes)` gives the [`Script`] of such bytes: its `clients`, its `table` and
+//! its `lines`. Of bytes that are no script it answers [`ReadFault::Bad`] with the least faulty
+//! line, counted from 1, and the first kind of its fault: `Cut`, `Syntax`, `Client`, `Number`.
+//! `fsa 1\nclient a 7\na 1 flush 1\n` is refused so at line 3, with `Syntax`.
+//!
+//! It asks nothing of the bytes. It takes time linear in them, and one allocation for each list that
+//! the script has, beside two lists with room for as many clients and calls as there are lines.
+//!
+//! Caveats. The verbs are `create`, `close`, `read`, `write` and `tick`; another one, or a form of
+//! `create` that is not built, is `Syntax`. So is a place above 65,535, and the 65th request.
+//!
+//! To add a verb: a definition of its fields and a case of `what_of` in the definitions of requests,
+//! and here a function of the same name and its branch of `what_of`.
+#![tactic(auto)]
+
+mod fault;
+mod law;
+mod line;
+mod names;
+mod number;
+mod pairs;
+mod read;
+mod reading;
+mod request;
+mod script;
+mod stage;
+mod take;
+#[cfg(test)]
+mod tests;
+mod text;
+mod word;
+
+pub use law::one_reading;
+pub use fault::{ReadFault, ScriptFault, ScriptKind};
+pub use read::read_script;
+pub use script::Script;

@@ -1,0 +1,2 @@
+pub mod ClashLemmas
+pub mod CountLemmas

@@ -1,0 +1,129 @@
+//! The counters of the opens that are held on one stream or directory.
+
+ghost use Rattle.std.specs.Prelude.{◌≡◌, ◌&&◌, ◌||◌, ◌<◌, ◌-◌, ◌^◌, ◌++◌, ◌∷◌, [], List, ℕ};
+ghost use Rattle.std.specs.List.{list_any};
+ghost use Rattle.fsa_types.specs.Sharing.{clash, clashes, takes_part};
+ghost use Rattle.tallies.specs.Counts.{counts_of, meets_refusers, meets_users, Includes};
+
+use crate::sharing::{
+    deletes, reads, refuses_delete, refuses_read, refuses_write, shares_delete, shares_read,
+    shares_write, takes_part, writes,
+};
+use std::marker::Model;
+
+/// Counts of the opens that are held on one stream or directory, of their access and of what they
+/// keep from others, after [MS-FSA] 'Algorithm to Check Sharing Access to an Existing Stream or
+/// Directory'.
+#[derive(Debug, Drop)]
+pub struct ShareCounts {
+    // All of them.
+    opens: u32,
+    // Those with each access.
+    readers: u32,
+    writers: u32,
+    deleters: u32,
+    // Those that have some of these accesses and don't share this one.
+    read_refusers: u32,
+    write_refusers: u32,
+    delete_refusers: u32,
+}
+
+impl Model for ShareCounts {
+    ghost use Rattle.tallies.specs.Counts.{Counts};
+
+    ghost Value = { Counts };
+
+    ghost use Rattle.tallies.specs.Counters.{counts, AreCounts};
+
+    ghost view = { counts };
+
+    ghost invariant = { AreCounts };
+}
+
+impl ShareCounts {
+    /// The counts where no open is held.
+    pub fn new() -> ShareCounts
+        ensures { result ≡ counts_of [] }
+    {
+        ShareCounts {
+            opens: 0,
+            readers: 0,
+            writers: 0,
+            deleters: 0,
+            read_refusers: 0,
+            write_refusers: 0,
+            delete_refusers: 0,
+        }
+    }
+
+    /// Counts one more open, by its access mask without generic rights and by its share mask. Fewer
+    /// than 2^32 - 1 opens have to be held.
+    pub fn add(&mut self, access: u32, share: u32)
+        requires { self.old.opens < 2 ^ 32 - 1 }
+        ensures { (held : List (ℕ × ℕ)) → self.old ≡ counts_of held
+            → self.new ≡ counts_of (held ++ (access, share) ∷ []) }
+    {
+        self.opens += 1;
+        self.readers += reads(access) as u32;
+        self.writers += writes(access) as u32;
+        self.deleters += deletes(access) as u32;
+        self.read_refusers += refuses_read(access, share) as u32;
+        self.write_refusers += refuses_write(access, share) as u32;
+        self.delete_refusers += refuses_delete(access, share) as u32;
+    }
+
+    /// Counts an open no more. One with these two masks has to be held.
+    pub fn remove(&mut self, access: u32, share: u32)
+        requires { Includes self.old access share }
+        ensures { (front back : List (ℕ × ℕ)) → self.old ≡ counts_of (front ++ (access, share) ∷ back)
+            → self.new ≡ counts_of (front ++ back) }
+    {
+        self.opens -= 1;
+        self.readers -= reads(access) as u32;
+        self.writers -= writes(access) as u32;
+        self.deleters -= deletes(access) as u32;
+        self.read_refusers -= refuses_read(access, share) as u32;
+        self.write_refusers -= refuses_write(access, share) as u32;
+        self.delete_refusers -= refuses_delete(access, share) as u32;
+    }
+
+    /// Whether an open with this access mask, without generic rights, and this share mask clashes
+    /// with some open that is held: both have some of read access (READ_DATA or EXECUTE), write
+    /// access (WRITE_DATA or APPEND_DATA) and delete access (DELETE), and one has an access that the
+    /// other doesn't share.
+    pub fn clashes(&self, access: u32, share: u32) -> bool
+        ensures found { (held : List (ℕ × ℕ)) → self.now ≡ counts_of held
+            → result ≡ clashes held access share }
+        // It makes no difference which of two opens is there first.
+        ensures symmetric { (held : List (ℕ × ℕ)) → self.now ≡ counts_of held
+            → result ≡ list_any (λ other. clash other.0 other.1 access share) held }
+    {
+        self.meet(access, share)
+    }
+
+    // Whether the counts tell of an open that clashes with one of this access and this share.
+    fn meet(&self, access: u32, share: u32) -> bool
+        ensures { result
+            ≡ (meets_refusers self.now access || takes_part access && meets_users self.now share) }
+    {
+        self.refuse_some(access) || takes_part(access) && self.have_unshared(share)
+    }
+
+    // Whether some open that is held keeps from others an access that is in this mask.
+    fn refuse_some(&self, access: u32) -> bool
+        ensures { result ≡ meets_refusers self.now access }
+    {
+        reads(access) && self.read_refusers != 0
+            || writes(access) && self.write_refusers != 0
+            || deletes(access) && self.delete_refusers != 0
+    }
+
+    // Whether some open that is held has an access that this share mask leaves out.
+    fn have_unshared(&self, share: u32) -> bool
+        ensures { result ≡ meets_users self.now share }
+    {
+        self.readers != 0 && !shares_read(share)
+            || self.writers != 0 && !shares_write(share)
+            || self.deleters != 0 && !shares_delete(share)
+    }
+}
