@@ -46,7 +46,8 @@ question_mark_matches rest (first ∷ others) = rest others
 -- expression matches it without its first unit
 abbrev pub dos_star_matches : (List ℕ → Bool) → List ℕ → Bool
 dos_star_matches rest [] = rest []
-dos_star_matches rest (first ∷ others) = rest (first ∷ others) || (not (is_last_dot first others) && dos_star_matches rest others)
+dos_star_matches rest (first ∷ others) =
+    rest (first ∷ others) || (not (is_last_dot first others) && dos_star_matches rest others)
 
 -- `>`: where the name is empty or begins with `.` the rest matches it; else the rest matches it
 -- without its first unit

@@ -8,7 +8,8 @@ use Rattle.name_match.specs.declared.ends.Around.{Around}
 
 -- each cell says whether the expression from its place on matches the name
 pub record AreEnds (table : List (ℕ × ℕ)) (expression name : List ℕ) (row : List Bool) : Type 0 where
-  pub cells : (k : ℕ) → k ≤ length expression → slice_index_or row k false ≡ matches table (drop k expression) name
+  pub cells : (k : ℕ) → k ≤ length expression
+      → slice_index_or row k false ≡ matches table (drop k expression) name
 
 -- the row begins with these units, upcased
 pub record AreUpcased (table : List (ℕ × ℕ)) (units row : List ℕ) : Type 0 where
