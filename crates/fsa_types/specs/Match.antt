@@ -46,7 +46,8 @@ question_mark_matches rest (first ∷ others) = rest others
 -- expression matches it without its first unit
 abbrev pub dos_star_matches : (List ℕ → Bool) → List ℕ → Bool
 dos_star_matches rest [] = rest []
-dos_star_matches rest (first ∷ others) = rest (first ∷ others) || (not (is_last_dot first others) && dos_star_matches rest others)
+dos_star_matches rest (first ∷ others) =
+    rest (first ∷ others) || (not (is_last_dot first others) && dos_star_matches rest others)
 
 -- `>`: where the name is empty or begins with `.` the rest matches it; else the rest matches it
 -- without its first unit
@@ -74,9 +75,14 @@ first_matches table unit DosQm rest name = dos_qm_matches rest name
 first_matches table unit DosDot rest name = dos_dot_matches rest name
 first_matches table unit Literal rest name = literal_matches table unit rest name
 
+-- no unit is there
+abbrev pub is_empty : List ℕ → Bool
+is_empty [] = true
+is_empty (first ∷ others) = false
+
 -- an expression matches a name: by cases on its first unit, and without one where the name is empty
 abbrev pub matches : List (ℕ × ℕ) → List ℕ → List ℕ → Bool
-matches table [] name = length name == 0
+matches table [] name = is_empty name
 matches table (unit ∷ rest) name = first_matches table unit (sign_of unit) (matches table rest) name
 
 -- a unit that no expression has: below 0x20, or one of `\ / : |`

@@ -1,7 +1,7 @@
 -- Byte-range locks and what conflicts with them, after [MS-FSA] 'Algorithm for Determining if a Range
 -- Access Conflicts with Byte-Range Locks'. A range is its place and its count of bytes; numbers are
 -- whole, so that a range may end past the largest place.
-use Rattle.std.specs.Prelude.{ℕ, ◌+◌, ◌==◌, nat_lt, Bool, true, not, ◌&&◌, ◌||◌, List, [], ◌∷◌, if◌then◌else◌}
+use Rattle.std.specs.Prelude.{ℕ, ◌+◌, ◌==◌, nat_lt, Bool, not, ◌&&◌, ◌||◌, List, [], ◌∷◌, if◌then◌else◌}
 
 -- a lock ('Per ByteRangeLock'): the handle that holds it, its range, and exclusive or else shared
 pub record Lock : Type 0 where
@@ -10,7 +10,8 @@ pub record Lock : Type 0 where
   pub count : ℕ
   pub exclusive : Bool
 
--- each of two ranges begins before the other ends; so an empty one overlaps with what is on both sides of it
+-- each of two ranges begins before the other ends; so an empty range overlaps with one that has
+-- bytes on both sides of it
 abbrev pub overlap : ℕ → ℕ → ℕ → ℕ → Bool
 overlap at count other_at other_count = nat_lt at (other_at + other_count) && nat_lt other_at (at + count)
 

@@ -1,12 +1,8 @@
 -- Laws of the first item that passes a test: what is at its place, and the list without it.
-use Rattle.std.proofs.Common.{◌≡◌, ℕ, suc, ◌+◌, ◌<◌, ◌≤◌, Bool, true, false, List, [], ◌∷◌, length, get_or, refl, ap, arith, ◌⊎◌, inl, inr, Some, None}
+use Rattle.std.proofs.Common.{◌≡◌, ℕ, suc, ◌+◌, ◌<◌, ◌≤◌, Bool, List, [], ◌∷◌, length, get_or, refl, ap, arith, inl, inr, Some, None}
 use Rattle.std.specs.List.{find, remove, position, position_or_len}
-use Rattle.std.proofs.lemmas.Bool.{cases_lt, lt-ltb, le-ltb}
+use Rattle.std.proofs.lemmas.Bool.{cases_Bool, cases_lt, lt-ltb, le-ltb}
 use Rattle.fsa_types.specs.Ranges.{without_first}
-
-either : (b : Bool) → (b ≡ true) ⊎ (b ≡ false)
-either true = inl refl
-either false = inr refl
 
 -- no item passes
 pub record HasNone {A : Type 0} (p : A → Bool) (xs : List A) : Type 0 where
@@ -21,7 +17,7 @@ pub record HasFirst {A : Type 0} (p : A → Bool) (xs : List A) (i : ℕ) (d : A
 HasNone-past : {A : Type 0} (p : A → Bool) (xs : List A) → length xs ≤ position_or_len p xs → HasNone p xs
 HasNone-past p [] past = record { none = refl; same = refl }
 HasNone-past p (x ∷ xs) past =
-    elim (either (p x)) [
+    elim (cases_Bool (p x)) [
       | inl passes ↦ (let here = rw passes at past in absurd (omega arith))
       | inr fails ↦ (
           let here = rw fails at past in
@@ -32,7 +28,7 @@ HasNone-past p (x ∷ xs) past =
 HasFirst-within : {A : Type 0} (p : A → Bool) (xs : List A) (d : A) → position_or_len p xs < length xs → HasFirst p xs (position_or_len p xs) d
 HasFirst-within p [] d within = absurd (omega arith)
 HasFirst-within p (x ∷ xs) d within =
-    elim (either (p x)) [
+    elim (cases_Bool (p x)) [
       | inl passes ↦ rw passes (record { some = rw passes refl; rest = rw passes refl })
       | inr fails ↦ (
           let here = rw fails at within in

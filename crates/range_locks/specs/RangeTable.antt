@@ -1,6 +1,6 @@
 -- The byte-range locks of one stream in order, beside the room for more of them.
-use Rattle.std.specs.Prelude.{ℕ, Bool, List}
-use Rattle.fsa_types.specs.Ranges.{Lock, read_conflicts, write_conflicts, shared_conflicts, exclusive_conflicts}
+use Rattle.std.specs.Prelude.{ℕ, Bool, List, Option, ◌==◌, map, find, filter, option_map}
+use Rattle.fsa_types.specs.Ranges.{Lock, is_exactly, read_conflicts, write_conflicts, shared_conflicts, exclusive_conflicts}
 use Rattle.fsa_types.specs.declared.reply.Blocker.{Blocker}
 use Rattle.fsa_types.specs.declared.reply.Blocker.TheVariants.{Lock as LockOf}
 use Rattle.range_locks.specs.declared.range.Range.{Range}
@@ -26,3 +26,19 @@ conflicts Exclusive handle at count range = exclusive_conflicts handle at count 
 -- what a call waits for that this range blocks
 abbrev pub lock_blocker : Range → Blocker
 lock_blocker range = LockOf range.id
+
+-- a range is this handle's and exactly this one
+abbrev pub is_range : ℕ → ℕ → ℕ → Range → Bool
+is_range handle at count range = is_exactly handle at count (lock_of range)
+
+-- a range is this handle's
+abbrev pub is_of : ℕ → Range → Bool
+is_of handle range = range.handle == handle
+
+-- the number of the first range that passes the test
+abbrev pub first_id : (Range → Bool) → List Range → Option ℕ
+first_id passes ranges = option_map (λ range. range.id) (find passes ranges)
+
+-- all ranges that pass the test, as what a call waits for
+abbrev pub blockers_of : (Range → Bool) → List Range → List Blocker
+blockers_of passes ranges = map lock_blocker (filter passes ranges)

@@ -31,8 +31,8 @@ pub enum Want {
 }
 
 impl Range {
-    ghost use Rattle.range_locks.specs.RangeTable.{conflicts, lock_of};
-    ghost use Rattle.fsa_types.specs.Ranges.{meets, is_exactly};
+    ghost use Rattle.range_locks.specs.RangeTable.{conflicts, is_range, lock_of};
+    ghost use Rattle.fsa_types.specs.Ranges.{meets};
 
     // Whether it conflicts with what is wanted by this handle.
     pub(crate) fn conflicts(&self, want: Want, handle: u64, at: u64, count: u64) -> bool
@@ -56,7 +56,7 @@ impl Range {
 
     // Whether it is this handle's and exactly this range.
     pub(crate) fn is_exactly(&self, handle: u64, at: u64, count: u64) -> bool
-        ensures { result ≡ is_exactly handle at count (lock_of self.now) }
+        ensures { result ≡ is_range handle at count self.now }
     {
         self.handle == handle && self.at == at && self.count == count
     }

@@ -1,9 +1,9 @@
 //! The table of the ranges that are held.
 
-ghost use Rattle.std.specs.Prelude.{◌≡◌, ◌==◌, ◌≤◌, ◌+◌, ◌++◌, ◌∷◌, [], length, map, find, filter, count_by, position, option_map, IfOk, IsOk, OnOk, OnErr};
-ghost use Rattle.fsa_types.specs.Ranges.{is_exactly, without_first};
+ghost use Rattle.std.specs.Prelude.{◌≡◌, ◌==◌, ◌≤◌, ◌+◌, ◌++◌, ◌∷◌, [], length, count_by, position, IfOk, IsOk, OnOk, OnErr};
+ghost use Rattle.fsa_types.specs.Ranges.{without_first};
 ghost use Rattle.fsa_types.specs.BoundedList.{full};
-ghost use Rattle.range_locks.specs.RangeTable.{conflicts, lock_of, lock_blocker};
+ghost use Rattle.range_locks.specs.RangeTable.{conflicts, is_range, is_of, first_id, blockers_of};
 
 use crate::range::{Range, Want};
 use fsa_types::{Blocker, BlockerList, NoMemory};
@@ -53,7 +53,7 @@ impl RangeTable {
     /// The number of the first range that conflicts with what this handle wants; `None` exactly
     /// where there is none.
     pub fn conflict(&self, want: Want, handle: u64, at: u64, count: u64) -> Option<u64>
-        ensures { result ≡ option_map (λ range. range.id) (find (conflicts want handle at count) self.now.ranges) }
+        ensures { result ≡ first_id (conflicts want handle at count) self.now.ranges }
     {
         self.ranges
             .iter()
@@ -71,7 +71,7 @@ impl RangeTable {
         at: u64,
         count: u64,
     ) -> Result<BlockerList, NoMemory>
-        ensures { IfOk result (λ list. list ≡ full (map lock_blocker (filter (conflicts want handle at count) self.now.ranges))) }
+        ensures { IfOk result (λ list. list ≡ full (blockers_of (conflicts want handle at count) self.now.ranges)) }
     {
         let found = self.count_of_conflicts(want, handle, at, count);
         let Ok(room) = u32::try_from(found) else {
@@ -122,8 +122,8 @@ impl RangeTable {
     /// number; `None` exactly where there is none. It takes no memory, and leaves the spare room
     /// as it was or larger.
     pub fn remove(&mut self, handle: u64, at: u64, count: u64) -> Option<u64>
-        ensures id { result ≡ option_map (λ range. range.id) (find (λ range. is_exactly handle at count (lock_of range)) self.old.ranges) }
-        ensures ranges { self.new.ranges ≡ without_first (λ range. is_exactly handle at count (lock_of range)) self.old.ranges }
+        ensures id { result ≡ first_id (is_range handle at count) self.old.ranges }
+        ensures ranges { self.new.ranges ≡ without_first (is_range handle at count) self.old.ranges }
         ensures room { self.old.room ≤ self.new.room }
     {
         match place_of_range(&self.ranges, handle, at, count) {
@@ -135,8 +135,8 @@ impl RangeTable {
     /// Takes the first range of this handle out, and gives its number; `None` exactly where it
     /// has none. It takes no memory, and leaves the spare room as it was or larger.
     pub fn remove_any_of(&mut self, handle: u64) -> Option<u64>
-        ensures id { result ≡ option_map (λ range. range.id) (find (λ range. range.handle == handle) self.old.ranges) }
-        ensures ranges { self.new.ranges ≡ without_first (λ range. range.handle == handle) self.old.ranges }
+        ensures id { result ≡ first_id (is_of handle) self.old.ranges }
+        ensures ranges { self.new.ranges ≡ without_first (is_of handle) self.old.ranges }
         ensures room { self.old.room ≤ self.new.room }
     {
         match place_of_handle(&self.ranges, handle) {
@@ -148,7 +148,7 @@ impl RangeTable {
 
 // The place of the first range of this handle with exactly this place and count.
 fn place_of_range(ranges: &[Range], handle: u64, at: u64, count: u64) -> Option<usize>
-    ensures { result ≡ position (λ range. is_exactly handle at count (lock_of range)) ranges.now }
+    ensures { result ≡ position (is_range handle at count) ranges.now }
 {
     ranges
         .iter()
@@ -157,7 +157,7 @@ fn place_of_range(ranges: &[Range], handle: u64, at: u64, count: u64) -> Option<
 
 // The place of the first range of this handle.
 fn place_of_handle(ranges: &[Range], handle: u64) -> Option<usize>
-    ensures { result ≡ position (λ range. range.handle == handle) ranges.now }
+    ensures { result ≡ position (is_of handle) ranges.now }
 {
     ranges.iter().position(|range| range.handle == handle)
 }

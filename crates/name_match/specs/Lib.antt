@@ -1,0 +1,3 @@
+pub mod Ends
+pub mod Plan
+pub mod Serves

@@ -1,0 +1,104 @@
+//! Expressions: made once, and then matched with many names.
+
+ghost use Rattle.std.specs.Prelude.{◌≡◌, ◌↔◌, IfOk, IsErrOf, IsTrue};
+ghost use Rattle.std.specs.List.{list_any};
+ghost use Rattle.fsa_types.specs.Match.{is_bad_unit, is_refused, matches};
+
+use crate::ends::matches_by_ends;
+use crate::plan::{Plan, ends_in};
+use crate::signs::is_bad;
+use fsa_types::{NoMemory, TryCopy, UpcaseTable};
+use std::alloc::{AllocError, Global};
+use std::marker::Model;
+
+// The largest number of units of an expression.
+const MOST_UNITS: usize = 255;
+
+/// An expression: a list of at most 255 units.
+#[derive(Debug, Drop)]
+pub struct Expression {
+    units: Vec<u16>,
+    plan: Plan,
+}
+
+impl Model for Expression {
+    ghost use Rattle.std.specs.Prelude.{List, ℕ};
+    ghost use Rattle.name_match.specs.Serves.{IsExpression};
+
+    ghost Value = { List ℕ };
+
+    ghost view = { λ e. e.units.items };
+
+    ghost invariant = { λ e. IsExpression e.units.items e.plan };
+}
+
+/// Why there is no expression of some units.
+#[derive(Clone, Copy, Debug, PartialEq, Eq)]
+pub enum ExpressionFault {
+    /// There are more than 255 units, or one of them is below 0x20 or one of `\ / : |`.
+    Bad,
+    /// There was no memory for it.
+    NoMemory,
+}
+
+impl From<AllocError> for ExpressionFault {
+    ghost use Rattle.std.specs.Prelude.{◌≡◌};
+    ghost use Rattle.name_match.specs.declared.expression.ExpressionFault.{ExpressionFault};
+
+    ghost from_gives = { λ _ fault. fault ≡ ExpressionFault.NoMemory };
+
+    fn from(_error: AllocError) -> ExpressionFault {
+        ExpressionFault::NoMemory
+    }
+}
+
+impl Expression {
+    /// An expression of these units. `Bad` exactly where they are refused.
+    pub fn new(alloc: Global, units: &[u16]) -> Result<Expression, ExpressionFault>
+        ensures ok { IfOk result (λ expression. expression ≡ units.now) }
+        ensures bad { IsErrOf result ExpressionFault.Bad ↔ IsTrue (is_refused units.now) }
+    {
+        if is_refused(units) {
+            return Err(ExpressionFault::Bad);
+        }
+        let plan = Plan::of(units);
+        let units = Vec::from_slice(alloc, units)?;
+        Ok(Expression { units, plan })
+    }
+
+    /// Whether the expression matches a name, whose units and its own are compared by this table.
+    pub fn matches(&self, table: &UpcaseTable, units: &[u16]) -> bool
+        ensures { result ≡ matches table.now self.now units.now }
+    {
+        match self.plan {
+            Plan::Every => true,
+            Plan::Literal => table.same_name(&self.units, units),
+            Plan::Suffix => ends_in(table, &self.units[1..], units),
+            Plan::Ends => matches_by_ends(table, &self.units, units),
+        }
+    }
+}
+
+impl TryCopy for Expression {
+    fn copy(&self, alloc: Global) -> Result<Expression, NoMemory> {
+        let units = Vec::from_slice(alloc, &self.units)?;
+        Ok(Expression {
+            units,
+            plan: self.plan,
+        })
+    }
+}
+
+// Whether these units are refused.
+fn is_refused(units: &[u16]) -> bool
+    ensures { result ≡ is_refused units.now }
+{
+    units.len() > MOST_UNITS || has_bad(units)
+}
+
+// Whether one of these units is in no expression.
+fn has_bad(units: &[u16]) -> bool
+    ensures { result ≡ list_any is_bad_unit units.now }
+{
+    units.iter().any(|unit| is_bad(*unit))
+}

@@ -1,0 +1,54 @@
+//! How an expression is matched: a straight way where there is one.
+
+ghost use Rattle.std.specs.Prelude.{◌≡◌};
+ghost use Rattle.std.specs.List.{list_all};
+ghost use Rattle.name_match.specs.Plan.{is_literal, ends_in};
+
+use crate::signs::{STAR, is_literal};
+use fsa_types::UpcaseTable;
+
+/// The way in which an expression is matched.
+#[derive(Clone, Copy, Debug)]
+pub(crate) enum Plan {
+    /// `*` alone: every name.
+    Every,
+    /// Literal units alone: the same name.
+    Literal,
+    /// `*` and then literal units alone: a name that ends in them.
+    Suffix,
+    /// Anything else: by the ends of the expression.
+    Ends,
+}
+
+impl Plan {
+    ghost use Rattle.name_match.specs.Serves.{Serves};
+
+    // The plan for these units.
+    pub(crate) fn of(units: &[u16]) -> Plan
+        ensures { Serves result units.now }
+    {
+        match units {
+            [STAR] => Plan::Every,
+            [STAR, literal @ ..] if are_literal(literal) => Plan::Suffix,
+            _ if are_literal(units) => Plan::Literal,
+            _ => Plan::Ends,
+        }
+    }
+}
+
+// Whether all units stand for themselves.
+fn are_literal(units: &[u16]) -> bool
+    ensures { result ≡ list_all is_literal units.now }
+{
+    units.iter().all(|unit| is_literal(*unit))
+}
+
+// Whether a name ends in these units.
+pub(crate) fn ends_in(table: &UpcaseTable, literal: &[u16], name: &[u16]) -> bool
+    ensures { result ≡ ends_in table.now literal.now name.now }
+{
+    match name.len().checked_sub(literal.len()) {
+        Some(start) => table.same_name(literal, &name[start..]),
+        None => false,
+    }
+}
