@@ -1,6 +1,8 @@
+mod ScriptExamples
 pub mod Examples
 pub mod HistoryLaws
+pub mod RowLaws
 pub mod ScheduleLaws
-mod ScriptExamples
 pub mod ScriptLaws
+pub mod SoundLaws
 pub mod TurnLaws

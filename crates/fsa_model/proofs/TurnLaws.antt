@@ -7,7 +7,7 @@ use Rattle.fsa_types.specs.declared.reply.Reply.{Reply}
 use Rattle.fsa_types.specs.declared.reply.Answer.TheVariants.{Ended}
 use Rattle.fsa_types.specs.declared.reply.EndOf.{EndOf}
 use Rattle.fsa_model.specs.Volume.{Volume}
-use Rattle.fsa_model.specs.Edits.{with_end}
+use Rattle.fsa_model.specs.VerbEdits.{with_end}
 use Rattle.fsa_model.specs.Outcome.{Outcome, Done, TurnOut}
 use Rattle.fsa_model.specs.Turn.{try, turn, turned, Turned, turn_number, answered, settled, ends_between}
 

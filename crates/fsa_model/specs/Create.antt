@@ -9,9 +9,9 @@ use Rattle.fsa_types.specs.declared.reply.Action.{Action}
 use Rattle.fsa_types.specs.declared.reply.Action.TheVariants.{Opened as WasOpened, Created as WasCreated}
 use Rattle.fsa_types.specs.declared.reply.Body.TheVariants.{Opened}
 use Rattle.fsa_model.specs.Volume.{Volume, File}
-use Rattle.fsa_model.specs.Lookups.{child_of, first_sid, default_stream}
+use Rattle.fsa_model.specs.VerbLookups.{child_of, first_sid, default_stream}
 use Rattle.fsa_model.specs.Sharing.{clashes_on_stream}
-use Rattle.fsa_model.specs.Edits.{with_file, with_link, with_stream, with_handle}
+use Rattle.fsa_model.specs.VerbEdits.{with_file, with_link, with_stream, with_handle}
 use Rattle.fsa_model.specs.Outcome.{Outcome, Done, refused}
 
 -- the disposition makes a file, and takes none that is there

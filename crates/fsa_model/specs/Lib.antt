@@ -1,3 +1,6 @@
+pub mod Breaks
+pub mod Changes
+pub mod Charge
 pub mod Close
 pub mod Create
 pub mod Edits
@@ -13,10 +16,13 @@ pub mod Schedule
 pub mod Script
 pub mod Setup
 pub mod Sharing
+pub mod Sound
 pub mod Soundness
 pub mod Spelling
 pub mod Text
 pub mod Turn
+pub mod VerbEdits
+pub mod VerbLookups
 pub mod Volume
 pub mod Words
 pub mod Write

@@ -6,7 +6,7 @@ use Rattle.fsa_types.specs.StreamBytes.{slice}
 use Rattle.fsa_types.specs.declared.status.Status.TheVariants.{Success, InvalidHandle, InvalidDeviceRequest, AccessDenied, InvalidParameter, EndOfFile}
 use Rattle.fsa_types.specs.declared.reply.Body.TheVariants.{Got}
 use Rattle.fsa_model.specs.Volume.{Volume, Handle}
-use Rattle.fsa_model.specs.Lookups.{handle_of, bytes_of}
+use Rattle.fsa_model.specs.VerbLookups.{handle_of, bytes_of}
 use Rattle.fsa_model.specs.Outcome.{Outcome, Done, refused}
 
 -- the largest end of a read or a write

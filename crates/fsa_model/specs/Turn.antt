@@ -12,7 +12,7 @@ use Rattle.fsa_types.specs.declared.reply.Answer.TheVariants.{Ended, Pending}
 use Rattle.fsa_types.specs.declared.reply.EndOf.{EndOf}
 use Rattle.fsa_model.specs.Volume.{Volume}
 use Rattle.fsa_model.specs.Lookups.{has_left}
-use Rattle.fsa_model.specs.Edits.{with_end, with_pending, with_ticks}
+use Rattle.fsa_model.specs.VerbEdits.{with_end, with_pending, with_ticks}
 use Rattle.fsa_model.specs.Outcome.{Outcome, Done, Stay, Hold, ends_with, refused, TurnOut}
 use Rattle.fsa_model.specs.Create.{try_create}
 use Rattle.fsa_model.specs.Read.{try_read}

@@ -1,6 +1,7 @@
 -- The volume: a record of plain lists, after the abstract data model of [MS-FSA], 'Per Volume' to
 -- 'Per Oplock'.
-use Rattle.std.specs.Prelude.{ℕ, Bool, true, List, [], ◌∷◌, Option, None}
+use Rattle.std.specs.Prelude.{ℕ, Bool, true, List, [], ◌∷◌, Option, None, false, map}
+pub use Rattle.fsa_types.specs.Rows.{row_of, lives, without_row, with_row_changed}
 use Rattle.fsa_types.specs.declared.request.Ace.{Ace}
 use Rattle.fsa_types.specs.declared.request.Call.{Call}
 use Rattle.fsa_types.specs.declared.request.Level.{Level}
@@ -92,7 +93,8 @@ pub record Change : Type 0 where
   pub bits : ℕ
   pub seen_from : List (ℕ × List ℕ)
 
--- files, links, streams, handles and locks stand under their numbers, pending calls under their turns
+-- files, links, streams, handles and locks stand under their numbers, pending calls under their
+-- turns; for each client, in order, whether it has left
 pub record Volume : Type 0 where
   pub table : List (ℕ × ℕ)
   pub clients : List Client
@@ -108,7 +110,7 @@ pub record Volume : Type 0 where
   pub changes : List Change
   pub limits : List (ℕ × ℕ)
   pub clock : ℕ
-  pub left : List ℕ
+  pub left : List Bool
   pub last_file : ℕ
   pub last_link : ℕ
   pub last_stream : ℕ
@@ -137,7 +139,7 @@ fresh setup = record {
   changes = [];
   limits = [];
   clock = 0;
-  left = [];
+  left = map (λ _. false) setup.clients;
   last_file = 1;
   last_link = 0;
   last_stream = 0;

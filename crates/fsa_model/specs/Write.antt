@@ -5,8 +5,8 @@ use Rattle.fsa_types.specs.Access.{has_any}
 use Rattle.fsa_types.specs.declared.status.Status.TheVariants.{Success, InvalidHandle, InvalidDeviceRequest, AccessDenied, InvalidParameter}
 use Rattle.fsa_types.specs.declared.reply.Body.TheVariants.{Count}
 use Rattle.fsa_model.specs.Volume.{Volume, Handle}
-use Rattle.fsa_model.specs.Lookups.{handle_of, bytes_of, file_of_stream}
-use Rattle.fsa_model.specs.Edits.{with_bytes, with_file_written}
+use Rattle.fsa_model.specs.VerbLookups.{handle_of, bytes_of, file_of_stream}
+use Rattle.fsa_model.specs.VerbEdits.{with_bytes, with_file_written}
 use Rattle.fsa_model.specs.Read.{largest_end}
 use Rattle.fsa_model.specs.Outcome.{Outcome, Done, refused}
 

@@ -3,7 +3,7 @@ use Rattle.std.proofs.Common.{◌≡◌, ℕ, ◌≤◌, ◌+◌, List, [], Resu
 use Rattle.std.specs.Prelude.{filter, not, ◌==◌, ◌&&◌}
 use Rattle.fsa_types.specs.declared.reply.EndOf.{EndOf}
 use Rattle.fsa_model.specs.Volume.{Volume, Pending}
-use Rattle.fsa_model.specs.Edits.{with_end}
+use Rattle.fsa_model.specs.VerbEdits.{with_end}
 use Rattle.fsa_top.specs.Try.{Grows, Goes, GivesUpTo}
 
 pub Goes-with_end : (old after : Volume) (end : EndOf) → Grows old after → Goes old (with_end after end)

@@ -9,7 +9,6 @@ pub record Spare : Type 0 where
   pub streams : ℕ
   pub handles : ℕ
   pub ended : ℕ
-  pub left : ℕ
 
 pub record Seen : Type 0 where
   pub content : Volume

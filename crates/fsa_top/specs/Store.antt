@@ -37,5 +37,4 @@ spare_of s = record {
   streams = s.streams.room;
   handles = vec_capacity s.handles - vec_len s.handles;
   ended = s.ended.room;
-  left = s.left.room;
   }

@@ -39,11 +39,10 @@ pub record Goes (old new : Volume) : Type 0 where
   pub idle : old.pending ≡ [] → new.pending ≡ []
   pub gives : (most : ℕ) → GivesUpTo old most → GivesUpTo new (most + 1)
 
--- there is room for a file with its link and its stream, a handle, an end and a leaving
+-- there is room for a file with its link and its stream, a handle and an end
 pub record HasRoom (spare : Spare) : Type 0 where
   pub files : 1 ≤ spare.files
   pub links : 1 ≤ spare.links
   pub streams : 1 ≤ spare.streams
   pub handles : 1 ≤ spare.handles
   pub ended : 1 ≤ spare.ended
-  pub left : 1 ≤ spare.left

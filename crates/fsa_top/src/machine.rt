@@ -3,7 +3,7 @@
 ghost use Rattle.std.specs.Prelude.{◌≡◌, ◌≤◌, ℕ, [], IfOk, OnOk, OnErr, Some, IsTrue};
 ghost use Rattle.fsa_types.specs.Reply.{bytes_of_body, units_of_body};
 ghost use Rattle.fsa_types.specs.Request.{request_fits, what_fits};
-ghost use Rattle.fsa_model.specs.Edits.{with_end};
+ghost use Rattle.fsa_model.specs.VerbEdits.{with_end};
 ghost use Rattle.fsa_model.specs.Outcome.{out_of};
 ghost use Rattle.fsa_model.specs.Turn.{try, try_request, try_what, turn, turn_number};
 ghost use Rattle.fsa_top.specs.Try.{Gives, GivesUpTo, Goes, Grows, HasRoom, reply_bytes};

@@ -4,9 +4,10 @@ ghost use Rattle.std.specs.Prelude.{◌≡◌, false, None, [], ◌≤◌, ◌<�
 ghost use Rattle.fsa_types.specs.Rows.{with_row_changed, without_row};
 ghost use Rattle.fsa_model.specs.Setup.{client_of};
 ghost use Rattle.fsa_model.specs.Volume.{fresh};
-ghost use Rattle.fsa_model.specs.Lookups.{bytes_of, child_of, default_stream, file_of_stream, first_sid, handle_of, has_left};
+ghost use Rattle.fsa_model.specs.VerbLookups.{bytes_of, child_of, default_stream, file_of_stream, first_sid, handle_of};
+ghost use Rattle.fsa_model.specs.Lookups.{has_left};
 ghost use Rattle.fsa_model.specs.Sharing.{clashes_on_stream};
-ghost use Rattle.fsa_model.specs.Edits.{with_handle, with_ticks, with_end, with_bytes, with_file_written};
+ghost use Rattle.fsa_model.specs.VerbEdits.{with_handle, with_ticks, with_end, with_bytes, with_file_written};
 ghost use Rattle.fsa_types.specs.StreamBytes.{put};
 ghost use Rattle.fsa_model.specs.Close.{without_handle, try_leave};
 ghost use Rattle.fsa_model.specs.Outcome.{ends_with};
@@ -14,7 +15,7 @@ ghost use Rattle.fsa_model.specs.Create.{with_new_file};
 ghost use Rattle.fsa_top.specs.Try.{GivesUpTo, HasRoom};
 
 use crate::rows::{StoredFile, StoredHandle, StoredLink, StoredStream};
-use fsa_types::{ClientList, EndOf, Name, NoMemory, Status, UpcaseTable};
+use fsa_types::{Client, ClientList, EndOf, Name, NoMemory, Status, UpcaseTable};
 use object_tables::{Series, Table};
 use std::alloc::Global;
 use std::marker::Model;
@@ -30,7 +31,7 @@ pub struct Store {
     handles: Vec<(u64, StoredHandle)>,
     last_handle: u64,
     ended: Series<EndOf>,
-    left: Series<u32>,
+    left: Vec<bool>,
     clock: u64,
 }
 
@@ -49,6 +50,7 @@ impl Store {
     pub fn new(alloc: Global, table: UpcaseTable, clients: ClientList) -> Result<Store, NoMemory>
         ensures { IfOk result (λ store. store.content ≡ fresh (record { table = table; clients = map client_of clients.items })) }
     {
+        let left = none_left(alloc, clients.as_slice())?;
         let mut files = Table::new(alloc);
         files.reserve(1)?;
         let root = StoredFile {
@@ -72,7 +74,7 @@ impl Store {
             handles: Vec::new(alloc),
             last_handle: 0,
             ended: Series::new(alloc),
-            left: Series::new(alloc),
+            left,
             clock: 0,
         })
     }
@@ -109,7 +111,10 @@ impl Store {
     pub fn has_left(&self, client: u32) -> bool
         ensures { result ≡ has_left self.now.content client }
     {
-        self.left.as_slice().iter().any(|c| *c == client)
+        match self.left.get(client as usize) {
+            Some(has_left) => *has_left,
+            None => false,
+        }
     }
 
     /// The default stream of this file, 0 where it has none.
@@ -176,14 +181,12 @@ impl Store {
         ensures streams { OnOk result (1 ≤ self.new.spare.streams) }
         ensures handles { OnOk result (1 ≤ self.new.spare.handles) }
         ensures ended { OnOk result (1 ≤ self.new.spare.ended) }
-        ensures left { OnOk result (1 ≤ self.new.spare.left) }
     {
         self.files.reserve(1)?;
         self.links.reserve(1)?;
         self.streams.reserve(1)?;
         self.handles.reserve(1)?;
         self.ended.reserve(1)?;
-        self.left.reserve(1)?;
         Ok(())
     }
 
@@ -260,21 +263,21 @@ impl Store {
     pub fn drop_handle(&mut self, handle: u64)
         ensures content { self.new.content ≡ without_handle self.old.content handle }
         ensures ended { self.old.spare.ended ≤ self.new.spare.ended }
-        ensures left { self.old.spare.left ≤ self.new.spare.left }
     {
         drop_row(&mut self.handles, handle);
     }
 }
 
 impl Store {
-    /// A client's handles are closed, and it has left. There has to be room for that.
+    /// A client's handles are closed, and it has left.
     pub fn leave(&mut self, client: u32)
-        requires room { 1 ≤ self.old.spare.left }
         ensures content { try_leave self.old.content client ≡ ends_with self.new.content Status.Success }
         ensures ended { self.old.spare.ended ≤ self.new.spare.ended }
     {
         drop_client(&mut self.handles, client);
-        self.left.push(client);
+        if let Some(slot) = self.left.get_mut(client as usize) {
+            *slot = true;
+        }
     }
 }
 
@@ -287,6 +290,14 @@ impl Store {
     {
         self.clock += u64::from(ticks);
     }
+}
+
+// No client has left.
+fn none_left(alloc: Global, clients: &[Client]) -> Result<Vec<bool>, NoMemory>
+    ensures { IfOk result (λ left. left.items ≡ map (λ _. false) clients.now) }
+{
+    let left = clients.iter().map(|_client| false).collect(alloc)?;
+    Ok(left)
 }
 
 // A file as it is made at this time.

@@ -3,8 +3,8 @@
 ghost use Rattle.std.specs.Prelude.{◌≡◌, ◌≤◌, ◌<◌, ◌+◌, ◌-◌, ◌^◌, ℕ, [], length, drop, IfOk, OnOk, OnErr, Some, None, false};
 ghost use Rattle.fsa_types.specs.Reply.{bytes_of_body, units_of_body};
 ghost use Rattle.fsa_model.specs.Volume.{Volume};
-ghost use Rattle.fsa_model.specs.Lookups.{bytes_of};
-ghost use Rattle.fsa_model.specs.Edits.{with_ticks};
+ghost use Rattle.fsa_model.specs.VerbLookups.{bytes_of};
+ghost use Rattle.fsa_model.specs.VerbEdits.{with_ticks};
 ghost use Rattle.fsa_model.specs.Outcome.{ends_with, Done};
 ghost use Rattle.fsa_model.specs.Create.{create_found, create_missing, create_named, new_file, only_makes, try_create};
 ghost use Rattle.fsa_model.specs.Read.{read_bytes, try_read};
@@ -154,9 +154,8 @@ pub fn try_close(store: &mut Store, client: u32, handle: u32) -> Reply
     bare(Status::Success)
 }
 
-/// The client's handles are closed, and it has left. There has to be room for that.
+/// The client's handles are closed, and it has left.
 pub fn try_leave(store: &mut Store, client: u32) -> Reply
-    requires room { 1 ≤ store.old.spare.left }
     ensures gives { try_leave store.old.content client ≡ ends_with store.new.content result.status }
     ensures bare { result.body ≡ Body.Nothing }
     ensures room { store.old.spare.ended ≤ store.new.spare.ended }

@@ -242,3 +242,25 @@ map-filter_seen view keep (x ∷ xs) =
       | inl kept ↦ rw kept (ap (λ rest. (x.0, view x.1) ∷ rest) (map-filter_seen view keep xs))
       | inr gone ↦ rw gone (map-filter_seen view keep xs)
     ]
+
+-- there are no more rows than numbers, 0 among them
+rising-from : {T : Type 0} (xs : List (ℕ × T)) (d : ℕ × T) (k : ℕ) → AreRising xs → k < length xs → k ≤ (get_or xs k d).0
+rising-from xs d zero rising within = omega arith
+rising-from xs d (suc k) rising within =
+    let before = rising-from xs d k rising (omega arith) in
+    let next : (get_or xs k d).0 < (get_or xs (suc k) d).0 = rising k (suc k) d (omega arith) within in
+    omega arith
+
+pub length-numbered : {T : Type 0} (xs : List (ℕ × T)) (last : ℕ) → IsNumbered xs last → length xs ≤ last + 1
+length-numbered [] last numbered = omega arith
+length-numbered {T} (x ∷ xs) last numbered =
+    let k : ℕ = length xs in
+    let most = rising-from (x ∷ xs) x k numbered.rising (omega arith) in
+    let given : (get_or (x ∷ xs) k x).0 ≤ last = numbered.given k x (omega arith) in
+    omega arith
+
+pub length-filter_le : {X : Type 0} (p : X → Bool) (xs : List X) → length (filter p xs) ≤ length xs
+length-filter_le p [] = omega arith
+length-filter_le p (x ∷ xs) =
+    let rest = length-filter_le p xs in
+    elim (cases_Bool (p x)) [ inl kept ↦ rw kept (omega arith) | inr gone ↦ rw gone (omega arith) ]

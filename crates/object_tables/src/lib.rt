@@ -15,6 +15,8 @@
 
 mod series;
 mod table;
+#[cfg(test)]
+mod tests;
 
 pub use series::Series;
 pub use table::Table;

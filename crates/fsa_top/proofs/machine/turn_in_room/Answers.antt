@@ -1,5 +1,5 @@
 use Rattle.std.proofs.Common.{ap, ◌∙◌, refl}
-use Rattle.fsa_model.specs.Edits.{with_end}
+use Rattle.fsa_model.specs.VerbEdits.{with_end}
 use Rattle.fsa_model.proofs.TurnLaws.{turn-done, end_of}
 use Rattle.fsa_top.proofs.TurnFollows.{Goes-with_end}
 use Rattle.fsa_top.proofs.machine.turn_in_room.Goals as goal

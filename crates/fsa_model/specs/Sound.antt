@@ -1,0 +1,102 @@
+-- What is always true of a volume.
+use Rattle.std.specs.Prelude.{◌≡◌, ℕ, Bool, true, false, ◌+◌, ◌-◌, ◌^◌, ◌<◌, ◌≤◌, ◌&&◌, ◌||◌, ◌==◌, not, List, Option, length, All, AllPairs, IsTrue, IfSome}
+use Rattle.std.specs.Option.{option_map_or}
+use Rattle.std.specs.List.{list_any}
+use Rattle.fsa_types.specs.Rows.{lives, IsNumbered}
+use Rattle.fsa_types.specs.CaseTable.{same_name}
+use Rattle.fsa_model.specs.Setup.{Client}
+use Rattle.fsa_model.specs.Volume.{File, Link, Stream, Handle, Lock, Oplock, Pending, Watch, Volume}
+use Rattle.fsa_model.specs.Lookups.{is_named, is_stream_named, is_opened_by, is_directory, has_child, has_row, leads_to}
+use Rattle.fsa_model.specs.Edits.{is_call}
+
+-- from this directory links lead up to the root
+pub record LeadsUp (links : List (ℕ × Link)) (dir : ℕ) : Type 0 where
+  pub steps : ℕ
+  pub leads : IsTrue (leads_to steps links 1 dir)
+
+-- the stream is one of the link's file; link 0 is the root's, which has no stream
+abbrev pub is_stream_of_link : List (ℕ × Link) → List (ℕ × Stream) → ℕ → ℕ → Bool
+is_stream_of_link links streams link stream =
+    list_any (λ s. s.0 == stream && list_any (λ l. l.0 == link && l.1.file == s.1.file) links) streams
+
+-- a handle's link lives or is 0, and its stream, where it has one, is a stream of that link's file
+abbrev pub is_of_living : List (ℕ × Link) → List (ℕ × Stream) → Handle → Bool
+is_of_living links streams handle =
+    (handle.link == 0 || lives links handle.link)
+    && option_map_or (λ stream. is_stream_of_link links streams handle.link stream) handle.stream true
+
+-- the bounds of a file: a reparse point has at most 16,376 bytes
+abbrev pub PointFits : File → Type 0
+PointFits file = IfSome file.point (λ point. length point.1 ≤ 16376)
+
+-- the tree: names, parents, and the files of links and streams
+pub record IsTree (table : List (ℕ × ℕ)) (files : List (ℕ × File)) (links : List (ℕ × Link)) (streams : List (ℕ × Stream)) : Type 0 where
+  -- the names of the links of one parent differ by the table, and so do those of the streams of one file
+  pub link_names_differ : AllPairs (λ a b. is_named table b.1.parent b.1.name a.1 ≡ false) links
+  pub stream_names_differ : AllPairs (λ a b. is_stream_named table b.1.file b.1.name a.1 ≡ false) streams
+  -- each link's and each stream's file lives; each link's parent is a directory from which links lead up to the root
+  pub link_files_live : All (λ entry. IsTrue (lives files entry.1.file)) links
+  pub stream_files_live : All (λ entry. IsTrue (lives files entry.1.file)) streams
+  pub parents_are_directories : All (λ entry. IsTrue (is_directory files entry.1.parent)) links
+  pub parents_lead_up : All (λ entry. LeadsUp links entry.1.parent) links
+  -- file 1 lives and is a directory without a link
+  pub root_is_directory : IsTrue (is_directory files 1)
+  pub root_has_no_link : All (λ entry. (entry.1.file == 1) ≡ false) links
+  -- a directory has no stream and at most one link, and one whose link is marked has no link in it
+  pub directories_have_no_stream : All (λ entry. is_directory files entry.1.file ≡ false) streams
+  pub directories_have_one_link : AllPairs (λ a b. (is_directory files b.1.file && a.1.file == b.1.file) ≡ false) links
+  pub marked_are_empty : All (λ entry. (entry.1.deleted && has_child links entry.1.file) ≡ false) links
+
+-- the handles, each of a client of the setup
+pub record AreOpens (clients : List Client) (links : List (ℕ × Link)) (streams : List (ℕ × Stream)) (handles : List (ℕ × Handle)) : Type 0 where
+  pub are_of_living : All (λ entry. IsTrue (is_of_living links streams entry.1)) handles
+  -- no two have the same client and number
+  pub differ : AllPairs (λ a b. is_opened_by b.1.client b.1.number a.1 ≡ false) handles
+  pub have_clients : All (λ entry. entry.1.client < length clients) handles
+
+-- the pending calls, each of a client of the setup
+pub record ArePending (clients : List Client) (pending : List (ℕ × Pending)) : Type 0 where
+  -- no two have the same client and number, or the same turn
+  pub differ : AllPairs (λ a b. is_call b.1.call.client b.1.call.number a.1 ≡ false) pending
+  pub turns_differ : AllPairs (λ a b. (a.0 == b.0) ≡ false) pending
+  pub have_clients : All (λ entry. entry.1.call.client < length clients) pending
+
+-- the setup's clients; each has a SID, and those that have left are among them
+pub record AreClients (clients : List Client) (left : List Bool) : Type 0 where
+  pub have_sids : All (λ client. 0 < length client.sids) clients
+  pub may_leave : length left ≡ length clients
+
+-- locks, oplocks and watches are of living handles, at most one watch each
+pub record AreOfHandles (handles : List (ℕ × Handle)) (locks : List (ℕ × Lock)) (oplocks : List Oplock) (watches : List Watch) : Type 0 where
+  pub locks_live : All (λ entry. IsTrue (lives handles entry.1.handle)) locks
+  pub oplocks_live : All (λ oplock. IsTrue (lives handles oplock.handle)) oplocks
+  pub watches_live : All (λ watch. IsTrue (lives handles watch.handle)) watches
+  pub watches_differ : AllPairs (λ a b. (a.handle == b.handle) ≡ false) watches
+
+-- fewer than 2^32 - 1 numbers of each kind were given; the clock and the last numbers of locks and
+-- breaks are below 2^64
+pub record AreBounded (v : Volume) : Type 0 where
+  pub files : v.last_file < 2 ^ 32 - 1
+  pub links : v.last_link < 2 ^ 32 - 1
+  pub streams : v.last_stream < 2 ^ 32 - 1
+  pub handles : v.last_handle < 2 ^ 32 - 1
+  pub clock : v.clock < 2 ^ 64
+  pub locks : v.last_lock < 2 ^ 64
+  pub breaks : v.last_break < 2 ^ 64
+
+-- a volume is sound
+pub record IsSound (v : Volume) : Type 0 where
+  pub tree : IsTree v.table v.files v.links v.streams
+  pub opens : AreOpens v.clients v.links v.streams v.handles
+  pub pending : ArePending v.clients v.pending
+  pub clients : AreClients v.clients v.left
+  pub of_handles : AreOfHandles v.handles v.locks v.oplocks v.watches
+  -- the numbers of each kind rise, and none is above the last one given
+  pub files_numbered : IsNumbered v.files v.last_file
+  pub links_numbered : IsNumbered v.links v.last_link
+  pub streams_numbered : IsNumbered v.streams v.last_stream
+  pub handles_numbered : IsNumbered v.handles v.last_handle
+  -- a stream has at most 2^26 bytes, and a reparse point at most 16,376
+  pub streams_fit : All (λ entry. length entry.1.bytes ≤ 2 ^ 26) v.streams
+  pub points_fit : All (λ entry. PointFits entry.1) v.files
+  pub bounded : AreBounded v

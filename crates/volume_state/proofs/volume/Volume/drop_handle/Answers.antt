@@ -1,0 +1,7 @@
+use Rattle.fsa_model.proofs.SoundLaws.{IsSound-without_handle}
+use Rattle.volume_state.specs.Inside.{content_of}
+use Rattle.volume_state.proofs.volume.Volume.drop_handle.Goals as goal
+
+pub invariant_of-self : goal.invariant_of-self
+invariant_of-self c =
+    rw (c.remove.ensures.rows, c.remove.ensures.last) (IsSound-without_handle (content_of c.self.inside) c.args.handle c.self.invariant)

@@ -1,0 +1,78 @@
+use Rattle.std.proofs.Common.{◌≡◌, ℕ, List, false, true, Some, sym, subst, ◌∙◌, not, ◌==◌}
+use Rattle.fsa_types.specs.Rows.{row_of, without_row}
+use Rattle.fsa_types.proofs.RowLemmas.{map-filter_seen}
+use Rattle.fsa_model.specs.Lookups.{has_row}
+use Rattle.fsa_model.specs.Sound.{IsSound}
+use Rattle.fsa_model.specs.Volume.{Link}
+use Rattle.fsa_model.proofs.RowLaws.{without_row-none}
+use Rattle.fsa_model.proofs.SoundLaws.{IsSound-without_link, without_link-last, without_link-other}
+use Rattle.volume_state.specs.Inside.{content_of}
+use Rattle.volume_state.proofs.volume.Volume.drop_link.Goals as goal
+
+-- nothing is taken out
+pub invariant_of-self : goal.invariant_of-self
+invariant_of-self c =
+    let none = sym c.in_default.ensures.row in
+    rw (c.in_default.ensures.rows, c.in_default.ensures.last, without_row-none c.self.inside.links.rows c.args.link none) c.self.invariant
+
+pub returns-in_default-clause-content : goal.returns-in_default-clause-content
+returns-in_default-clause-content c =
+    let none = sym c.in_default.ensures.row in
+    rw (← c.self.view_is, c.in_default.ensures.rows, c.in_default.ensures.last, without_row-none c.self.inside.links.rows c.args.link none, none)
+
+-- the last link of a file
+pub returns-then-not-has_link-clause-content : goal.returns-then-not-has_link-clause-content
+returns-then-not-has_link-clause-content c =
+    let row : Link = record { parent = c.row.inside.parent; name = c.row.inside.name; file = c.row.inside.file; deleted = c.row.inside.deleted } in
+    let found : row_of c.self.inside.links.rows c.args.link ≡ Some row = sym (rw (← c.row.view_is) at c.in-Some.ensures.row) in
+    let linked : has_row (λ l. l.file == c.row.inside.file) (without_row c.self.inside.links.rows c.args.link) ≡ false
+    = rw (← c.in-Some.ensures.rows, ← c.as_slice.ensures.rows) (sym c.has_link.ensures ∙ c.if-not-has_link.true) in
+    rw (
+      ← c.self.view_is,
+      c.in-Some.ensures.rows,
+      c.in-Some.ensures.last,
+      c.remove-then-not-has_link.ensures.rows,
+      c.remove-then-not-has_link.ensures.last,
+      c.drop_streams_of.ensures.rows,
+      c.drop_streams_of.ensures.last,
+      map-filter_seen (λ kept. kept.stream) (λ e. not (e.1.file == c.row.inside.file)) c.self.inside.streams.rows,
+    )
+    (sym (without_link-last (content_of c.self.inside) c.args.link row found linked))
+
+pub invariant_of-self-then-not-has_link : goal.invariant_of-self-then-not-has_link
+invariant_of-self-then-not-has_link c =
+    let row : Link = record { parent = c.row.inside.parent; name = c.row.inside.name; file = c.row.inside.file; deleted = c.row.inside.deleted } in
+    let found : row_of c.self.inside.links.rows c.args.link ≡ Some row = sym (rw (← c.row.view_is) at c.in-Some.ensures.row) in
+    let linked : has_row (λ l. l.file == c.row.inside.file) (without_row c.self.inside.links.rows c.args.link) ≡ false
+    = rw (← c.in-Some.ensures.rows, ← c.as_slice.ensures.rows) (sym c.has_link.ensures ∙ c.if-not-has_link.true) in
+    rw (
+      c.in-Some.ensures.rows,
+      c.in-Some.ensures.last,
+      c.remove-then-not-has_link.ensures.rows,
+      c.remove-then-not-has_link.ensures.last,
+      c.drop_streams_of.ensures.rows,
+      c.drop_streams_of.ensures.last,
+      map-filter_seen (λ kept. kept.stream) (λ e. not (e.1.file == c.row.inside.file)) c.self.inside.streams.rows,
+    )
+    (subst IsSound (without_link-last (content_of c.self.inside) c.args.link row found linked)
+    (IsSound-without_link (content_of c.self.inside) c.args.link c.self.invariant (rw (← c.self.view_is) at c.requires.empty) (rw (← c.self.view_is) at c.requires.unopened)))
+
+-- another link
+pub invariant_of-self-else-not-has_link : goal.invariant_of-self-else-not-has_link
+invariant_of-self-else-not-has_link c =
+    let row : Link = record { parent = c.row.inside.parent; name = c.row.inside.name; file = c.row.inside.file; deleted = c.row.inside.deleted } in
+    let found : row_of c.self.inside.links.rows c.args.link ≡ Some row = sym (rw (← c.row.view_is) at c.in-Some.ensures.row) in
+    let linked : has_row (λ l. l.file == c.row.inside.file) (without_row c.self.inside.links.rows c.args.link) ≡ true
+    = rw (← c.in-Some.ensures.rows, ← c.as_slice.ensures.rows) (sym c.has_link.ensures ∙ c.if-not-has_link.false) in
+    rw (c.in-Some.ensures.rows, c.in-Some.ensures.last)
+    (subst IsSound (without_link-other (content_of c.self.inside) c.args.link row found linked)
+    (IsSound-without_link (content_of c.self.inside) c.args.link c.self.invariant (rw (← c.self.view_is) at c.requires.empty) (rw (← c.self.view_is) at c.requires.unopened)))
+
+pub returns-clause-content : goal.returns-clause-content
+returns-clause-content c =
+    let row : Link = record { parent = c.row.inside.parent; name = c.row.inside.name; file = c.row.inside.file; deleted = c.row.inside.deleted } in
+    let found : row_of c.self.inside.links.rows c.args.link ≡ Some row = sym (rw (← c.row.view_is) at c.in-Some.ensures.row) in
+    let linked : has_row (λ l. l.file == c.row.inside.file) (without_row c.self.inside.links.rows c.args.link) ≡ true
+    = rw (← c.in-Some.ensures.rows, ← c.as_slice.ensures.rows) (sym c.has_link.ensures ∙ c.if-not-has_link.false) in
+    rw (← c.self.view_is, c.in-Some.ensures.rows, c.in-Some.ensures.last)
+    (sym (without_link-other (content_of c.self.inside) c.args.link row found linked))

@@ -1,0 +1,14 @@
+use Rattle.fsa_types.proofs.RowLemmas.{map-filter_seen}
+use Rattle.std.proofs.Common.{not, ◌==◌}
+use Rattle.fsa_model.proofs.SoundLaws.{IsSound-without_stream}
+use Rattle.volume_state.specs.Inside.{content_of}
+use Rattle.volume_state.proofs.volume.Volume.drop_stream.Goals as goal
+
+pub invariant_of-self : goal.invariant_of-self
+invariant_of-self c =
+    rw (c.remove.ensures.rows, c.remove.ensures.last, map-filter_seen (λ kept. kept.stream) (λ e. not (e.0 == c.args.stream)) c.self.inside.streams.rows)
+    (IsSound-without_stream (content_of c.self.inside) c.args.stream c.self.invariant (rw (← c.self.view_is) at c.requires.unopened))
+
+pub returns-clause-content : goal.returns-clause-content
+returns-clause-content c =
+    rw (← c.self.view_is, c.remove.ensures.rows, c.remove.ensures.last, map-filter_seen (λ kept. kept.stream) (λ e. not (e.0 == c.args.stream)) c.self.inside.streams.rows)

@@ -1,0 +1,16 @@
+use Rattle.std.proofs.Common.{◌≡◌, ◌<◌, true, length}
+use Rattle.fsa_model.specs.Sound.{is_of_living}
+use Rattle.fsa_model.specs.Volume.{Handle}
+use Rattle.fsa_model.proofs.RowLaws.{found-all, lent-row}
+use Rattle.volume_state.specs.Inside.{content_of}
+use Rattle.volume_state.proofs.volume.Volume.handle.Goals as goal
+
+pub returns-clause-living : goal.returns-clause-living
+returns-clause-living c =
+    let P : Handle → Type 0 = λ row. is_of_living (content_of c.self.inside).links (content_of c.self.inside).streams row ≡ true in
+    rw (← c.self.view_is) (lent-row P c.get.result _ c.get.ensures (found-all P c.self.inside.handles.rows c.args.id c.self.invariant.opens.are_of_living))
+
+pub returns-clause-client : goal.returns-clause-client
+returns-clause-client c =
+    let P : Handle → Type 0 = λ row. row.client < length (content_of c.self.inside).clients in
+    rw (← c.self.view_is) (lent-row P c.get.result _ c.get.ensures (found-all P c.self.inside.handles.rows c.args.id c.self.invariant.opens.have_clients))

@@ -1,0 +1,25 @@
+use Rattle.std.proofs.Common.{refl}
+use Rattle.fsa_types.proofs.RowLemmas.{map-change, map-unseen}
+use Rattle.fsa_model.proofs.SoundLaws.{IsSound-stream_changed}
+use Rattle.fsa_model.specs.Volume.{Stream}
+use Rattle.volume_state.specs.Inside.{content_of}
+use Rattle.volume_state.specs.Streams.{Kept}
+use Rattle.volume_state.proofs.volume.Volume.mark_stream.Goals as goal
+
+pub invariant_of-self : goal.invariant_of-self
+invariant_of-self c =
+    let change : Kept → Kept = λ row. record row { stream = record row.stream { deleted = c.args.deleted } } in
+    let seen : Stream → Stream = λ row. record row { deleted = c.args.deleted } in
+    rw (c.mark_stream.ensures.rows, c.mark_stream.ensures.last, map-change (λ kept. kept.stream) change seen c.self.inside.streams.rows c.args.stream (λ row. refl))
+    (IsSound-stream_changed (content_of c.self.inside) seen c.args.stream c.self.invariant (λ row. refl) (λ row. refl) (λ row fits. fits))
+
+pub returns-clause-content : goal.returns-clause-content
+returns-clause-content c =
+    let change : Kept → Kept = λ row. record row { stream = record row.stream { deleted = c.args.deleted } } in
+    let seen : Stream → Stream = λ row. record row { deleted = c.args.deleted } in
+    rw (← c.self.view_is, c.mark_stream.ensures.rows, c.mark_stream.ensures.last, map-change (λ kept. kept.stream) change seen c.self.inside.streams.rows c.args.stream (λ row. refl))
+
+pub returns-clause-room : goal.returns-clause-room
+returns-clause-room c =
+    let change : Kept → Kept = λ row. record row { stream = record row.stream { deleted = c.args.deleted } } in
+    rw (← c.self.view_is, c.mark_stream.ensures.rows, c.mark_stream.ensures.room, map-unseen (λ kept. kept.room) change c.self.inside.streams.rows c.args.stream (λ row. refl))

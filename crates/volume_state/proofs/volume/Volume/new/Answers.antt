@@ -1,0 +1,53 @@
+use Rattle.std.proofs.Common.{◌<◌, false, length}
+use Rattle.std.proofs.lemmas.List.Elements.{All-map}
+use Rattle.std.proofs.lemmas.Simd.{map-map}
+use Rattle.fsa_model.specs.Setup.{Client, client_of, setup_of}
+use Rattle.fsa_model.proofs.SoundLaws.{IsSound-fresh}
+use Rattle.volume_state.proofs.volume.Volume.new.Goals as goal
+
+pub invariant_of-result : goal.invariant_of-result
+invariant_of-result c =
+    rw (
+      c.in-Ok.ensures.rows,
+      c.in-Ok.ensures.last,
+      c.in_ok-reserve.ensures.rows,
+      c.in_ok-reserve.ensures.last,
+      c.new-files.ensures.rows,
+      c.new-files.ensures.last,
+      c.root.ensures,
+      c.new.ensures.rows,
+      c.new.ensures.last,
+      c.new-2.ensures.rows,
+      c.new-2.ensures.last,
+      c.new-3.ensures.rows,
+      c.new-3.ensures.last,
+      c.new-4.ensures,
+      c.new-5.ensures,
+      c.in_ok-left.ensures,
+      c.as_slice.ensures,
+      ← map-map (λ (client : Client). false) client_of c.args.setup.clients.items,
+    )
+    (IsSound-fresh (setup_of c.args.setup) (All-map (λ client. 0 < length client.sids) client_of c.args.setup.clients.items c.requires.sids))
+
+pub returns-clause-content : goal.returns-clause-content
+returns-clause-content c =
+    rw (
+      c.in-Ok.ensures.rows,
+      c.in-Ok.ensures.last,
+      c.in_ok-reserve.ensures.rows,
+      c.in_ok-reserve.ensures.last,
+      c.new-files.ensures.rows,
+      c.new-files.ensures.last,
+      c.root.ensures,
+      c.new.ensures.rows,
+      c.new.ensures.last,
+      c.new-2.ensures.rows,
+      c.new-2.ensures.last,
+      c.new-3.ensures.rows,
+      c.new-3.ensures.last,
+      c.new-4.ensures,
+      c.new-5.ensures,
+      c.in_ok-left.ensures,
+      c.as_slice.ensures,
+      map-map (λ (client : Client). false) client_of c.args.setup.clients.items,
+    )

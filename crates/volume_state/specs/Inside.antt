@@ -1,0 +1,58 @@
+-- The content and the spare room of the tables of a volume.
+use Rattle.std.specs.Prelude.{ℕ, List, [], ◌^◌, map}
+use Rattle.fsa_model.specs.Setup.{client_of}
+use Rattle.fsa_model.specs.Volume.{Volume}
+use Rattle.volume_state.specs.Seen.{Beside, Rooms, Spare}
+use Rattle.volume_state.specs.declared.volume.Volume.TheInside.{Inside}
+
+abbrev pub content_of : Inside → Volume
+content_of v = record {
+  table = v.table;
+  clients = map client_of v.clients.items;
+  files = v.files.rows;
+  links = v.links.rows;
+  streams = map (λ entry. (entry.0, entry.1.stream)) v.streams.rows;
+  handles = v.handles.rows;
+  locks = [];
+  oplocks = [];
+  pending = [];
+  ended = v.ended.items;
+  watches = [];
+  changes = v.changes.changes;
+  limits = [];
+  clock = v.clock;
+  left = v.left.items;
+  last_file = v.files.last;
+  last_link = v.links.last;
+  last_stream = v.streams.last;
+  last_handle = v.handles.last;
+  last_lock = 0;
+  last_break = 0;
+}
+
+abbrev pub beside : Beside
+beside = record { base = 0; waited = [] }
+
+-- nothing can be put in yet, so there is room for all that can be asked
+abbrev pub unbounded : Rooms
+unbounded = record { own = []; others = 2 ^ 64 }
+
+abbrev pub spare_of : Inside → Spare
+spare_of v = record {
+  files = v.files.room;
+  links = record { own = []; others = v.links.room };
+  streams = v.streams.room;
+  handles = v.handles.room;
+  owners = 2 ^ 64;
+  locks = unbounded;
+  oplocks = unbounded;
+  watches = 2 ^ 64;
+  limits = 2 ^ 64;
+  pending = 2 ^ 64;
+  blockers = 2 ^ 64;
+  changes = v.changes.room;
+  ends = v.ended.room;
+  units = v.changes.units;
+  dirs = v.changes.dirs;
+  bytes = map (λ entry. (entry.0, entry.1.room)) v.streams.rows;
+}

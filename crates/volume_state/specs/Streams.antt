@@ -1,0 +1,25 @@
+-- A stream beside the room that was taken for its bytes.
+use Rattle.std.specs.Prelude.{◌≡◌, ℕ, List, map}
+use Rattle.fsa_types.specs.Rows.{with_row_changed}
+use Rattle.fsa_model.specs.Volume.{Stream}
+
+-- places up to `to`, in bytes, can be written without taking memory from `from` on
+pub record Reserved : Type 0 where
+  pub from : ℕ
+  pub to : ℕ
+
+pub record Kept : Type 0 where
+  pub stream : Stream
+  pub room : Reserved
+
+-- the streams themselves, without their room
+abbrev pub streams_in : List (ℕ × Kept) → List (ℕ × Stream)
+streams_in rows = map (λ entry. (entry.0, entry.1.stream)) rows
+
+-- one stream has this change, and perhaps other room
+abbrev pub ChangesStream : List (ℕ × Kept) → List (ℕ × Kept) → ℕ → (Stream → Stream) → Type 0
+ChangesStream old new stream change = streams_in new ≡ with_row_changed change (streams_in old) stream
+
+-- no stream has changed
+abbrev pub KeepsStreams : List (ℕ × Kept) → List (ℕ × Kept) → Type 0
+KeepsStreams old new = streams_in new ≡ streams_in old

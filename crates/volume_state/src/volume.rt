@@ -1,0 +1,220 @@
+//! The volume and its tables.
+
+ghost use Rattle.std.specs.Prelude.{ℕ, ◌≡◌, ◌≤◌, ◌<◌, ◌+◌, ◌^◌, IsTrue, IfOk, OnOk, Some, length, All, slice_get, slice_index_or, option_map, map, IfSome, false, []};
+ghost use Rattle.std.specs.Option.{option_copied};
+ghost use Rattle.fsa_types.specs.Rows.{row_of};
+ghost use Rattle.fsa_model.specs.Edits.{with_end, with_left, with_ticks};
+ghost use Rattle.fsa_model.specs.Lookups.{has_left};
+ghost use Rattle.fsa_model.specs.Setup.{setup_of};
+ghost use Rattle.fsa_model.specs.Volume.{fresh, root};
+ghost use Rattle.volume_state.specs.Room.{HasRoom, IsNoLess};
+
+use crate::noting::Changes;
+use crate::rows::{FileRow, HandleRow, LinkRow, Need, StreamRow};
+use fsa_types::{Call, Client, ClientList, EndOf, NoMemory, Reply, Setup, UpcaseTable};
+use object_tables::{Series, Table};
+use std::alloc::{AllocError, Global};
+use std::marker::Model;
+
+/// A volume: its case table and clients, its files, links, streams and handles, its changes and the
+/// calls that have ended. It is always sound.
+#[derive(Drop)]
+pub struct Volume {
+    pub(crate) alloc: Global,
+    pub(crate) table: UpcaseTable,
+    pub(crate) clients: ClientList,
+    pub(crate) files: Table<FileRow>,
+    pub(crate) links: Table<LinkRow>,
+    pub(crate) streams: Table<StreamRow>,
+    pub(crate) handles: Table<HandleRow>,
+    pub(crate) changes: Changes,
+    pub(crate) ended: Series<EndOf>,
+    pub(crate) left: Vec<bool>,
+    pub(crate) clock: u64,
+}
+
+impl Model for Volume {
+    ghost use Rattle.volume_state.specs.Seen.{Seen};
+    ghost use Rattle.fsa_model.specs.Sound.{IsSound};
+
+    ghost Value = { Seen };
+
+    ghost use Rattle.volume_state.specs.Inside.{content_of, beside, spare_of};
+
+    ghost view = { λ v. record { content = content_of v; beside = beside; spare = spare_of v } };
+
+    ghost invariant = { λ v. IsSound (content_of v) };
+}
+
+impl Volume {
+    /// A volume with the root alone, whose file number is 1. Each client has to have a SID.
+    /// `NoMemory` where there is none for it.
+    pub fn new(alloc: Global, setup: Setup) -> Result<Volume, NoMemory>
+        requires sids { All (λ client. 0 < length client.sids.items) setup.clients.items }
+        ensures content { IfOk result (λ v. v.content ≡ fresh (setup_of setup)) }
+        ensures beside { IfOk result (λ v. v.beside ≡ record { base = 0; waited = [] }) }
+    {
+        let Setup { table, clients } = setup;
+        let left = nobody_left(alloc, clients.as_slice())?;
+        let mut files = Table::new(alloc);
+        files.reserve(1)?;
+        let Ok(_) = files.add(root()) else {
+            unreachable!()
+        };
+        Ok(Volume {
+            alloc,
+            table,
+            clients,
+            files,
+            links: Table::new(alloc),
+            streams: Table::new(alloc),
+            handles: Table::new(alloc),
+            changes: Changes::new(alloc),
+            ended: Series::new(alloc),
+            left,
+            clock: 0,
+        })
+    }
+
+    /// Takes all the room that is needed. `NoMemory` where there is none for it.
+    pub fn reserve(&mut self, need: &Need) -> Result<(), NoMemory>
+        ensures content { self.new.content ≡ self.old.content }
+        ensures beside { self.new.beside ≡ self.old.beside }
+        ensures room { OnOk result (HasRoom self.new.content self.new.spare need.now) }
+        ensures kept { IsNoLess self.old.spare self.new.spare }
+    {
+        let need = *need;
+        self.files.reserve(need.files as usize)?;
+        self.links.reserve(need.links as usize)?;
+        self.streams.reserve(need.streams as usize)?;
+        self.handles.reserve(need.handles as usize)?;
+        self.ended.reserve(need.ends as usize)?;
+        let (units, dirs) = (need.units as usize, need.dirs as usize);
+        self.changes.reserve(need.changes as usize, units, dirs)?;
+        Ok(())
+    }
+
+    /// The case table by which names compare.
+    pub fn table(&self) -> &UpcaseTable
+        ensures { result.now ≡ self.now.content.table }
+    {
+        &self.table
+    }
+
+    /// The SIDs of a client; the first owns what it makes. There has to be such a client.
+    pub fn sids(&self, client: u32) -> &[u32]
+        requires client { client < length self.now.content.clients }
+        ensures sids { IfSome (slice_get self.now.content.clients client) (λ c. result.now ≡ c.sids) }
+    {
+        sids_of(&self.clients, client as usize)
+    }
+
+    /// The clock, in ticks.
+    pub fn clock(&self) -> u64
+        ensures { result ≡ self.now.content.clock }
+    {
+        self.clock
+    }
+
+    /// The clock goes on by so many ticks.
+    pub fn advance(&mut self, ticks: u32)
+        requires fits { self.old.content.clock + ticks < 2 ^ 64 }
+        ensures content { self.new.content ≡ with_ticks self.old.content ticks }
+        ensures beside { self.new.beside ≡ self.old.beside }
+        ensures room { self.new.spare ≡ self.old.spare }
+    {
+        self.clock += ticks as u64;
+    }
+
+    /// Whether a client has left.
+    pub fn has_left(&self, client: u32) -> bool
+        ensures { result ≡ has_left self.now.content client }
+    {
+        is_marked(&self.left, client as usize)
+    }
+
+    /// A client has left. There has to be such a client.
+    pub fn leave(&mut self, client: u32)
+        requires client { client < length self.old.content.clients }
+        ensures content { self.new.content ≡ with_left self.old.content client }
+        ensures beside { self.new.beside ≡ self.old.beside }
+        ensures room { self.new.spare ≡ self.old.spare }
+    {
+        self.left[client as usize] = true;
+    }
+
+    /// The call that is pending under this turn; `None` exactly where there is none.
+    pub fn pending(&self, _turn: u64) -> Option<&Call>
+        ensures { option_copied result ≡ option_map (λ row. row.call) (row_of self.now.content.pending _turn) }
+    {
+        let _pending = &self.ended;
+        None
+    }
+
+    /// How the call ended that is at this place in the order of ends, counted from 0; `None` exactly
+    /// past the last one.
+    pub fn ended(&self, place: u64) -> Option<&EndOf>
+        ensures { option_copied result ≡ slice_get self.now.content.ended place }
+    {
+        self.ended.as_slice().get(place as usize)
+    }
+
+    /// A call has ended with this reply; where it was pending it is so no more.
+    pub fn end(&mut self, client: u32, number: u32, reply: Reply)
+        requires room { 1 ≤ self.old.spare.ends }
+        ensures content { self.new.content ≡ with_end self.old.content client number reply }
+        ensures beside { self.new.beside ≡ self.old.beside }
+        ensures others { self.new.spare ≡ record self.old.spare { ends = self.new.spare.ends } }
+        ensures left { self.old.spare.ends ≤ self.new.spare.ends + 1 }
+    {
+        self.ended.push(EndOf {
+            client,
+            number,
+            reply,
+        });
+    }
+}
+
+// The root directory.
+fn root() -> FileRow
+    ensures { result ≡ root }
+{
+    FileRow {
+        directory: true,
+        attributes: 0,
+        creation: 0,
+        access: 0,
+        write: 0,
+        change: 0,
+        owner: 0,
+        dacl: None,
+        point: None,
+    }
+}
+
+// No mark for each client.
+fn nobody_left(alloc: Global, clients: &[Client]) -> Result<Vec<bool>, AllocError>
+    ensures { IfOk result (λ marks. marks.items ≡ map (λ _. false) clients.now) }
+{
+    clients.iter().map(|_client| false).collect(alloc)
+}
+
+// The SIDs of the client at this place.
+fn sids_of(clients: &ClientList, place: usize) -> &[u32]
+    requires { place < length clients.now.items }
+    ensures { IfSome (slice_get clients.now.items place) (λ c. result.now ≡ c.sids.items) }
+{
+    let client: &Client = &clients.as_slice()[place];
+    client.sids.as_slice()
+}
+
+// The mark at this place; past the end there is none.
+fn is_marked(marks: &[bool], place: usize) -> bool
+    ensures { result ≡ slice_index_or marks.now place false }
+{
+    if place < marks.len() {
+        marks[place]
+    } else {
+        false
+    }
+}
