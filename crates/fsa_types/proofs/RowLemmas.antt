@@ -1,8 +1,8 @@
 -- Laws of rows under rising numbers: what is at the place of a number.
-use Rattle.std.proofs.Common.{◌≡◌, ℕ, zero, suc, ◌+◌, ◌<◌, ◌≤◌, Bool, true, false, not, cond, List, [], ◌∷◌, ◌++◌, length, get_or, take, drop, refl, ap, sym, ◌∙◌, arith, inl, inr, ◌⊎◌, Option, Some, None, eq-eqb, get_or-set_same, get_or-set_other}
-use Rattle.std.specs.List.{find, filter, list_any, remove, All, AllPairs, position, position_or_len, items_where_true}
+use Rattle.std.proofs.Common.{◌≡◌, ℕ, zero, suc, ◌+◌, ◌<◌, ◌≤◌, Bool, true, false, not, List, [], ◌∷◌, length, get_or, refl, ap, sym, arith, inl, inr, ◌⊎◌, Option, Some, None, eq-eqb, get_or-set_same, get_or-set_other}
+use Rattle.std.specs.List.{filter, remove, All, AllPairs, position, position_or_len, items_where_true}
 use Rattle.std.specs.Option.{option_map_or}
-use Rattle.std.specs.Prelude.{◌==◌, ◌||◌, map, option_map, if◌then◌else◌}
+use Rattle.std.specs.Prelude.{◌==◌, ◌||◌, map, option_map}
 use Rattle.std.proofs.lemmas.Bool.{ne_eqb, cases_Bool, cases_eq, cases_lt, lt-ltb}
 use Rattle.std.proofs.lemmas.List.Sums.{prefix_len-le-length, fails_before_first}
 use Rattle.std.proofs.lemmas.List.Quantifiers.{position-Some}

@@ -1,6 +1,6 @@
 -- Paths: their faults in order, their components, what is left of them from a component on, and
 -- their stream part, after [MS-FSCC] 'Pathname', 'Filename' and 'Streamname'.
-use Rattle.std.specs.Prelude.{ℕ, ◌+◌, Bool, not, ◌||◌, ◌==◌, nat_eq, nat_lt, if◌then◌else◌, List, [], ◌∷◌, length, map, take, drop, position, slice_get, slice_index, Option, Some, None, codes}
+use Rattle.std.specs.Prelude.{ℕ, ◌+◌, Bool, not, ◌||◌, ◌==◌, nat_eq, nat_lt, if◌then◌else◌, List, [], ◌∷◌, length, map, drop, position, slice_get, slice_index, Option, Some, None, codes}
 use Rattle.std.specs.List.{before_first, slice_split, join_with_byte, list_any}
 use Rattle.std.specs.Option.{option_map, option_or}
 use Rattle.std.specs.Cmp.Lexicographic.{pointwise}
