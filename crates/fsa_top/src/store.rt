@@ -294,6 +294,14 @@ impl Store {
 
 // No client has left.
 fn none_left(alloc: Global, clients: &[Client]) -> Result<Vec<bool>, NoMemory>
+    ensures { IfOk result (λ left. left.items ≡ map (λ _. false) (map client_of clients.now)) }
+{
+    let left = each_false(alloc, clients)?;
+    Ok(left)
+}
+
+// `false` for each client.
+fn each_false(alloc: Global, clients: &[Client]) -> Result<Vec<bool>, NoMemory>
     ensures { IfOk result (λ left. left.items ≡ map (λ _. false) clients.now) }
 {
     let left = clients.iter().map(|_client| false).collect(alloc)?;
