@@ -1,10 +1,10 @@
 -- The log of changes: what is written later leaves what was noted before.
-use Rattle.std.proofs.Common.{◌≡◌, ℕ, zero, suc, ◌+◌, ◌-◌, ◌≤◌, ◌<◌, List, [], ◌∷◌, ◌++◌, length, take, drop, get_or, refl, ap, sym, ◌∙◌, arith, add-one, inl, inr, Option, Some, None, length-append, length-drop}
+use Rattle.std.proofs.Common.{◌≡◌, ℕ, suc, ◌+◌, ◌-◌, ◌≤◌, List, [], ◌∷◌, ◌++◌, length, take, drop, get_or, refl, ap, sym, ◌∙◌, arith, add-one, inl, inr, Some, None, length-append, length-drop}
 use Rattle.std.specs.Prelude.{map, option_map, reverse, All}
 use Rattle.std.proofs.lemmas.List.{take-append-le, drop-append-le, reverse-append, reverse-reverse, length-reverse}
 use Rattle.fsa_model.specs.Changes.{ancestors, path_units}
 use Rattle.fsa_model.specs.Lookups.{link_of_file}
-use Rattle.fsa_model.specs.Volume.{Change, Link}
+use Rattle.fsa_model.specs.Volume.{Link}
 use Rattle.fsa_model.proofs.RowLaws.{option_cases}
 use Rattle.volume_state.specs.Changes.{relative, change_of, changes_of, IsLog}
 use Rattle.volume_state.specs.declared.changes.Entry.{Entry}

@@ -1,6 +1,6 @@
 -- Streams beside their room: what a change of one of them is to the streams, and what room they have.
-use Rattle.std.proofs.Common.{◌≡◌, ℕ, ◌+◌, ◌-◌, ◌≤◌, ◌==◌, ◌⊎◌, Bool, true, false, List, [], ◌∷◌, length, take, drop, refl, ap, sym, subst, ◌∙◌, arith, inl, inr, Option, Some, None, length-append, length-take, length-drop}
-use Rattle.std.specs.Prelude.{map, option_map, IfSome, OnOk, Result, Ok, Err, if◌then◌else◌}
+use Rattle.std.proofs.Common.{◌≡◌, ℕ, ◌+◌, ◌≤◌, ◌==◌, List, [], ◌∷◌, length, refl, ap, sym, subst, ◌∙◌, arith, inl, inr, Option, Some, None, length-append, length-take, length-drop}
+use Rattle.std.specs.Prelude.{map, option_map, IfSome, OnOk, Result, Ok, Err}
 use Rattle.std.specs.Option.{option_map_or, ForSome}
 use Rattle.std.proofs.lemmas.Bool.{cases_Bool}
 use Rattle.std.proofs.lemmas.List.{length-replicate}

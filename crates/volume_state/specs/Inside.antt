@@ -1,5 +1,5 @@
 -- The content and the spare room of the tables of a volume.
-use Rattle.std.specs.Prelude.{ℕ, List, [], ◌^◌, map}
+use Rattle.std.specs.Prelude.{[], ◌^◌, map}
 use Rattle.fsa_model.specs.Setup.{client_of}
 use Rattle.fsa_model.specs.Volume.{Volume}
 use Rattle.volume_state.specs.Seen.{Beside, Rooms, Spare}

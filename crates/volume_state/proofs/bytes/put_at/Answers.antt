@@ -1,4 +1,3 @@
-use Rattle.std.proofs.Common.{◌∙◌}
 use Rattle.volume_state.proofs.BytesLemmas.{put-filled}
 use Rattle.volume_state.proofs.bytes.put_at.Goals as goal
 

@@ -1,4 +1,4 @@
-use Rattle.std.proofs.Common.{sym, ◌∙◌, ap, refl, Some}
+use Rattle.std.proofs.Common.{sym, ◌∙◌}
 use Rattle.fsa_types.proofs.RowLemmas.{row_of-map, lives-map}
 use Rattle.fsa_model.proofs.RowLaws.{lives-found}
 use Rattle.volume_state.proofs.volume.Volume.bytes_of.Goals as goal

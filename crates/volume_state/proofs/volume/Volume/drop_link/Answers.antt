@@ -1,4 +1,4 @@
-use Rattle.std.proofs.Common.{◌≡◌, ℕ, List, false, true, Some, sym, subst, ◌∙◌, not, ◌==◌}
+use Rattle.std.proofs.Common.{◌≡◌, false, true, Some, sym, subst, ◌∙◌, not, ◌==◌}
 use Rattle.fsa_types.specs.Rows.{row_of, without_row}
 use Rattle.fsa_types.proofs.RowLemmas.{map-filter_seen}
 use Rattle.fsa_model.specs.Lookups.{has_row}

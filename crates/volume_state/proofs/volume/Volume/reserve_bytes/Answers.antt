@@ -1,4 +1,4 @@
-use Rattle.std.proofs.Common.{◌+◌, ◌≤◌, ◌≡◌, length, refl, arith, sym, ◌∙◌}
+use Rattle.std.proofs.Common.{◌+◌, ◌≤◌, ◌≡◌, arith, sym, ◌∙◌}
 use Rattle.fsa_types.specs.Rows.{row_of}
 use Rattle.volume_state.specs.Streams.{Kept}
 use Rattle.fsa_types.proofs.RowLemmas.{lives-map}

@@ -1,12 +1,10 @@
-use Rattle.std.proofs.Common.{◌+◌, ◌≤◌, ◌⊎◌, ◌≡◌, Some, inl, inr, length, refl, arith, sym, ◌∙◌}
-use Rattle.std.specs.Prelude.{IfSome}
+use Rattle.std.proofs.Common.{◌≤◌, inl, inr, refl}
 use Rattle.fsa_types.specs.Rows.{row_of}
 use Rattle.fsa_types.specs.StreamBytes.{cut}
 use Rattle.fsa_types.proofs.RowLemmas.{row_of-map}
 use Rattle.fsa_model.proofs.RowLaws.{option_cases}
 use Rattle.fsa_model.proofs.SoundLaws.{IsSound-stream_changed}
 use Rattle.volume_state.specs.Inside.{content_of}
-use Rattle.volume_state.specs.Streams.{Kept, Reserved}
 use Rattle.volume_state.proofs.StreamLemmas.{room-down, IfSome-weaker, length-cut}
 use Rattle.volume_state.proofs.volume.Volume.set_length.Goals as goal
 

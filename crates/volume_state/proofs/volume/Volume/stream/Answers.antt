@@ -1,7 +1,5 @@
-use Rattle.std.proofs.Common.{sym, ◌∙◌, ap, refl, Some}
-use Rattle.std.specs.Prelude.{option_map}
+use Rattle.std.proofs.Common.{ap, refl, Some}
 use Rattle.fsa_types.proofs.RowLemmas.{row_of-map}
-use Rattle.volume_state.specs.Infos.{info_of}
 use Rattle.volume_state.proofs.volume.Volume.stream.Goals as goal
 
 pub returns-in-None : goal.returns-in-None

@@ -1,4 +1,3 @@
-use Rattle.std.proofs.Common.{sym, ◌∙◌}
 use Rattle.fsa_model.specs.Lookups.{is_stream_named}
 use Rattle.fsa_model.proofs.RowLaws.{number_of-map}
 use Rattle.volume_state.proofs.volume.Volume.stream_of.Goals as goal
