@@ -24,5 +24,12 @@ fn main(rt: HostRuntime) -> ExitCode {
     let mut source = StdSource::new(rt.reader());
     let mut sink = StdSink::new(io::writer(&rt));
     let gate = OpenGate;
-    ExitCode::from(fsa_main(&rt, rt.alloc(), words.as_slice(), &mut source, &mut sink, &gate))
+    ExitCode::from(fsa_main(
+        &rt,
+        rt.alloc(),
+        words.as_slice(),
+        &mut source,
+        &mut sink,
+        &gate,
+    ))
 }

@@ -11,13 +11,14 @@ pub with_row_changed-found : {R : Type 0} (change : R → R) (rows : List (ℕ �
 with_row_changed-found change [] id row rising found = refl
 with_row_changed-found {R} change (x ∷ xs) id row rising found =
     elim (x.0 == id) as (λ b. (x.0 == id) ≡ b → option_map (λ (entry : ℕ × R). entry.1) (cond b (Some x) (find (λ entry. entry.0 == id) xs)) ≡ Some row
-      → (cond b (x.0, change row) x) ∷ with_row_changed (λ _. change row) xs id ≡ (cond b (x.0, change x.1) x) ∷ with_row_changed change xs id) [
-      true ↦ λ is here.
-        let number : x.0 ≡ id = eqb-true x.0 id is in
-        let same : x.1 ≡ row = cc in
-        let above : All (λ y. id < y.0) xs = λ k e w. let b : x.0 < (get_or xs k e).0 = AreRising-first x xs rising k e w in omega arith in
-        rw (with_row_changed-above (λ _. change row) xs id above, with_row_changed-above change xs id above) (ap (λ r. (x.0, change r) ∷ xs) (sym same))
-      | false ↦ λ is there. ap (λ (rest : List (ℕ × R)). x ∷ rest) (with_row_changed-found change xs id row (AreRising-rest x xs rising) there) ]
+    → (cond b (x.0, change row) x) ∷ with_row_changed (λ _. change row) xs id ≡ (cond b (x.0, change x.1) x) ∷ with_row_changed change xs id) [
+      | true ↦ λ is here.
+          let number : x.0 ≡ id = eqb-true x.0 id is in
+          let same : x.1 ≡ row = cc in
+          let above : All (λ y. id < y.0) xs = λ k e w. let b : x.0 < (get_or xs k e).0 = AreRising-first x xs rising k e w in omega arith in
+          rw (with_row_changed-above (λ _. change row) xs id above, with_row_changed-above change xs id above) (ap (λ r. (x.0, change r) ∷ xs) (sym same))
+      | false ↦ λ is there. ap (λ (rest : List (ℕ × R)). x ∷ rest) (with_row_changed-found change xs id row (AreRising-rest x xs rising) there)
+    ]
     refl found
 
 -- no row has the number
@@ -25,17 +26,19 @@ pub with_row_changed-missing : {R : Type 0} (change : R → R) (rows : List (ℕ
 with_row_changed-missing change [] id missing = refl
 with_row_changed-missing {R} change (x ∷ xs) id missing =
     elim (x.0 == id) as (λ b. option_map (λ (entry : ℕ × R). entry.1) (cond b (Some x) (find (λ entry. entry.0 == id) xs)) ≡ None
-      → (cond b (x.0, change x.1) x) ∷ with_row_changed change xs id ≡ x ∷ xs) [
-      true ↦ λ here. cc
-      | false ↦ λ there. ap (λ (rest : List (ℕ × R)). x ∷ rest) (with_row_changed-missing change xs id there) ]
+    → (cond b (x.0, change x.1) x) ∷ with_row_changed change xs id ≡ x ∷ xs) [
+      | true ↦ λ here. cc
+      | false ↦ λ there. ap (λ (rest : List (ℕ × R)). x ∷ rest) (with_row_changed-missing change xs id there)
+    ]
     missing
 
 with_row_changed-by_itself : {R : Type 0} (rows : List (ℕ × R)) (id : ℕ) → with_row_changed (λ r. r) rows id ≡ rows
 with_row_changed-by_itself [] id = refl
 with_row_changed-by_itself {R} (x ∷ xs) id =
     elim (x.0 == id) as (λ b. (cond b (x.0, x.1) x) ∷ with_row_changed (λ r. r) xs id ≡ x ∷ xs) [
-      true ↦ ap (λ (rest : List (ℕ × R)). x ∷ rest) (with_row_changed-by_itself xs id)
-      | false ↦ ap (λ (rest : List (ℕ × R)). x ∷ rest) (with_row_changed-by_itself xs id) ]
+      | true ↦ ap (λ (rest : List (ℕ × R)). x ∷ rest) (with_row_changed-by_itself xs id)
+      | false ↦ ap (λ (rest : List (ℕ × R)). x ∷ rest) (with_row_changed-by_itself xs id)
+    ]
 
 -- the row that has the number, changed to itself
 pub with_row_changed-same : {R : Type 0} (rows : List (ℕ × R)) (id : ℕ) (row : R) → AreRising rows → row_of rows id ≡ Some row → with_row_changed (λ _. row) rows id ≡ rows

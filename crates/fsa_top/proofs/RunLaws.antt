@@ -126,7 +126,7 @@ Shows-last_front script v old mid now shows last = (
   turns_of (all_calls script),
   (IsHistory-whole script v old mid shows).scheduled,
   subst (λ (n : ℕ). AppendsFront old now (shown_turns script (turns_of (all_calls script)) ++ last_line n)) (sym (length-entries (all_calls script)))
-  (AppendsFront-append old mid now _ _ (subst (λ (calls : List Call). Appends old mid (shown_turns script (turns_of calls))) (all_made script v old mid shows) shows.3) last),
+      (AppendsFront-append old mid now _ _ (subst (λ (calls : List Call). Appends old mid (shown_turns script (turns_of calls))) (all_made script v old mid shows) shows.3) last),
 )
 
 -- a call of the script that fits

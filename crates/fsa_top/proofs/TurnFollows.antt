@@ -10,4 +10,4 @@ pub Goes-with_end : (old after : Volume) (end : EndOf) → Grows old after → G
 Goes-with_end old after end grows = record {
   idle = λ none. ap (filter (λ (entry : ℕ × Pending). not ((entry.1.call.client == end.client) && (entry.1.call.number == end.number)))) (grows.pending ∙ none);
   gives = λ most few. let more = grows.gives most few in record { files = more.files; links = more.links; streams = more.streams; handles = more.handles; clock = more.clock };
-  }
+}

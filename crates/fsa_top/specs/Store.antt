@@ -28,7 +28,7 @@ content_of s = record {
   last_handle = s.last_handle;
   last_lock = 0;
   last_break = 0;
-  }
+}
 
 abbrev pub spare_of : Inside → Spare
 spare_of s = record {
@@ -37,4 +37,4 @@ spare_of s = record {
   streams = s.streams.room;
   handles = vec_capacity s.handles - vec_len s.handles;
   ended = s.ended.room;
-  }
+}

@@ -3,8 +3,8 @@
 
 mod lines;
 mod machine;
-mod run;
 mod rows;
+mod run;
 mod store;
 mod text;
 mod top;

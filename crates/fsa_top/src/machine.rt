@@ -11,7 +11,8 @@ ghost use Rattle.fsa_top.specs.Try.{Gives, GivesUpTo, Goes, Grows, HasRoom, repl
 use crate::store::Store;
 use crate::verbs::{Asked, bare, try_close, try_create, try_leave, try_read, try_tick, try_write};
 use fsa_types::{
-    Answer, Call, CallIdList, EndList, EndOf, NoMemory, Out, Reply, ReplyRoom, Request, Status, What,
+    Answer, Call, CallIdList, EndList, EndOf, NoMemory, Out, Reply, ReplyRoom, Request, Status,
+    What,
 };
 use std::alloc::Global;
 
@@ -26,7 +27,13 @@ fn reply_bytes(what: &What) -> usize
 }
 
 // One try of a request.
-fn try_request(alloc: Global, store: &mut Store, client: u32, number: u32, request: &Request) -> Result<Reply, NoMemory>
+fn try_request(
+    alloc: Global,
+    store: &mut Store,
+    client: u32,
+    number: u32,
+    request: &Request,
+) -> Result<Reply, NoMemory>
     requires fits { IsTrue (request_fits request.now) }
     requires room { HasRoom store.old.spare }
     requires ids { GivesUpTo store.old.content 0xFFFFFFFF }
@@ -37,7 +44,13 @@ fn try_request(alloc: Global, store: &mut Store, client: u32, number: u32, reque
     ensures no_path { IfOk result (λ reply. units_of_body reply.body ≡ 0) }
 {
     match request {
-        Request::Create { path, wanted, share, disposition, .. } => {
+        Request::Create {
+            path,
+            wanted,
+            share,
+            disposition,
+            ..
+        } => {
             let asked = Asked {
                 client,
                 number,
@@ -48,13 +61,25 @@ fn try_request(alloc: Global, store: &mut Store, client: u32, number: u32, reque
         }
         Request::Close { handle } => Ok(try_close(store, client, *handle)),
         Request::Read { handle, at, count } => try_read(alloc, store, client, *handle, *at, *count),
-        Request::Write { handle, at, bytes } => try_write(store, client, *handle, *at, bytes.bytes()),
+        Request::Write { handle, at, bytes } => try_write(
+            store,
+            client,
+            *handle,
+            *at,
+            bytes.bytes(),
+        ),
         _ => Ok(bare(Status::InvalidDeviceRequest)),
     }
 }
 
 // One try of what a call does.
-fn try_what(alloc: Global, store: &mut Store, client: u32, number: u32, what: &What) -> Result<Reply, NoMemory>
+fn try_what(
+    alloc: Global,
+    store: &mut Store,
+    client: u32,
+    number: u32,
+    what: &What,
+) -> Result<Reply, NoMemory>
     requires fits { IsTrue (what_fits what.now) }
     requires room { HasRoom store.old.spare }
     requires ids { GivesUpTo store.old.content 0xFFFFFFFF }
@@ -103,7 +128,12 @@ pub fn turn(alloc: Global, store: &mut Store, call: &Call) -> Result<Out, NoMemo
 }
 
 // Makes a turn, with room for its reply.
-fn turn_in_room(alloc: Global, store: &mut Store, call: &Call, room: ReplyRoom) -> Result<Out, NoMemory>
+fn turn_in_room(
+    alloc: Global,
+    store: &mut Store,
+    call: &Call,
+    room: ReplyRoom,
+) -> Result<Out, NoMemory>
     requires fits { IsTrue (what_fits call.now.what) }
     requires room { HasRoom store.old.spare }
     requires reply { reply_bytes call.now.what ≤ room.bytes }

@@ -96,7 +96,11 @@ pub fn has_any(access: u32, bits: u32) -> bool
 fn takes_part(access: u32) -> bool
     ensures { result ≡ takes_part access }
 {
-    has_any(access, 0x1) || has_any(access, 0x20) || has_any(access, 0x2) || has_any(access, 0x4) || has_any(access, 0x10000)
+    has_any(access, 0x1)
+        || has_any(access, 0x20)
+        || has_any(access, 0x2)
+        || has_any(access, 0x4)
+        || has_any(access, 0x10000)
 }
 
 // Whether an access has what the other open doesn't share.
@@ -200,7 +204,8 @@ impl StoredStream {
         ensures ok { OnOk result (self.new ≡ record self.old { bytes = put self.old.bytes at piece.now }) }
         ensures err { OnErr result (self.new ≡ self.old) }
     {
-        self.bytes.reserve((at + piece.len()).saturating_sub(self.bytes.len()))?;
+        self.bytes
+            .reserve((at + piece.len()).saturating_sub(self.bytes.len()))?;
         put_at(&mut self.bytes, at, piece);
         Ok(())
     }

@@ -55,7 +55,13 @@ impl From<fsa_types::NoMemory> for RunFault {
 }
 
 // Makes one turn and writes its lines.
-fn make_turn<K: Sink>(alloc: Global, store: &mut Store, clients: &ClientList, call: &Call, sink: &mut K) -> Result<(), RunFault>
+fn make_turn<K: Sink>(
+    alloc: Global,
+    store: &mut Store,
+    clients: &ClientList,
+    call: &Call,
+    sink: &mut K,
+) -> Result<(), RunFault>
     requires fits { IsTrue (what_fits call.now.what) }
     requires ids { GivesUpTo store.old.content 0xFFFFFFFF }
     ensures made { MakesTurn store.old.content store.new.content (map client_of clients.now.items) call.now (K.written sink.old) (K.written sink.new) result }
@@ -97,7 +103,12 @@ fn leave_after(lines: &[Call], client: u32) -> Call
 }
 
 // Makes the turns of the lines, and then those in which the clients leave.
-fn run_calls<K: Sink>(alloc: Global, store: &mut Store, script: &Script, sink: &mut K) -> Result<(), RunFault>
+fn run_calls<K: Sink>(
+    alloc: Global,
+    store: &mut Store,
+    script: &Script,
+    sink: &mut K,
+) -> Result<(), RunFault>
     requires fit { AllFit (contents script.now).lines }
     requires few { length (all_calls (contents script.now)) < 0xFFFFFFFF }
     requires few_lines { length (contents script.now).lines < 0xFFFFFFFF }
@@ -153,7 +164,12 @@ fn turn_count(script: &Script) -> u32
 }
 
 // Makes all calls of a script on this volume, and writes the text of the history.
-fn run_on<K: Sink>(alloc: Global, store: &mut Store, script: &Script, sink: &mut K) -> Result<(), RunFault>
+fn run_on<K: Sink>(
+    alloc: Global,
+    store: &mut Store,
+    script: &Script,
+    sink: &mut K,
+) -> Result<(), RunFault>
     requires fit { AllFit (contents script.now).lines }
     requires few { length (all_calls (contents script.now)) < 0xFFFFFFFF }
     requires few_lines { length (contents script.now).lines < 0xFFFFFFFF }

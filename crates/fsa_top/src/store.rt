@@ -204,7 +204,12 @@ impl Store {
         let Ok(file) = self.files.add(made_file(owner, self.clock)) else {
             unreachable!()
         };
-        let Ok(link) = self.links.add(StoredLink { parent: 1, name, file }) else {
+        let Ok(link) = self.links.add(StoredLink {
+            parent: 1,
+            name,
+            file,
+        })
+        else {
             unreachable!()
         };
         let row = StoredStream {
@@ -338,7 +343,12 @@ fn drop_client(handles: &mut Vec<(u64, StoredHandle)>, client: u32)
 }
 
 // Puts a piece into the bytes of the stream of this number.
-fn put_in(streams: &mut Table<StoredStream>, stream: u64, at: usize, piece: &[u8]) -> Result<(), NoMemory>
+fn put_in(
+    streams: &mut Table<StoredStream>,
+    stream: u64,
+    at: usize,
+    piece: &[u8],
+) -> Result<(), NoMemory>
     requires fits { at + length piece.now < 2 ^ 63 }
     ensures ok { OnOk result (streams.new.rows ≡ with_row_changed (λ row. record row { bytes = put row.bytes at piece.now }) streams.old.rows stream) }
     ensures err { OnErr result (streams.new.rows ≡ streams.old.rows) }

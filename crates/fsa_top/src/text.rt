@@ -7,7 +7,8 @@ ghost use Rattle.fsa_model.specs.Outcome.{out_of};
 ghost use Rattle.fsa_model.specs.Text.{action_text, answer_line, body_text, bytes_text, call_text, digit, end_line, ended_lines, hex_digits, interim_text, last_line, level_word, name_of, request_word, turn_text, verb};
 
 use fsa_types::{
-    Action, Answer, Body, Call, ClientList, EndOf, Interim, Level, NoMemory, Out, Reply, Request, What,
+    Action, Answer, Body, Call, ClientList, EndOf, Interim, Level, NoMemory, Out, Reply, Request,
+    What,
 };
 use itoa::Buffer;
 
@@ -157,7 +158,12 @@ fn push_name(line: &mut Vec<u8>, clients: &ClientList, client: u32) -> Result<()
 }
 
 // A call's client and number.
-fn push_call(line: &mut Vec<u8>, clients: &ClientList, client: u32, number: u32) -> Result<(), NoMemory>
+fn push_call(
+    line: &mut Vec<u8>,
+    clients: &ClientList,
+    client: u32,
+    number: u32,
+) -> Result<(), NoMemory>
     ensures { IfOk result (λ _. line.new.items ≡ line.old.items ++ call_text (map client_of clients.now.items) client number) }
 {
     push_name(line, clients, client)?;
@@ -166,7 +172,13 @@ fn push_call(line: &mut Vec<u8>, clients: &ClientList, client: u32, number: u32)
 }
 
 // The line of a call that has ended.
-fn push_end(line: &mut Vec<u8>, clients: &ClientList, client: u32, number: u32, reply: &Reply) -> Result<(), NoMemory>
+fn push_end(
+    line: &mut Vec<u8>,
+    clients: &ClientList,
+    client: u32,
+    number: u32,
+    reply: &Reply,
+) -> Result<(), NoMemory>
     ensures { IfOk result (λ _. line.new.items ≡ line.old.items ++ end_line (map client_of clients.now.items) client number reply.now) }
 {
     push_call(line, clients, client, number)?;
@@ -178,7 +190,12 @@ fn push_end(line: &mut Vec<u8>, clients: &ClientList, client: u32, number: u32, 
 }
 
 // The line that answers the turn's own call.
-fn push_answer(line: &mut Vec<u8>, clients: &ClientList, call: &Call, answer: &Answer) -> Result<(), NoMemory>
+fn push_answer(
+    line: &mut Vec<u8>,
+    clients: &ClientList,
+    call: &Call,
+    answer: &Answer,
+) -> Result<(), NoMemory>
     ensures { IfOk result (λ _. line.new.items ≡ line.old.items ++ answer_line (map client_of clients.now.items) call.now answer.now) }
 {
     match answer {
@@ -188,7 +205,12 @@ fn push_answer(line: &mut Vec<u8>, clients: &ClientList, call: &Call, answer: &A
 }
 
 // The line of a call that is pending.
-fn push_pending(line: &mut Vec<u8>, clients: &ClientList, call: &Call, interim: Interim) -> Result<(), NoMemory>
+fn push_pending(
+    line: &mut Vec<u8>,
+    clients: &ClientList,
+    call: &Call,
+    interim: Interim,
+) -> Result<(), NoMemory>
     ensures { IfOk result (λ _. line.new.items ≡ line.old.items ++ answer_line (map client_of clients.now.items) call.now (Answer.Pending interim)) }
 {
     push_call(line, clients, call.client, call.number)?;
@@ -222,7 +244,12 @@ fn push_head(line: &mut Vec<u8>, clients: &ClientList, call: &Call) -> Result<()
 
 /// Puts the lines of a turn at the end. `NoMemory` where there is no room for them; what stands at
 /// the end is then a prefix of them.
-pub fn push_turn(line: &mut Vec<u8>, clients: &ClientList, call: &Call, out: &Out) -> Result<(), NoMemory>
+pub fn push_turn(
+    line: &mut Vec<u8>,
+    clients: &ClientList,
+    call: &Call,
+    out: &Out,
+) -> Result<(), NoMemory>
     ensures { IfOk result (λ _. line.new.items ≡ line.old.items ++ turn_text (map client_of clients.now.items) call.now (out_of out.now)) }
 {
     push_head(line, clients, call)?;

@@ -94,7 +94,12 @@ fn run_source<S: Source, K: Sink>(alloc: Global, source: &mut S, sink: &mut K) -
 /// - 6: the source has more than 16,777,216 bytes; the line `limit bytes` is written.
 ///
 /// A status that is decided stands also where the sink fails while its line is written.
-pub fn fsa_single<S: Source, K: Sink>(alloc: Global, words: &[String], source: &mut S, sink: &mut K) -> u8
+pub fn fsa_single<S: Source, K: Sink>(
+    alloc: Global,
+    words: &[String],
+    source: &mut S,
+    sink: &mut K,
+) -> u8
     ensures success_is_the_text_of_the_one_history { result ≡ 0 → Ran (S.left source.old) (S.left source.new) (K.written sink.old) (K.written sink.new) }
     ensures usage_exactly { (result ≡ 1) ↔ (is_run words.now ≡ false) }
     ensures usage_reads_nothing { result ≡ 1 → (S.left source.new ≡ S.left source.old) × Says usage_line (K.written sink.old) (K.written sink.new) (K.faults sink.old) (K.faults sink.new) }
@@ -120,7 +125,14 @@ pub fn fsa_single<S: Source, K: Sink>(alloc: Global, words: &[String], source: &
 
 /// The program, on threads where the words ask for them: it answers every list of words as
 /// `fsa_single` does, and none asks for threads yet. It may wait for others.
-pub fn fsa_main<R: Threads + Wait + Sync, S: Source, K: Sink, G: Gate + Sync>(rt: &R, alloc: Global, words: &[String], source: &mut S, sink: &mut K, gate: &G) -> u8
+pub fn fsa_main<R: Threads + Wait + Sync, S: Source, K: Sink, G: Gate + Sync>(
+    rt: &R,
+    alloc: Global,
+    words: &[String],
+    source: &mut S,
+    sink: &mut K,
+    gate: &G,
+) -> u8
     ensures success_is_the_text_of_the_one_history { result ≡ 0 → Ran (S.left source.old) (S.left source.new) (K.written sink.old) (K.written sink.new) }
     ensures usage_exactly { (result ≡ 1) ↔ (is_run words.now ≡ false) }
     ensures usage_reads_nothing { result ≡ 1 → (S.left source.new ≡ S.left source.old) × Says usage_line (K.written sink.old) (K.written sink.new) (K.faults sink.old) (K.faults sink.new) }

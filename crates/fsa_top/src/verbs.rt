@@ -42,7 +42,14 @@ fn succeeded(body: Body) -> Reply
 }
 
 /// Reads bytes through a handle. `NoMemory` where there is none for them.
-pub fn try_read(alloc: Global, store: &Store, client: u32, handle: u32, at: u64, count: u32) -> Result<Reply, NoMemory>
+pub fn try_read(
+    alloc: Global,
+    store: &Store,
+    client: u32,
+    handle: u32,
+    at: u64,
+    count: u32,
+) -> Result<Reply, NoMemory>
     ensures gives { Gives (try_read store.now.content client handle at count) store.now.content store.now.content result }
     ensures small { IfOk result (λ reply. bytes_of_body reply.body ≤ count) }
     ensures no_path { IfOk result (λ reply. units_of_body reply.body ≡ 0) }
@@ -54,7 +61,14 @@ pub fn try_read(alloc: Global, store: &Store, client: u32, handle: u32, at: u64,
 }
 
 // Reads of this stream by a handle with this access.
-fn read_bytes(alloc: Global, store: &Store, access: u32, stream: u64, at: u64, count: u32) -> Result<Reply, NoMemory>
+fn read_bytes(
+    alloc: Global,
+    store: &Store,
+    access: u32,
+    stream: u64,
+    at: u64,
+    count: u32,
+) -> Result<Reply, NoMemory>
     ensures gives { Gives (read_bytes store.now.content access (bytes_of store.now.content stream) at count) store.now.content store.now.content result }
     ensures small { IfOk result (λ reply. bytes_of_body reply.body ≤ count) }
     ensures no_path { IfOk result (λ reply. units_of_body reply.body ≡ 0) }
@@ -85,7 +99,13 @@ fn can_write(access: u32, at: Option<u64>) -> bool
 }
 
 /// Writes bytes through a handle. `NoMemory` changes nothing.
-pub fn try_write(store: &mut Store, client: u32, handle: u32, at: Option<u64>, bytes: &[u8]) -> Result<Reply, NoMemory>
+pub fn try_write(
+    store: &mut Store,
+    client: u32,
+    handle: u32,
+    at: Option<u64>,
+    bytes: &[u8],
+) -> Result<Reply, NoMemory>
     requires few { length bytes.now ≤ 16384 }
     ensures gives { Gives (try_write store.old.content client handle at bytes.now) store.old.content store.new.content result }
     ensures spare { store.new.spare ≡ store.old.spare }
@@ -102,7 +122,13 @@ pub fn try_write(store: &mut Store, client: u32, handle: u32, at: Option<u64>, b
 }
 
 // Writes of a handle with this access.
-fn write_bytes(store: &mut Store, access: u32, stream: u64, at: Option<u64>, bytes: &[u8]) -> Result<Reply, NoMemory>
+fn write_bytes(
+    store: &mut Store,
+    access: u32,
+    stream: u64,
+    at: Option<u64>,
+    bytes: &[u8],
+) -> Result<Reply, NoMemory>
     requires few { length bytes.now ≤ 16384 }
     ensures gives { Gives (write_bytes store.old.content access stream at bytes.now) store.old.content store.new.content result }
     ensures spare { store.new.spare ≡ store.old.spare }
@@ -224,7 +250,13 @@ fn behind_first(path: &[u16]) -> &[u16]
 
 /// Opens `\NAME`, by a path's units. There has to be room for a file, its link, its stream and a
 /// handle.
-pub fn try_create(alloc: Global, store: &mut Store, asked: &Asked, disposition: Disposition, path: &[u16]) -> Result<Reply, NoMemory>
+pub fn try_create(
+    alloc: Global,
+    store: &mut Store,
+    asked: &Asked,
+    disposition: Disposition,
+    path: &[u16],
+) -> Result<Reply, NoMemory>
     requires room { HasRoom store.old.spare }
     requires ids { GivesUpTo store.old.content 0xFFFFFFFF }
     ensures gives { Gives (try_create store.old.content asked.now disposition path.now) store.old.content store.new.content result }
@@ -233,11 +265,23 @@ pub fn try_create(alloc: Global, store: &mut Store, asked: &Asked, disposition: 
     ensures small { IfOk result (λ reply. bytes_of_body reply.body ≡ 0) }
     ensures no_path { IfOk result (λ reply. units_of_body reply.body ≡ 0) }
 {
-    create_named(alloc, store, asked, only_makes(disposition), behind_first(path))
+    create_named(
+        alloc,
+        store,
+        asked,
+        only_makes(disposition),
+        behind_first(path),
+    )
 }
 
 // Opens or makes the file of this name in the root.
-fn create_named(alloc: Global, store: &mut Store, asked: &Asked, makes: bool, name: &[u16]) -> Result<Reply, NoMemory>
+fn create_named(
+    alloc: Global,
+    store: &mut Store,
+    asked: &Asked,
+    makes: bool,
+    name: &[u16],
+) -> Result<Reply, NoMemory>
     requires room { HasRoom store.old.spare }
     requires ids { GivesUpTo store.old.content 0xFFFFFFFF }
     ensures gives { Gives (create_named store.old.content asked.now makes name.now) store.old.content store.new.content result }
@@ -255,7 +299,13 @@ fn create_named(alloc: Global, store: &mut Store, asked: &Asked, makes: bool, na
 }
 
 // Makes the file in the root and opens it, or refuses.
-fn create_missing(alloc: Global, store: &mut Store, asked: &Asked, makes: bool, name: &[u16]) -> Result<Reply, NoMemory>
+fn create_missing(
+    alloc: Global,
+    store: &mut Store,
+    asked: &Asked,
+    makes: bool,
+    name: &[u16],
+) -> Result<Reply, NoMemory>
     requires room { HasRoom store.old.spare }
     requires ids { GivesUpTo store.old.content 0xFFFFFFFF }
     ensures gives { Gives (create_missing store.old.content asked.now makes name.now) store.old.content store.new.content result }

@@ -19,7 +19,7 @@ returns-in_err-put_all-2-clause-front g c =
     let digits : c.as_bytes.result.now ≡ decimal c.args.line = c.as_bytes.ensures.value ∙ c.format.ensures.text in
     OnErr-any {T = Unit {0}} {E = Failed} c.from_residual-in_err-put_all-2.result _
     (AppendsFront-append old mid now (codes "bad line ") (decimal c.args.line ++ 10 ∷ []) c.in_ok-put_all.ensures.all
-      (AppendsFront-longer mid now (decimal c.args.line) (10 ∷ []) (subst (AppendsFront mid now) digits c.in_err-put_all-2.ensures.front)))
+    (AppendsFront-longer mid now (decimal c.args.line) (10 ∷ []) (subst (AppendsFront mid now) digits c.in_err-put_all-2.ensures.front)))
 
 pub returns-in_err-put_all-3-clause-front : goal.returns-in_err-put_all-3-clause-front
 returns-in_err-put_all-3-clause-front g c =
@@ -30,5 +30,5 @@ returns-in_err-put_all-3-clause-front g c =
     let digits : c.as_bytes.result.now ≡ decimal c.args.line = c.as_bytes.ensures.value ∙ c.format.ensures.text in
     OnErr-any {T = Unit {0}} {E = Failed} c.from_residual-in_err-put_all-3.result _
     (AppendsFront-append old late now (codes "bad line " ++ decimal c.args.line) (10 ∷ [])
-      (Appends-append old mid late (codes "bad line ") (decimal c.args.line) c.in_ok-put_all.ensures.all (subst (Appends mid late) digits c.in_ok-put_all-2.ensures.all))
-      c.in_err-put_all-3.ensures.front)
+    (Appends-append old mid late (codes "bad line ") (decimal c.args.line) c.in_ok-put_all.ensures.all (subst (Appends mid late) digits c.in_ok-put_all-2.ensures.all))
+    c.in_err-put_all-3.ensures.front)

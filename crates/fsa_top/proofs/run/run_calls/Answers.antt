@@ -22,8 +22,8 @@ returns-in_err-make_turn-clause-part g c =
     let now = g.K.Sink.written c.make_turn.new.sink in
     OnErr-any {T = Unit {0}} {E = RunFault} c.from_residual.result _
     (MakesTurn-part (contents c.args.script.now) c.call-item.result _ c.loop-call.store.content c.make_turn.new.store.content old mid now c.in_err-make_turn.field-0.0
-      (Shows-next (contents c.args.script.now) c.as_slice-lines.result.now _ c.loop-call.call-index c.call-item.result _ old mid c.loop-call.invariant.shows c.loop-call-test.true c.call-item.is)
-      (subst (λ (clients : List Client). MakesTurn c.loop-call.store.content c.make_turn.new.store.content clients c.call-item.result mid now (Err c.in_err-make_turn.field-0.0)) c.clients-clients.ensures c.in_err-make_turn.ensures.made))
+    (Shows-next (contents c.args.script.now) c.as_slice-lines.result.now _ c.loop-call.call-index c.call-item.result _ old mid c.loop-call.invariant.shows c.loop-call-test.true c.call-item.is)
+    (subst (λ (clients : List Client). MakesTurn c.loop-call.store.content c.make_turn.new.store.content clients c.call-item.result mid now (Err c.in_err-make_turn.field-0.0)) c.clients-clients.ensures c.in_err-make_turn.ensures.made))
 
 pub loop-call-preserved : goal.loop-call-preserved
 loop-call-preserved g c =
@@ -52,9 +52,9 @@ returns-in_err-make_turn-2-clause-part g c =
     let leaving : c.leave_after-call.result ≡ leave_after (contents c.args.script.now).lines c.loop-client.client = c.leave_after-call.ensures ∙ ap (λ (lines : List Call). leave_after lines c.loop-client.client) (c.as_slice-lines.ensures ∙ c.lines.ensures) in
     OnErr-any {T = Unit {0}} {E = RunFault} c.from_residual-in_err-make_turn-2.result _
     (MakesTurn-part (contents c.args.script.now) (leave_after (contents c.args.script.now).lines c.loop-client.client) _ c.loop-client.store.content c.make_turn-in-loop-client.new.store.content old mid now c.in_err-make_turn-2.field-0.0
-      (Shows-leave (contents c.args.script.now) c.loop-client.client _ old mid c.loop-client.invariant.shows within)
-      (subst (λ (call : Call). MakesTurn c.loop-client.store.content c.make_turn-in-loop-client.new.store.content (contents c.args.script.now).setup.clients call mid now (Err c.in_err-make_turn-2.field-0.0)) leaving
-        (subst (λ (clients : List Client). MakesTurn c.loop-client.store.content c.make_turn-in-loop-client.new.store.content clients c.leave_after-call.result mid now (Err c.in_err-make_turn-2.field-0.0)) c.clients-clients.ensures c.in_err-make_turn-2.ensures.made)))
+    (Shows-leave (contents c.args.script.now) c.loop-client.client _ old mid c.loop-client.invariant.shows within)
+    (subst (λ (call : Call). MakesTurn c.loop-client.store.content c.make_turn-in-loop-client.new.store.content (contents c.args.script.now).setup.clients call mid now (Err c.in_err-make_turn-2.field-0.0)) leaving
+    (subst (λ (clients : List Client). MakesTurn c.loop-client.store.content c.make_turn-in-loop-client.new.store.content clients c.leave_after-call.result mid now (Err c.in_err-make_turn-2.field-0.0)) c.clients-clients.ensures c.in_err-make_turn-2.ensures.made)))
 
 pub loop-client-preserved : goal.loop-client-preserved
 loop-client-preserved g c =
@@ -68,6 +68,6 @@ loop-client-preserved g c =
       shows = Shows-turn (contents c.args.script.now) (leave_after (contents c.args.script.now).lines c.loop-client.client) _ c.loop-client.store.content c.make_turn-in-loop-client.new.store.content old mid now c.in_ok-make_turn-2.ensures.made.0
           (Shows-leave (contents c.args.script.now) c.loop-client.client _ old mid c.loop-client.invariant.shows within)
           (subst (λ (call : Call). Turns c.loop-client.store.content c.make_turn-in-loop-client.new.store.content (contents c.args.script.now).setup.clients call mid now c.in_ok-make_turn-2.ensures.made.0) leaving
-            (subst (λ (clients : List Client). Turns c.loop-client.store.content c.make_turn-in-loop-client.new.store.content clients c.leave_after-call.result mid now c.in_ok-make_turn-2.ensures.made.0) c.clients-clients.ensures c.in_ok-make_turn-2.ensures.made.1));
+          (subst (λ (clients : List Client). Turns c.loop-client.store.content c.make_turn-in-loop-client.new.store.content clients c.leave_after-call.result mid now c.in_ok-make_turn-2.ensures.made.0) c.clients-clients.ensures c.in_ok-make_turn-2.ensures.made.1));
       later = omega (arith, c.in_ok-make_turn-2.ensures.later);
     }

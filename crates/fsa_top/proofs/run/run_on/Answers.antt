@@ -15,16 +15,15 @@ returns-in_err-write_last-clause-part g c =
     let now = g.K.Sink.written c.write_last.new.sink in
     OnErr-any {T = Unit {0}} {E = RunFault} c.from_residual-in_err-write_last.result _
     (Shows-last_front (contents c.args.script.now) _ old mid now c.in_ok-run_calls.ensures.ok
-      (subst (λ (n : ℕ). AppendsFront mid now (last_line n)) c.turn_count.ensures c.in_err-write_last.ensures.front))
+    (subst (λ (n : ℕ). AppendsFront mid now (last_line n)) c.turn_count.ensures c.in_err-write_last.ensures.front))
 
 pub returns-clause-ok : goal.returns-clause-ok
 returns-clause-ok g c =
     let old = g.K.Sink.written c.args.sink.now in
     let mid = g.K.Sink.written c.run_calls.new.sink in
-    let now = g.K.Sink.written c.write_last.new.sink in
-    (
+    let now = g.K.Sink.written c.write_last.new.sink in (
       turns_of (all_calls (contents c.args.script.now)),
       IsHistory-whole (contents c.args.script.now) _ old mid c.in_ok-run_calls.ensures.ok,
       Shows-whole (contents c.args.script.now) _ old mid now c.in_ok-run_calls.ensures.ok
-        (subst (λ (n : ℕ). Appends mid now (last_line n)) c.turn_count.ensures c.in_ok-write_last.ensures.ok),
+          (subst (λ (n : ℕ). Appends mid now (last_line n)) c.turn_count.ensures c.in_ok-write_last.ensures.ok),
     )

@@ -1,0 +1,6 @@
+//! Tests that cross crates: whole runs of the program over bytes in memory, each with the bytes
+//! that it has to write. It has no code of its own.
+#![tactic(auto)]
+
+#[cfg(test)]
+mod tests;
