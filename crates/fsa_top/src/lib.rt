@@ -1,4 +1,13 @@
-//! The top call: a script from a source, run on one volume, its history written to a sink as text.
+//! The top calls. They read a script from a source, run it on one volume, and write its history to
+//! a sink as text; the answer is the program's status.
+//!
+//! `fsa_single(alloc, words, &mut source, &mut sink)` with the one word `run` and the script
+//!
+//!     fsa 1
+//!     client a 7
+//!
+//! writes `> a 1 leave`, `a 1 SUCCESS` and `end 1`, and answers 0. Nothing is asked of the words,
+//! the bytes, the source or the sink. The script is held in memory whole, and so are all replies.
 #![tactic(auto)]
 
 mod lines;

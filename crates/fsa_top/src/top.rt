@@ -41,7 +41,7 @@ fn run_bytes<K: Sink>(alloc: Global, bytes: &[u8], sink: &mut K) -> u8
     ensures bad { result ≡ 2 → NamesFault bytes.now (K.written sink.old) (K.written sink.new) (K.faults sink.old) (K.faults sink.new) }
     ensures write { result ≡ 4 → Rose (K.faults sink.old) (K.faults sink.new) }
     ensures part { result ≡ 4 → RunsPart bytes.now (K.written sink.old) (K.written sink.new) }
-    ensures memory { result ≡ 5 → (K.written sink.new ≡ K.written sink.old) ⊎ RunsPart bytes.now (K.written sink.old) (K.written sink.new) }
+    ensures memory { result ≡ 5 → (sink.new ≡ sink.old) ⊎ RunsPart bytes.now (K.written sink.old) (K.written sink.new) }
     ensures known { (result ≡ 0) ⊎ ((result ≡ 2) ⊎ ((result ≡ 4) ⊎ (result ≡ 5))) }
     ensures later { K.faults sink.old ≤ K.faults sink.new }
 {
@@ -59,9 +59,9 @@ fn run_bytes<K: Sink>(alloc: Global, bytes: &[u8], sink: &mut K) -> u8
 fn run_source<S: Source, K: Sink>(alloc: Global, source: &mut S, sink: &mut K) -> u8
     ensures done { result ≡ 0 → Ran (S.left source.old) (S.left source.new) (K.written sink.old) (K.written sink.new) }
     ensures bad { result ≡ 2 → FoundBad (S.left source.old) (S.left source.new) (K.written sink.old) (K.written sink.new) (K.faults sink.old) (K.faults sink.new) }
-    ensures read { result ≡ 3 → Rose (S.faults source.old) (S.faults source.new) × (K.written sink.new ≡ K.written sink.old) }
+    ensures read { result ≡ 3 → Rose (S.faults source.old) (S.faults source.new) × (sink.new ≡ sink.old) }
     ensures write { result ≡ 4 → Rose (K.faults sink.old) (K.faults sink.new) × RanInPart (S.left source.old) (S.left source.new) (K.written sink.old) (K.written sink.new) }
-    ensures memory { result ≡ 5 → (K.written sink.new ≡ K.written sink.old) ⊎ RanInPart (S.left source.old) (S.left source.new) (K.written sink.old) (K.written sink.new) }
+    ensures memory { result ≡ 5 → (sink.new ≡ sink.old) ⊎ RanInPart (S.left source.old) (S.left source.new) (K.written sink.old) (K.written sink.new) }
     ensures limit { result ≡ 6 → HasMoreThan MOST_SCRIPT_BYTES (S.left source.old) × Says limit_bytes_line (K.written sink.old) (K.written sink.new) (K.faults sink.old) (K.faults sink.new) }
     ensures known { (result ≢ 1) × (result ≤ 6) }
     ensures exceeds { (bytes : List ℕ) → S.left source.old ≡ Some bytes → MOST_SCRIPT_BYTES < length bytes → (Rose (S.faults source.old) (S.faults source.new) → ⊥) → (result ≡ 6) ⊎ (result ≡ 5) }
@@ -102,11 +102,11 @@ pub fn fsa_single<S: Source, K: Sink>(
 ) -> u8
     ensures success_is_the_text_of_the_one_history { result ≡ 0 → Ran (S.left source.old) (S.left source.new) (K.written sink.old) (K.written sink.new) }
     ensures usage_exactly { (result ≡ 1) ↔ (is_run words.now ≡ false) }
-    ensures usage_reads_nothing { result ≡ 1 → (S.left source.new ≡ S.left source.old) × Says usage_line (K.written sink.old) (K.written sink.new) (K.faults sink.old) (K.faults sink.new) }
+    ensures usage_reads_nothing { result ≡ 1 → (source.new ≡ source.old) × Says usage_line (K.written sink.old) (K.written sink.new) (K.faults sink.old) (K.faults sink.new) }
     ensures bad_script { result ≡ 2 → FoundBad (S.left source.old) (S.left source.new) (K.written sink.old) (K.written sink.new) (K.faults sink.old) (K.faults sink.new) }
-    ensures source_failed { result ≡ 3 → Rose (S.faults source.old) (S.faults source.new) × (K.written sink.new ≡ K.written sink.old) }
+    ensures source_failed { result ≡ 3 → Rose (S.faults source.old) (S.faults source.new) × (sink.new ≡ sink.old) }
     ensures sink_failed { result ≡ 4 → Rose (K.faults sink.old) (K.faults sink.new) × RanInPart (S.left source.old) (S.left source.new) (K.written sink.old) (K.written sink.new) }
-    ensures no_memory { result ≡ 5 → (K.written sink.new ≡ K.written sink.old) ⊎ RanInPart (S.left source.old) (S.left source.new) (K.written sink.old) (K.written sink.new) }
+    ensures no_memory { result ≡ 5 → (sink.new ≡ sink.old) ⊎ RanInPart (S.left source.old) (S.left source.new) (K.written sink.old) (K.written sink.new) }
     ensures too_many_bytes { result ≡ 6 → HasMoreThan MOST_SCRIPT_BYTES (S.left source.old) × Says limit_bytes_line (K.written sink.old) (K.written sink.new) (K.faults sink.old) (K.faults sink.new) }
     ensures known { result ≤ 6 }
     ensures faults_never_fall { (S.faults source.old ≤ S.faults source.new) × (K.faults sink.old ≤ K.faults sink.new) }
@@ -135,11 +135,11 @@ pub fn fsa_main<R: Threads + Wait + Sync, S: Source, K: Sink, G: Gate + Sync>(
 ) -> u8
     ensures success_is_the_text_of_the_one_history { result ≡ 0 → Ran (S.left source.old) (S.left source.new) (K.written sink.old) (K.written sink.new) }
     ensures usage_exactly { (result ≡ 1) ↔ (is_run words.now ≡ false) }
-    ensures usage_reads_nothing { result ≡ 1 → (S.left source.new ≡ S.left source.old) × Says usage_line (K.written sink.old) (K.written sink.new) (K.faults sink.old) (K.faults sink.new) }
+    ensures usage_reads_nothing { result ≡ 1 → (source.new ≡ source.old) × Says usage_line (K.written sink.old) (K.written sink.new) (K.faults sink.old) (K.faults sink.new) }
     ensures bad_script { result ≡ 2 → FoundBad (S.left source.old) (S.left source.new) (K.written sink.old) (K.written sink.new) (K.faults sink.old) (K.faults sink.new) }
-    ensures source_failed { result ≡ 3 → Rose (S.faults source.old) (S.faults source.new) × (K.written sink.new ≡ K.written sink.old) }
+    ensures source_failed { result ≡ 3 → Rose (S.faults source.old) (S.faults source.new) × (sink.new ≡ sink.old) }
     ensures sink_failed { result ≡ 4 → Rose (K.faults sink.old) (K.faults sink.new) × RanInPart (S.left source.old) (S.left source.new) (K.written sink.old) (K.written sink.new) }
-    ensures no_memory { result ≡ 5 → (K.written sink.new ≡ K.written sink.old) ⊎ RanInPart (S.left source.old) (S.left source.new) (K.written sink.old) (K.written sink.new) }
+    ensures no_memory { result ≡ 5 → (sink.new ≡ sink.old) ⊎ RanInPart (S.left source.old) (S.left source.new) (K.written sink.old) (K.written sink.new) }
     ensures too_many_bytes { result ≡ 6 → HasMoreThan MOST_SCRIPT_BYTES (S.left source.old) × Says limit_bytes_line (K.written sink.old) (K.written sink.new) (K.faults sink.old) (K.faults sink.new) }
     ensures known { result ≤ 6 }
     ensures faults_never_fall { (S.faults source.old ≤ S.faults source.new) × (K.faults sink.old ≤ K.faults sink.new) }

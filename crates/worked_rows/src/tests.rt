@@ -11,7 +11,7 @@ const FIRST_TEXT: &str = "> a 1 create\na 1 SUCCESS created\n> a 2 write\na 2 SU
     > a 3 read\na 3 SUCCESS x68656c6c6f\n> a 4 close\na 4 SUCCESS\n> a 5 leave\na 5 SUCCESS\nend 5\n";
 
 // Scripts, each with its status and what is written.
-const RUNS: [(&str, u8, &str); 9] = [
+const RUNS: [(&str, u8, &str); 10] = [
     (FIRST, 0, FIRST_TEXT),
     (
         "fsa 1\nclient a 7\n",
@@ -48,6 +48,12 @@ const RUNS: [(&str, u8, &str); 9] = [
         0,
         "> b 1 tick\nb 1 SUCCESS\n> a 1 tick\na 1 SUCCESS\n> a 2 leave\na 2 SUCCESS\n\
          > b 2 leave\nb 2 SUCCESS\nend 4\n",
+    ),
+    (
+        "fsa 1\nclient a 7\na 1 create =\\A 0x3 0x0 open 0x0 0x0 0\na 2 read 1 0 1\n",
+        0,
+        "> a 1 create\na 1 OBJECT_NAME_NOT_FOUND\n> a 2 read\na 2 INVALID_HANDLE\n\
+         > a 3 leave\na 3 SUCCESS\nend 3\n",
     ),
     ("fsa 1\nclient a 7\na 1 create =\\A 0x", 2, "bad line 3\n"),
     ("", 2, "bad line 1\n"),
@@ -107,7 +113,7 @@ fn a_source_that_fails_writes_nothing(rt: HostRuntime) -> Result<(), Fail> {
 
 #[test]
 fn a_sink_that_fails_has_a_prefix(rt: HostRuntime) -> Result<(), Fail> {
-    for call in 1u64..6 {
+    for call in 1u64..7 {
         let words = run_word(rt.alloc())?;
         let mut source = MemorySource::new(rt.alloc(), FIRST.as_bytes(), 4096, &[])?;
         let mut sink = MemorySink::new(rt.alloc(), 4096, 4096, &[call])?;
@@ -120,5 +126,6 @@ fn a_sink_that_fails_has_a_prefix(rt: HostRuntime) -> Result<(), Fail> {
     let mut sink = MemorySink::new(rt.alloc(), 4096, 4096, &[1])?;
     let found = fsa_single(rt.alloc(), words.as_slice(), &mut source, &mut sink);
     assert_eq!(rt; found, 2);
+    assert_eq!(rt; sink.bytes(), b"".as_slice());
     Ok(())
 }
