@@ -9,8 +9,10 @@ use crate::fault::NameFault;
 // How many units a component has at most.
 const MOST_UNITS: usize = 255;
 
-// Whether the component whose first unit has this place in its path is sound.
-pub fn check_component(place: usize, name: &[u16]) -> Result<(), NameFault>
+/// Whether the component whose first unit has this place in its path is sound, or else its first
+/// fault: `Empty`, `TooLong`, or `BadUnit` with the unit's place in the path. It takes time linear
+/// in the component.
+pub(crate) fn check_component(place: usize, name: &[u16]) -> Result<(), NameFault>
     requires { place + length name.now < 2 ^ 63 }
     ensures { Answers (component_fault place name.now) result }
 {

@@ -15,8 +15,9 @@ const MOST_UNITS: usize = 255;
 // `$DATA`
 const DATA: [u16; 5] = [0x24, 0x44, 0x41, 0x54, 0x41];
 
-// Whether the stream part of the last piece of a path is sound, where it has one.
-pub fn check_stream(piece: &[u16]) -> Result<(), NameFault>
+/// Whether the stream part of the last piece of a path is sound, or `BadStream`; a piece without a
+/// stream part is sound. It takes time linear in the piece.
+pub(crate) fn check_stream(piece: &[u16]) -> Result<(), NameFault>
     ensures { Answers (stream_fault (slice_split is_colon piece.now)) result }
 {
     let Some((_, part)) = split_once(piece, COLON) else {
