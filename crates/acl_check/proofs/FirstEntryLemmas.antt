@@ -23,11 +23,11 @@ one-has : (mask right : ℕ) → bit_at mask right ≡ 1 → has_right mask righ
 one-has mask right one = eq-eqb (bit_at mask right) 1 one
 
 -- the first entry decides a right that it names, the later ones any other
-allows-first : (entry : Ace) (entries : List Ace) (right : ℕ) → has_right entry.mask right ≡ true → allows (entry ∷ entries) right ≡ entry.allow
+pub allows-first : (entry : Ace) (entries : List Ace) (right : ℕ) → has_right entry.mask right ≡ true → allows (entry ∷ entries) right ≡ entry.allow
 allows-first entry entries right names =
     ap (λ b. option_map_or (λ (ace : Ace). ace.allow) (cond b (Some entry) (find (λ (ace : Ace). has_right ace.mask right) entries)) false) names
 
-allows-later : (entry : Ace) (entries : List Ace) (right : ℕ) → has_right entry.mask right ≡ false → allows (entry ∷ entries) right ≡ allows entries right
+pub allows-later : (entry : Ace) (entries : List Ace) (right : ℕ) → has_right entry.mask right ≡ false → allows (entry ∷ entries) right ≡ allows entries right
 allows-later entry entries right other =
     ap (λ b. option_map_or (λ (ace : Ace). ace.allow) (cond b (Some entry) (find (λ (ace : Ace). has_right ace.mask right) entries)) false) other
 

@@ -1,3 +1,4 @@
 pub mod BitLemmas
 pub mod FirstEntryLemmas
 pub mod GenericLemmas
+pub mod LaterEntryLemmas

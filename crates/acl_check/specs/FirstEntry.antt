@@ -2,6 +2,7 @@
 -- implies: what allows a right after a deny of it doesn't help, and what denies a right after an
 -- allow of it doesn't hurt.
 use Rattle.std.specs.Prelude.{ℕ, Bool, false, IsTrue, List, Option, None, Some, find, ◌==◌}
+use Rattle.std.specs.List.{list_any}
 use Rattle.std.specs.Option.{option_map_or}
 use Rattle.std.specs.Int.{bit_at}
 use Rattle.fsa_types.specs.declared.request.Ace.{Ace}
@@ -23,3 +24,7 @@ AllowEach entries wanted = (right : ℕ) → IsTrue (has_right wanted right) →
 abbrev pub Grants : Option (List Ace) → ℕ → List ℕ → ℕ → Type 0
 Grants None owner sids wanted = Unit {0}
 Grants (Some entries) owner sids wanted = AllowEach (entries_for sids entries) (asked_of_list owner sids wanted)
+
+-- some of the entries name each right of the mask
+abbrev pub NameEach : List Ace → ℕ → Type 0
+NameEach entries mask = (right : ℕ) → IsTrue (has_right mask right) → IsTrue (list_any (λ entry. has_right entry.mask right) entries)

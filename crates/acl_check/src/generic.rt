@@ -10,9 +10,9 @@ use fsa_types::AccessMask;
 // All that a mask can have but generic rights.
 const NOT_GENERIC: u32 = 0x0FFF_FFFF;
 
-/// The mask with each generic right replaced by what it stands for, and with its other bits as they
-/// are, after [MS-SMB2] 'File_Pipe_Printer_Access_Mask': GENERIC_ALL stands for 0x1F01FF,
-/// GENERIC_EXECUTE for 0x1200A0, GENERIC_WRITE for 0x120116, GENERIC_READ for 0x120089.
+/// The mask with each generic right of [MS-DTYP] 'ACCESS_MASK' replaced by what it stands for, and
+/// with its other bits as they are: GENERIC_ALL stands for 0x1F01FF, GENERIC_EXECUTE for 0x1200A0,
+/// GENERIC_WRITE for 0x120116, GENERIC_READ for 0x120089.
 pub fn map_generic(mask: u32) -> u32
     ensures mapped { result ≡ map_generic mask }
     ensures none_left { bit_and result 0xF0000000 ≡ 0 }

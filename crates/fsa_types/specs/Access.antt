@@ -1,6 +1,6 @@
 -- What an access list denies, and what generic rights stand for, after [MS-DTYP] 'Access Check
--- Algorithm Pseudocode' and [MS-SMB2] 'File_Pipe_Printer_Access_Mask'. SIDs are numbers, and rights
--- are the bits of an access mask.
+-- Algorithm Pseudocode' and 'ACCESS_MASK'. SIDs are numbers, and rights are the bits of an access
+-- mask.
 use Rattle.std.specs.Prelude.{ℕ, Bool, true, false, not, List, [], ◌∷◌, Option, None, Some, filter, fold, ◌==◌, if◌then◌else◌}
 use Rattle.std.specs.List.{list_any}
 use Rattle.std.specs.Option.{option_map}

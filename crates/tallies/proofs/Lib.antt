@@ -1,2 +1,3 @@
 pub mod ClashLemmas
 pub mod CountLemmas
+pub mod HeldLemmas

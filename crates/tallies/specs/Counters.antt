@@ -1,9 +1,9 @@
 -- The seven counters of `ShareCounts`, and their law.
-use Rattle.std.specs.Prelude.{ℕ, List, ◌≡◌}
+use Rattle.std.specs.Prelude.{◌≡◌}
 use Rattle.tallies.specs.Counts.{Counts, counts_of}
 use Rattle.tallies.specs.declared.share_counts.ShareCounts.TheInside.{Inside}
 
--- the counters as the counts that callers see
+-- the counters by their names
 abbrev pub counts : Inside → Counts
 counts counters = record {
   opens = counters.opens;
@@ -15,6 +15,6 @@ counts counters = record {
   delete_refusers = counters.delete_refusers;
 }
 
--- the counters are the counts of some opens
+-- the counters are the counts of the opens that are held
 abbrev pub AreCounts : Inside → Type 0
-AreCounts counters = (held : List (ℕ × ℕ)) × (counts counters ≡ counts_of held)
+AreCounts counters = counts counters ≡ counts_of counters.held.pairs

@@ -1,6 +1,6 @@
 -- What seven counts tell of the opens that are held on one stream or directory. An open is a pair of
--- its access mask and its share mask, and the order of the opens doesn't show in the counts.
-use Rattle.std.specs.Prelude.{ℕ, Bool, not, List, ◌++◌, ◌∷◌, ◌≡◌, ◌&&◌, ◌||◌, ◌==◌, length, count_by}
+-- its access mask and its share mask.
+use Rattle.std.specs.Prelude.{ℕ, Bool, not, List, ◌&&◌, ◌||◌, ◌==◌, length, count_by}
 use Rattle.fsa_types.specs.Sharing.{reads, writes, deletes, shares_read, shares_write, shares_delete, takes_part}
 
 -- how many opens are held; how many of them have each access; how many keep each from others
@@ -50,7 +50,3 @@ meets_users counts share =
     (not (counts.readers == 0) && not (shares_read share))
     || (not (counts.writers == 0) && not (shares_write share))
     || (not (counts.deleters == 0) && not (shares_delete share))
-
--- the counts are those of some opens, and this is one of them
-abbrev pub Includes : Counts → ℕ → ℕ → Type 0
-Includes counts access share = (front back : List (ℕ × ℕ)) × (counts ≡ counts_of (front ++ (access, share) ∷ back))

@@ -17,14 +17,16 @@
 //! and that fewer than 2^32 - 1 opens are held before another is added. Each call takes constant
 //! time and no memory.
 //!
-//! Contracts speak of the opens that are held as a list of pairs of access and share. The counters
-//! know no order, so that list counts as a multiset: what is said holds of each list whose counts
-//! these are, and an open is removed wherever it stands in it.
+//! Contracts see the list of the opens that are held, each a pair of access and share. The counters
+//! are the counts of that list, which has no bytes when the program runs. The list counts as a
+//! multiset: of several opens with the same masks the first is removed, and an answer is the same
+//! for each order of the list.
 //!
 //! Caveats: generic rights have no part in sharing, so map them first; opens of other streams of the
 //! same file belong in other counts.
 #![tactic(auto)]
 
+mod held;
 mod share_counts;
 mod sharing;
 #[cfg(test)]

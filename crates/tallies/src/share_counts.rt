@@ -1,21 +1,25 @@
 //! The counters of the opens that are held on one stream or directory.
 
-ghost use Rattle.std.specs.Prelude.{◌≡◌, ◌&&◌, ◌||◌, ◌<◌, ◌-◌, ◌^◌, ◌++◌, ◌∷◌, [], List, ℕ};
+ghost use Rattle.std.specs.Prelude.{◌≡◌, ◌&&◌, ◌||◌, ◌<◌, ◌-◌, ◌^◌, ◌++◌, ◌∷◌, [], List, ℕ, length, Contains, IsPermutation};
 ghost use Rattle.std.specs.List.{list_any};
 ghost use Rattle.fsa_types.specs.Sharing.{clash, clashes, takes_part};
-ghost use Rattle.tallies.specs.Counts.{counts_of, meets_refusers, meets_users, Includes};
+ghost use Rattle.tallies.specs.Counts.{counts_of, meets_refusers, meets_users};
+ghost use Rattle.tallies.specs.Held.{without_open};
 
+use crate::held::Held;
 use crate::sharing::{
     deletes, reads, refuses_delete, refuses_read, refuses_write, shares_delete, shares_read,
     shares_write, takes_part, writes,
 };
 use std::marker::Model;
 
-/// Counts of the opens that are held on one stream or directory, of their access and of what they
-/// keep from others, after [MS-FSA] 'Algorithm to Check Sharing Access to an Existing Stream or
-/// Directory'.
+/// The opens that are held on one stream or directory, as counts of their access and of what they
+/// keep from others, after [MS-FSA] 'Algorithm for Checking Sharing Access'. Contracts see the list
+/// of the pairs that are held, each of an access mask and a share mask.
 #[derive(Debug, Drop)]
 pub struct ShareCounts {
+    // The list that contracts see.
+    held: Held,
     // All of them.
     opens: u32,
     // Those with each access.
@@ -29,23 +33,24 @@ pub struct ShareCounts {
 }
 
 impl Model for ShareCounts {
-    ghost use Rattle.tallies.specs.Counts.{Counts};
+    ghost use Rattle.std.specs.Prelude.{ℕ, List};
 
-    ghost Value = { Counts };
+    ghost Value = { List (ℕ × ℕ) };
 
-    ghost use Rattle.tallies.specs.Counters.{counts, AreCounts};
+    ghost use Rattle.tallies.specs.Counters.{AreCounts};
 
-    ghost view = { counts };
+    ghost view = { λ counters. counters.held.pairs };
 
     ghost invariant = { AreCounts };
 }
 
 impl ShareCounts {
-    /// The counts where no open is held.
+    /// No open is held.
     pub fn new() -> ShareCounts
-        ensures { result ≡ counts_of [] }
+        ensures { result ≡ [] }
     {
         ShareCounts {
+            held: Held::none(),
             opens: 0,
             readers: 0,
             writers: 0,
@@ -56,12 +61,11 @@ impl ShareCounts {
         }
     }
 
-    /// Counts one more open, by its access mask without generic rights and by its share mask. Fewer
-    /// than 2^32 - 1 opens have to be held.
+    /// Adds an open, by its access mask without generic rights and by its share mask. Fewer than
+    /// 2^32 - 1 opens have to be held.
     pub fn add(&mut self, access: u32, share: u32)
-        requires { self.old.opens < 2 ^ 32 - 1 }
-        ensures { (held : List (ℕ × ℕ)) → self.old ≡ counts_of held
-            → self.new ≡ counts_of (held ++ (access, share) ∷ []) }
+        requires { length self.old < 2 ^ 32 - 1 }
+        ensures { self.new ≡ self.old ++ (access, share) ∷ [] }
     {
         self.opens += 1;
         self.readers += reads(access) as u32;
@@ -70,13 +74,15 @@ impl ShareCounts {
         self.read_refusers += refuses_read(access, share) as u32;
         self.write_refusers += refuses_write(access, share) as u32;
         self.delete_refusers += refuses_delete(access, share) as u32;
+        self.held = Held::with(&self.held, &(access, share));
     }
 
-    /// Counts an open no more. One with these two masks has to be held.
+    /// Removes an open with these two masks, which has to be held. Of several that have them the
+    /// first goes, and the others stay.
     pub fn remove(&mut self, access: u32, share: u32)
-        requires { Includes self.old access share }
-        ensures { (front back : List (ℕ × ℕ)) → self.old ≡ counts_of (front ++ (access, share) ∷ back)
-            → self.new ≡ counts_of (front ++ back) }
+        requires { Contains self.old (access, share) }
+        ensures first { self.new ≡ without_open self.old (access, share) }
+        ensures others { IsPermutation self.old ((access, share) ∷ self.new) }
     {
         self.opens -= 1;
         self.readers -= reads(access) as u32;
@@ -85,6 +91,7 @@ impl ShareCounts {
         self.read_refusers -= refuses_read(access, share) as u32;
         self.write_refusers -= refuses_write(access, share) as u32;
         self.delete_refusers -= refuses_delete(access, share) as u32;
+        self.held = Held::without(&self.held, &(access, share));
     }
 
     /// Whether an open with this access mask, without generic rights, and this share mask clashes
@@ -92,11 +99,12 @@ impl ShareCounts {
     /// access (WRITE_DATA or APPEND_DATA) and delete access (DELETE), and one has an access that the
     /// other doesn't share.
     pub fn clashes(&self, access: u32, share: u32) -> bool
-        ensures found { (held : List (ℕ × ℕ)) → self.now ≡ counts_of held
-            → result ≡ clashes held access share }
+        ensures found { result ≡ clashes self.now access share }
         // It makes no difference which of two opens is there first.
-        ensures symmetric { (held : List (ℕ × ℕ)) → self.now ≡ counts_of held
-            → result ≡ list_any (λ other. clash other.0 other.1 access share) held }
+        ensures symmetric { result ≡ list_any (λ other. clash other.0 other.1 access share) self.now }
+        // Nor does it in which order opens were added.
+        ensures any_order { (held : List (ℕ × ℕ)) → IsPermutation self.now held
+            → result ≡ clashes held access share }
     {
         self.meet(access, share)
     }
@@ -104,14 +112,15 @@ impl ShareCounts {
     // Whether the counts tell of an open that clashes with one of this access and this share.
     fn meet(&self, access: u32, share: u32) -> bool
         ensures { result
-            ≡ (meets_refusers self.now access || takes_part access && meets_users self.now share) }
+            ≡ (meets_refusers (counts_of self.now) access
+            || takes_part access && meets_users (counts_of self.now) share) }
     {
         self.refuse_some(access) || takes_part(access) && self.have_unshared(share)
     }
 
     // Whether some open that is held keeps from others an access that is in this mask.
     fn refuse_some(&self, access: u32) -> bool
-        ensures { result ≡ meets_refusers self.now access }
+        ensures { result ≡ meets_refusers (counts_of self.now) access }
     {
         reads(access) && self.read_refusers != 0
             || writes(access) && self.write_refusers != 0
@@ -120,7 +129,7 @@ impl ShareCounts {
 
     // Whether some open that is held has an access that this share mask leaves out.
     fn have_unshared(&self, share: u32) -> bool
-        ensures { result ≡ meets_users self.now share }
+        ensures { result ≡ meets_users (counts_of self.now) share }
     {
         self.readers != 0 && !shares_read(share)
             || self.writers != 0 && !shares_write(share)

@@ -1,0 +1,41 @@
+//! The opens that are held, for contracts alone.
+
+ghost use Rattle.std.specs.Prelude.{◌≡◌, ℕ, List, [], ◌∷◌, ◌++◌};
+ghost use Rattle.std.specs.Borrow.{ftrue};
+ghost use Rattle.tallies.specs.Held.{without_open};
+
+use std::marker::Model;
+
+// The opens that are held, as pairs of access and share. It has no bytes, and its functions do
+// nothing when they run.
+#[derive(Debug, Drop)]
+pub(crate) struct Held {
+    ghost pairs: { List (ℕ × ℕ) },
+}
+
+impl Model for Held {
+    ghost also_owns = { λ _. ftrue };
+}
+
+impl Held {
+    // No open is held.
+    pub(crate) fn none() -> Held
+        ensures { result.pairs ≡ [] }
+    {
+        Held {}
+    }
+
+    // One more open is held.
+    pub(crate) fn with(_before: &Held, _open: &(u32, u32)) -> Held
+        ensures { result.pairs ≡ _before.now.pairs ++ _open.now ∷ [] }
+    {
+        Held {}
+    }
+
+    // One open with these masks is held no more.
+    pub(crate) fn without(_before: &Held, _open: &(u32, u32)) -> Held
+        ensures { result.pairs ≡ without_open _before.now.pairs _open.now }
+    {
+        Held {}
+    }
+}
