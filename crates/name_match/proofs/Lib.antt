@@ -1,2 +1,3 @@
+mod MatchExamples
 pub mod MatchLaws
 pub mod RowLaws

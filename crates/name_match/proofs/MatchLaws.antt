@@ -1,14 +1,16 @@
 -- Laws of matching: one step of the name, and the expressions that have a straight way.
 use Rattle.std.proofs.Common.{◌≡◌, ℕ, suc, ◌-◌, ◌<◌, ◌≤◌, Bool, true, false, List, [], ◌∷◌, length, drop, refl, ap, sym, ◌∙◌, arith, inl, inr}
-use Rattle.std.specs.Prelude.{◌==◌, ◌&&◌, ◌||◌, nat_eq}
+use Rattle.std.specs.Prelude.{◌==◌, ◌&&◌, ◌||◌, nat_eq, if◌then◌else◌}
 use Rattle.std.specs.List.{list_all}
 use Rattle.std.specs.Cmp.Lexicographic.{unequal}
-use Rattle.std.proofs.lemmas.Bool.{cases_lt, and_parts, lt-leb, le-leb}
+use Rattle.std.proofs.lemmas.Bool.{cases_lt, and_parts, and_from, eqb-true, cond_both, lt-leb, le-leb}
 use Rattle.std.proofs.lemmas.List.{length-map}
 use Rattle.fsa_types.specs.CaseTable.{up, upcased, same_name}
 use Rattle.fsa_types.specs.Match.{Sign, Star, QuestionMark, DosStar, DosQm, DosDot, Literal, sign_of, is_dot, is_last_dot, star_matches, first_matches, matches}
 use Rattle.name_match.specs.Plan.{is_literal, is_literal_sign, ends_in}
-use Rattle.name_match.specs.Serves.{IsStarAndLiterals}
+use Rattle.name_match.specs.Serves.{plan_before_literals, plan_of}
+use Rattle.name_match.specs.declared.plan.Plan.{Plan}
+use Rattle.name_match.specs.declared.plan.Plan.TheVariants.{Every, Literal as ByLiteral, Suffix, Ends}
 use Rattle.name_match.specs.Ends.{cell, cell_of_empty}
 
 -- an expression by its first unit against a name that isn't empty, said by the cells around
@@ -105,7 +107,39 @@ module _ (table : List (ℕ × ℕ)) (literal : List ℕ) (rest : List ℕ → B
         | inr long ↦ rw (le-leb (length literal) (length name) long) (star_matches-long name long)
       ]
 
+-- the units are `*` and then literal ones
+abbrev pub IsStarAndLiterals : List ℕ → Type 0
+IsStarAndLiterals [] = ⊥
+IsStarAndLiterals (unit ∷ units) = (unit ≡ 42) × (list_all is_literal units ≡ true)
+
 pub matches-suffix : (table : List (ℕ × ℕ)) (units name : List ℕ) → IsStarAndLiterals units → matches table units name ≡ ends_in table (drop 1 units) name
 matches-suffix table [] name star = absurd star
 matches-suffix table (unit ∷ units) name star =
     rw star.0 (star_matches-literal table units (matches table units) (λ rest. matches-literal table units rest star.1) name)
+
+-- what is known of the units of a plan
+abbrev pub Serves : Plan → List ℕ → Type 0
+Serves Every units = units ≡ 42 ∷ []
+Serves ByLiteral units = list_all is_literal units ≡ true
+Serves Suffix units = IsStarAndLiterals units
+Serves Ends units = Unit {0}
+
+star_alone : (unit : ℕ) (units : List ℕ) → unit ≡ 42 → (length units == 0) ≡ true → unit ∷ units ≡ 42 ∷ []
+star_alone unit [] star none = rw star refl
+star_alone unit (next ∷ units) star none =
+    let empty : suc (length units) ≡ 0 = eqb-true (suc (length units)) 0 none in
+    absurd (omega arith)
+
+plan_of-serves : (units : List ℕ) → Serves (plan_of units) units
+plan_of-serves [] = refl
+plan_of-serves (unit ∷ units) =
+    let Serving : Plan → Type 0 = λ plan. Serves plan (unit ∷ units) in
+    cond_both (list_all is_literal units) (plan_before_literals unit units) Ends Serving
+    (λ literal.
+    cond_both (unit == 42) (if length units == 0 then Every else Suffix) (if is_literal unit then ByLiteral else Ends) Serving
+    (λ star. cond_both (length units == 0) Every Suffix Serving (λ none. star_alone unit units (eqb-true unit 42 star) none) (λ some. (eqb-true unit 42 star, literal)))
+    (λ other. cond_both (is_literal unit) ByLiteral Ends Serving (λ itself. and_from (is_literal unit) (list_all is_literal units) itself literal) (λ sign. tt)))
+    (λ mixed. tt)
+
+pub planned-serves : (plan : Plan) (units : List ℕ) → plan ≡ plan_of units → Serves plan units
+planned-serves plan units planned = rw planned (plan_of-serves units)

@@ -1,22 +1,23 @@
--- Which expressions a plan serves.
-use Rattle.std.specs.Prelude.{ℕ, ◌≤◌, ◌≡◌, true, List, [], ◌∷◌, length}
+-- Which plan an expression has: the straight way, where there is one.
+use Rattle.std.specs.Prelude.{ℕ, ◌≤◌, ◌≡◌, ◌==◌, List, [], ◌∷◌, length, if◌then◌else◌}
 use Rattle.std.specs.List.{list_all}
 use Rattle.name_match.specs.Plan.{is_literal}
 use Rattle.name_match.specs.declared.plan.Plan.{Plan}
 use Rattle.name_match.specs.declared.plan.Plan.TheVariants.{Every, Literal, Suffix, Ends}
 
--- the units are `*` and then literal ones
-abbrev pub IsStarAndLiterals : List ℕ → Type 0
-IsStarAndLiterals [] = ⊥
-IsStarAndLiterals (unit ∷ units) = (unit ≡ 42) × (list_all is_literal units ≡ true)
+-- the plan for a unit and literal ones after it
+abbrev pub plan_before_literals : ℕ → List ℕ → Plan
+plan_before_literals unit units =
+    if unit == 42 then (if length units == 0 then Every else Suffix)
+    else if is_literal unit then Literal
+    else Ends
 
-abbrev pub Serves : Plan → List ℕ → Type 0
-Serves Every units = units ≡ 42 ∷ []
-Serves Literal units = list_all is_literal units ≡ true
-Serves Suffix units = IsStarAndLiterals units
-Serves Ends units = Unit {0}
+-- `*` alone, literal units alone (or none), and `*` before literal units have a straight way
+abbrev pub plan_of : List ℕ → Plan
+plan_of [] = Literal
+plan_of (unit ∷ units) = if list_all is_literal units then plan_before_literals unit units else Ends
 
--- an expression has at most 255 units, and its plan serves it
+-- an expression has at most 255 units, and the plan for them
 pub record IsExpression (units : List ℕ) (plan : Plan) : Type 0 where
   pub short : length units ≤ 255
-  pub served : Serves plan units
+  pub planned : plan ≡ plan_of units

@@ -10,10 +10,12 @@
 //!
 //! - `*` stands for any units, `?` for one;
 //! - `<` (DOS_STAR) stands for any units, but doesn't take the last `.` of the name: `<.txt` takes
-//!   what `*.txt` takes, and `<` alone takes a name without a `.`;
+//!   what `*.txt` takes, where the table leaves `.` alone, and `<` alone takes a name without a `.`;
 //! - `>` (DOS_QM) stands for one unit that is no `.`, or for nothing before a `.` and at the end;
 //! - `"` (DOS_DOT) stands for a `.`, or for nothing at the end;
 //! - any other unit stands for itself, in either case.
+//!
+//! To `<`, `>` and `"` a `.` is that unit alone, whatever the table says.
 //!
 //! It asks nothing of its caller: any units are an expression or `Bad`, any units are a name.
 //!

@@ -21,16 +21,28 @@ pub(crate) enum Plan {
 }
 
 impl Plan {
-    ghost use Rattle.name_match.specs.Serves.{Serves};
+    ghost use Rattle.std.specs.Prelude.{◌∷◌};
+    ghost use Rattle.name_match.specs.Serves.{plan_of};
 
     // The plan for these units.
     pub(crate) fn of(units: &[u16]) -> Plan
-        ensures { Serves result units.now }
+        ensures { result ≡ plan_of units.now }
     {
-        match units {
-            [STAR] => Plan::Every,
-            [STAR, literal @ ..] if are_literal(literal) => Plan::Suffix,
-            _ if are_literal(units) => Plan::Literal,
+        match units.split_first() {
+            None => Plan::Literal,
+            Some((first, others)) => Plan::of_some(*first, others),
+        }
+    }
+
+    // The plan for a unit and others after it.
+    fn of_some(first: u16, others: &[u16]) -> Plan
+        ensures { result ≡ plan_of (first ∷ others.now) }
+    {
+        match first {
+            _ if !are_literal(others) => Plan::Ends,
+            STAR if others.is_empty() => Plan::Every,
+            STAR => Plan::Suffix,
+            _ if is_literal(first) => Plan::Literal,
             _ => Plan::Ends,
         }
     }
