@@ -110,6 +110,9 @@ module _ {M B E C : Type 0} (base : M → B) (list : M → List E) (call_of : E 
         (
           λ _. (x, ap (λ (l : List (ℕ × Option M)). (0, Some x) ∷ l) none_out, refl, (mine.own live).0 ∙ ap (λ (z : B). z ∷ []) (sym h.2), subst (λ (l : List E). Sees call_of client_of l v.own) (sym h.3) own.1),
           λ ne. absurd (ne (found ∙ free)),
+          refl,
+          refl,
+          is,
         ),
       ))
       (λ away. let h = r.held away in let j : ℕ = h.0 in let u : V = h.1 in let theirs = r.each j u h.2 in let t = theirs.holder h.3 in
@@ -144,6 +147,9 @@ module _ {M B E C : Type 0} (base : M → B) (list : M → List E) (call_of : E 
             λ e. other (let a = t.0 in omega arith),
             (let a = own.2 in let c = (theirs.part 0 u.own (own_part u t.2)).2 in let d = r.few in let f = (mine.own live).1 in omega arith),
           ),
+          refl,
+          refl,
+          is,
         ),
       ))
 
@@ -176,7 +182,7 @@ module _ {M B E C : Type 0} (base : M → B) (list : M → List E) (call_of : E 
           few = r.few;
           short = r.short;
         },
-        (ap (λ (cs : List (ℕ × Option M)). rest cs) has, refl),
+        (ap (λ (cs : List (ℕ × Option M)). rest cs) has, refl, refl),
       )
 
   pub looks : (slots id : ℕ) (me : Me (Option M) V) → Allows Rule slots id me 1 (λ k. k) (looked base list call_of client_of (step slots 1 0 0 none) me)
@@ -206,7 +212,7 @@ module _ {M B E C : Type 0} (base : M → B) (list : M → List E) (call_of : E 
           few = r.few;
           short = r.short;
         },
-        (refl, (r.log, refl, sym (ap (λ (ws : List ℕ). get_or ws 1 0) r.words), (λ hold. (mine.holder hold).1), λ k p e. (mine.part k p e).1)),
+        (refl, refl, (r.log, refl, sym (ap (λ (ws : List ℕ). get_or ws 1 0) r.words), (λ hold. (mine.holder hold).1), λ k p e. (mine.part k p e).1)),
       )
 
   pub commits : (slots id : ℕ) (me : Me (Option M) V) (x : M) (e : E) → me.1 ≡ (0, Some x) ∷ [] → me.0.holds ≡ true → list x ≡ me.0.hand ++ e ∷ [] → client_of (call_of e) ≡ me.0.own.client → length (list x) < 2 ^ 31
@@ -250,5 +256,5 @@ module _ {M B E C : Type 0} (base : M → B) (list : M → List E) (call_of : E 
           few = r.few;
           short = few;
         },
-        (refl, λ y is. ap (λ (z : M). with_made v (list z) (calls_by call_of client_of v.own.client (list z))) (ap (machine_in x) (sym has ∙ is))),
+        (refl, λ y is. ap (λ (z : M). with_made v (list z) (calls_by call_of client_of v.own.client (list z))) (ap (machine_in x) (sym has ∙ is)), refl, refl),
       )

@@ -103,28 +103,30 @@ pub record Kept {M B E C : Type 0} (base : M → B) (list : M → List E) (call_
   pub few : served ≤ n
   pub short : length log < 2 ^ 31
 
--- What the steps tell: m is what the pass knows and holds before, and m' after
+-- What the steps tell: st is the step, found what its word was, m what the pass knows and holds before, and m' after. The two counts of a pass rise at these steps alone, so each step names its word: loads counts loads of the count word, and lost the exchanges that found the turn word held
 module _ {M B E C : Type 0} (base : M → B) (list : M → List E) (call_of : E → C) (client_of : C → ℕ) where
   abbrev Seat : Type 0
   Seat = Me (Option M) (View B E C)
 
-  -- The exchange that takes the turn: it was free, and the pass has it with the machine; or another pass holds it, and there are two clients at least
+  -- The exchange of the turn word, from 0 to the number that names this pass: it was free, and the pass has it with the machine; or another pass holds it, and there are two clients at least
   abbrev pub taken : Step (Option M) → Seat → ℕ → Seat → Type 0
   taken st m found m' =
       (found ≡ 0 → (x : M) × (m'.1 ≡ (0, Some x) ∷ []) × (m'.0 ≡ holding m.0 (list x)) × (m.0.base ≡ base x ∷ []) × Sees call_of client_of (list x) m.0.own)
       × (found ≢ 0 → (m'.1 ≡ m.1) × (m'.0 ≡ beaten m.0) × (found ≢ m.0.own.client + 1) × (1 < m.0.clients))
+      × (st.word ≡ 0) × (st.first ≡ 0) × (st.second ≡ m.0.own.client + 1)
 
   -- The addition of one to the count: the history is that of the machine that lies in the slot
   abbrev pub committed : Step (Option M) → Seat → ℕ → Seat → Type 0
-  committed st m found m' = (m'.1 ≡ m.1) × ((x : M) → m.1 ≡ (0, Some x) ∷ [] → m'.0 ≡ with_made m.0 (list x) (calls_by call_of client_of m.0.own.client (list x)))
+  committed st m found m' = (m'.1 ≡ m.1) × ((x : M) → m.1 ≡ (0, Some x) ∷ [] → m'.0 ≡ with_made m.0 (list x) (calls_by call_of client_of m.0.own.client (list x))) × (st.word ≡ 1) × (st.first ≡ 1)
 
   -- The load of the count: the history has as many entries, and what this pass and those that it keeps know is true of it
   abbrev pub looked : Step (Option M) → Seat → ℕ → Seat → Type 0
   looked st m found m' =
       (m'.1 ≡ m.1)
+      × (st.word ≡ 1)
       × ((log : List E) × (m'.0 ≡ with_seen m.0 log) × (length log ≡ found) × (m.0.holds ≡ true → m.0.hand ≡ log)
       × ((k : ℕ) (p : Part E C) → get_elem? (parts_of m.0) k ≡ some p → Sees call_of client_of log p))
 
-  -- The store that frees the turn
+  -- The store to the turn word that frees the turn
   abbrev pub freed : Step (Option M) → Seat → ℕ → Seat → Type 0
-  freed st m found m' = (m'.1 ≡ []) × (m'.0 ≡ at_rest m.0)
+  freed st m found m' = (m'.1 ≡ []) × (m'.0 ≡ at_rest m.0) × (st.word ≡ 0)
