@@ -1,3 +1,4 @@
 pub mod RowChanges
 pub mod TurnFollows
 pub mod RunLaws
+pub mod LimitLaws

@@ -1,3 +1,4 @@
+pub mod Limits
 pub mod Runs
 pub mod Seen
 pub mod Stands

@@ -1,6 +1,6 @@
 -- What a run reads and writes: the bytes of a script, and the text of the one history that is
 -- scheduled for it.
-use Rattle.std.specs.Prelude.{◌≡◌, ℕ, ◌+◌, ◌==◌, Bool, false, List, [], ◌∷◌, ◌++◌, Option, Some, Result, Ok, Err, map, codes, decimal, length}
+use Rattle.std.specs.Prelude.{◌≡◌, ℕ, ◌+◌, ◌==◌, Bool, false, List, [], ◌∷◌, ◌++◌, Option, Some, None, Result, Ok, Err, map, codes, decimal, length}
 use Rattle.std.specs.List.{enumerate_from}
 use Rattle.fsa_types.specs.declared.request.Call.{Call}
 use Rattle.fsa_model.specs.Fault.{Fault}
@@ -13,7 +13,9 @@ use Rattle.fsa_model.specs.Script.{script_of}
 use Rattle.fsa_model.specs.Text.{shown_turns, shows_no_memory, text, turn_text}
 use Rattle.wire_io.specs.Source.{ReadsWhole}
 use Rattle.wire_io.specs.Sink.{Appends, AppendsFront}
-use Rattle.fsa_top.specs.Words.{Says}
+use Rattle.fsa_top.specs.declared.limits.Limit.{Limit}
+use Rattle.fsa_top.specs.Limits.{PassesLimit, limit_of}
+use Rattle.fsa_top.specs.Words.{Says, limit_line}
 
 -- the one history of a script on one thread: each turn's call was the next one, it has all calls,
 -- and where no line of its text shows NO_MEMORY no call found no memory
@@ -47,18 +49,32 @@ abbrev pub NamesFault : List ℕ → Option (List ℕ) → Option (List ℕ) →
 NamesFault bytes written written_now faults faults_now =
     (fault : Fault) × (script_of bytes ≡ Err fault) × Says (bad_line fault.line) written written_now faults faults_now
 
--- the source was read to its end, its bytes are a script, and the text of its history was written
+-- the bytes pass a limit, and the line that names it was written, or a prefix of it where the sink failed
+abbrev pub NamesLimit : List ℕ → Option (List ℕ) → Option (List ℕ) → ℕ → ℕ → Type 0
+NamesLimit bytes written written_now faults faults_now =
+    (limit : Limit) × (limit_of bytes ≡ Some limit) × Says (limit_line limit) written written_now faults faults_now
+
+-- the source was read to its end, and its bytes pass no limit
+abbrev pub ReadsWithin : Option (List ℕ) → Option (List ℕ) → List ℕ → Type 0
+ReadsWithin left left_now bytes = ReadsWhole left left_now bytes × (limit_of bytes ≡ None)
+
+-- the source was read to its end within the limits, its bytes are a script, and the text of its history was written
 abbrev pub Ran : Option (List ℕ) → Option (List ℕ) → Option (List ℕ) → Option (List ℕ) → Type 0
-Ran left left_now written written_now = (bytes : List ℕ) × ReadsWhole left left_now bytes × RunsText bytes written written_now
+Ran left left_now written written_now = (bytes : List ℕ) × ReadsWithin left left_now bytes × RunsText bytes written written_now
 
--- the source was read to its end, its bytes are a script, and a prefix of the text of a scheduled history of it was written
+-- the source was read to its end within the limits, its bytes are a script, and a prefix of the text of a scheduled history of it was written
 abbrev pub RanInPart : Option (List ℕ) → Option (List ℕ) → Option (List ℕ) → Option (List ℕ) → Type 0
-RanInPart left left_now written written_now = (bytes : List ℕ) × ReadsWhole left left_now bytes × RunsPart bytes written written_now
+RanInPart left left_now written written_now = (bytes : List ℕ) × ReadsWithin left left_now bytes × RunsPart bytes written written_now
 
--- the source was read to its end, its bytes are no script, and the line that names the least faulty line was written
+-- the source was read to its end within the limits, its bytes are no script, and the line that names the least faulty line was written
 abbrev pub FoundBad : Option (List ℕ) → Option (List ℕ) → Option (List ℕ) → Option (List ℕ) → ℕ → ℕ → Type 0
 FoundBad left left_now written written_now faults faults_now =
-    (bytes : List ℕ) × ReadsWhole left left_now bytes × NamesFault bytes written written_now faults faults_now
+    (bytes : List ℕ) × ReadsWithin left left_now bytes × NamesFault bytes written written_now faults faults_now
+
+-- the bytes of the source pass a limit, and the line that names it was written, or a prefix of it where the sink failed
+abbrev pub FoundLimit : Option (List ℕ) → Option (List ℕ) → Option (List ℕ) → ℕ → ℕ → Type 0
+FoundLimit left written written_now faults faults_now =
+    (limit : Limit) × PassesLimit limit left × Says (limit_line limit) written written_now faults faults_now
 
 -- the bytes are a script
 abbrev pub IsScript : List ℕ → Type 0

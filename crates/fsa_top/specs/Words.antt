@@ -4,6 +4,8 @@ use Rattle.std.specs.declared.alloc.Global.{Global}
 use Rattle.std.specs.Cmp.Lexicographic.{pointwise}
 use Rattle.wire_io.specs.Faults.{Rose}
 use Rattle.wire_io.specs.Sink.{Appends, AppendsFront}
+use Rattle.fsa_top.specs.declared.limits.Limit.{Limit}
+use Rattle.fsa_top.specs.declared.limits.Limit.TheVariants.{Bytes, Lines, Clients}
 
 -- the one word `run`
 abbrev pub is_run : List (String Global) → Bool
@@ -14,8 +16,11 @@ is_run (word ∷ second ∷ more) = false
 abbrev pub usage_line : List ℕ
 usage_line = codes "usage: fsa run / race / gen N\n"
 
-abbrev pub limit_bytes_line : List ℕ
-limit_bytes_line = codes "limit bytes\n"
+-- the line that names a limit
+abbrev pub limit_line : Limit → List ℕ
+limit_line Bytes = codes "limit bytes\n"
+limit_line Lines = codes "limit lines\n"
+limit_line Clients = codes "limit clients\n"
 
 -- this line was written, or a prefix of it where the sink failed
 pub record Says (line : List ℕ) (written written_now : Option (List ℕ)) (faults faults_now : ℕ) : Type 0 where

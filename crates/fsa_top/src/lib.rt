@@ -10,6 +10,7 @@
 //! the bytes, the source or the sink. The script is held in memory whole, and so are all replies.
 #![tactic(auto)]
 
+mod limits;
 mod lines;
 mod machine;
 mod rows;
@@ -19,4 +20,5 @@ mod text;
 mod top;
 mod verbs;
 
-pub use top::{MOST_SCRIPT_BYTES, fsa_main, fsa_single};
+pub use limits::{MOST_CLIENT_LINES, MOST_LINE_FEEDS, MOST_SCRIPT_BYTES};
+pub use top::{fsa_main, fsa_single};

@@ -4,8 +4,9 @@ ghost use Rattle.std.specs.Prelude.{◌≡◌, ◌≤◌, ◌++◌, OnOk, OnErr,
 ghost use Rattle.wire_io.specs.Faults.{HasCause, Rose};
 ghost use Rattle.wire_io.specs.Sink.{Appends, AppendsFront};
 ghost use Rattle.fsa_top.specs.Runs.{bad_line};
-ghost use Rattle.fsa_top.specs.Words.{Says, is_run, limit_bytes_line, usage_line};
+ghost use Rattle.fsa_top.specs.Words.{Says, is_run, limit_line, usage_line};
 
+use crate::limits::Limit;
 use itoa::Buffer;
 use wire_io::{Failed, Sink, put_all};
 
@@ -35,12 +36,23 @@ pub fn say_usage<K: Sink>(sink: &mut K)
     say(sink, b"usage: fsa run / race / gen N\n");
 }
 
-/// Writes that the script has too many bytes.
-pub fn say_limit_bytes<K: Sink>(sink: &mut K)
-    ensures says { Says limit_bytes_line (K.written sink.old) (K.written sink.new) (K.faults sink.old) (K.faults sink.new) }
+// The line that names a limit.
+fn limit_line(limit: Limit) -> &'static [u8]
+    ensures { result.now ≡ limit_line limit }
+{
+    match limit {
+        Limit::Bytes => b"limit bytes\n".as_slice(),
+        Limit::Lines => b"limit lines\n".as_slice(),
+        Limit::Clients => b"limit clients\n".as_slice(),
+    }
+}
+
+/// Writes which limit the script passes.
+pub fn say_limit<K: Sink>(sink: &mut K, limit: Limit)
+    ensures says { Says (limit_line limit) (K.written sink.old) (K.written sink.new) (K.faults sink.old) (K.faults sink.new) }
     ensures later { K.faults sink.old ≤ K.faults sink.new }
 {
-    say(sink, b"limit bytes\n");
+    say(sink, limit_line(limit));
 }
 
 // Writes the line that names a faulty line, in three pieces.

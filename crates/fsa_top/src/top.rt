@@ -1,23 +1,22 @@
 //! The top calls.
 
-ghost use Rattle.std.specs.Prelude.{◌≡◌, ◌≢◌, ◌≤◌, ◌<◌, ◌⊎◌, ◌↔◌, ℕ, List, Some, Ok, Err, false, true, length};
+ghost use Rattle.std.specs.Prelude.{◌≡◌, ◌≢◌, ◌≤◌, ◌<◌, ◌+◌, ◌⊎◌, ◌↔◌, ℕ, List, Some, None, Ok, Err, false, true, length};
 ghost use Rattle.fsa_model.specs.Script.{script_of};
 ghost use Rattle.script_read.specs.ScriptView.{contents};
 ghost use Rattle.wire_io.specs.Faults.{Rose};
-ghost use Rattle.wire_io.specs.Source.{HasMoreThan, ReadsWhole};
-ghost use Rattle.fsa_top.specs.Runs.{FoundBad, IsNoScript, IsScript, NamesFault, Ran, RanInPart, RunsPart, RunsText, WritesPart, WritesText};
-ghost use Rattle.fsa_top.specs.Words.{Says, is_run, limit_bytes_line, usage_line};
+ghost use Rattle.fsa_top.specs.Limits.{limit_of, most_bytes};
+ghost use Rattle.fsa_top.specs.Runs.{FoundBad, FoundLimit, IsNoScript, IsScript, NamesFault, NamesLimit, Ran, RanInPart, RunsPart, RunsText, WritesPart, WritesText};
+ghost use Rattle.fsa_top.specs.Words.{Says, is_run, limit_line, usage_line};
+ghost use Rattle.fsa_top.specs.declared.limits.Limit.{Limit};
 
-use crate::lines::{is_run, say_bad, say_limit_bytes, say_usage};
+use crate::limits::{Limit, MOST_SCRIPT_BYTES, limit_of};
+use crate::lines::{is_run, say_bad, say_limit, say_usage};
 use crate::run::{RunFault, run_script};
 use script_read::{ReadFault, Script, read_script};
 use std::alloc::Global;
 use std::sync::Wait;
 use std::thread::Threads;
 use wire_io::{Gate, Sink, Source, read_all};
-
-/// The most bytes of a script.
-pub const MOST_SCRIPT_BYTES: usize = 16_777_216;
 
 // Runs a script: 0, or 4 or 5 where the sink failed or there was no memory.
 fn run_read<K: Sink>(alloc: Global, bytes: &[u8], script: &Script, sink: &mut K) -> u8
@@ -36,7 +35,7 @@ fn run_read<K: Sink>(alloc: Global, bytes: &[u8], script: &Script, sink: &mut K)
 }
 
 // Runs the script that these bytes are.
-fn run_bytes<K: Sink>(alloc: Global, bytes: &[u8], sink: &mut K) -> u8
+fn run_within<K: Sink>(alloc: Global, bytes: &[u8], sink: &mut K) -> u8
     ensures done { result ≡ 0 → RunsText bytes.now (K.written sink.old) (K.written sink.new) }
     ensures bad { result ≡ 2 → NamesFault bytes.now (K.written sink.old) (K.written sink.new) (K.faults sink.old) (K.faults sink.new) }
     ensures write { result ≡ 4 → Rose (K.faults sink.old) (K.faults sink.new) }
@@ -55,6 +54,28 @@ fn run_bytes<K: Sink>(alloc: Global, bytes: &[u8], sink: &mut K) -> u8
     }
 }
 
+// Runs the script that these bytes are, where they pass no limit.
+fn run_bytes<K: Sink>(alloc: Global, bytes: &[u8], sink: &mut K) -> u8
+    requires few { length bytes.now ≤ most_bytes }
+    ensures within { (result ≢ 6) ↔ (limit_of bytes.now ≡ None) }
+    ensures done { result ≡ 0 → RunsText bytes.now (K.written sink.old) (K.written sink.new) }
+    ensures bad { result ≡ 2 → NamesFault bytes.now (K.written sink.old) (K.written sink.new) (K.faults sink.old) (K.faults sink.new) }
+    ensures write { result ≡ 4 → Rose (K.faults sink.old) (K.faults sink.new) }
+    ensures part { result ≡ 4 → RunsPart bytes.now (K.written sink.old) (K.written sink.new) }
+    ensures memory { result ≡ 5 → (sink.new ≡ sink.old) ⊎ RunsPart bytes.now (K.written sink.old) (K.written sink.new) }
+    ensures limit { result ≡ 6 → NamesLimit bytes.now (K.written sink.old) (K.written sink.new) (K.faults sink.old) (K.faults sink.new) }
+    ensures known { (result ≢ 1) × ((result ≢ 3) × (result ≤ 6)) }
+    ensures later { K.faults sink.old ≤ K.faults sink.new }
+{
+    match limit_of(bytes) {
+        Some(limit) => {
+            say_limit(sink, limit);
+            6
+        }
+        None => run_within(alloc, bytes, sink),
+    }
+}
+
 // Reads a script whole and runs it.
 fn run_source<S: Source, K: Sink>(alloc: Global, source: &mut S, sink: &mut K) -> u8
     ensures done { result ≡ 0 → Ran (S.left source.old) (S.left source.new) (K.written sink.old) (K.written sink.new) }
@@ -62,16 +83,16 @@ fn run_source<S: Source, K: Sink>(alloc: Global, source: &mut S, sink: &mut K) -
     ensures read { result ≡ 3 → Rose (S.faults source.old) (S.faults source.new) × (sink.new ≡ sink.old) }
     ensures write { result ≡ 4 → Rose (K.faults sink.old) (K.faults sink.new) × RanInPart (S.left source.old) (S.left source.new) (K.written sink.old) (K.written sink.new) }
     ensures memory { result ≡ 5 → (sink.new ≡ sink.old) ⊎ RanInPart (S.left source.old) (S.left source.new) (K.written sink.old) (K.written sink.new) }
-    ensures limit { result ≡ 6 → HasMoreThan MOST_SCRIPT_BYTES (S.left source.old) × Says limit_bytes_line (K.written sink.old) (K.written sink.new) (K.faults sink.old) (K.faults sink.new) }
+    ensures limit { result ≡ 6 → FoundLimit (S.left source.old) (K.written sink.old) (K.written sink.new) (K.faults sink.old) (K.faults sink.new) }
     ensures known { (result ≢ 1) × (result ≤ 6) }
-    ensures exceeds { (bytes : List ℕ) → S.left source.old ≡ Some bytes → MOST_SCRIPT_BYTES < length bytes → (Rose (S.faults source.old) (S.faults source.new) → ⊥) → (result ≡ 6) ⊎ (result ≡ 5) }
+    ensures turns { S.takes source.new ≤ S.takes source.old + (MOST_SCRIPT_BYTES + 1) }
     ensures later { (S.faults source.old ≤ S.faults source.new) × (K.faults sink.old ≤ K.faults sink.new) }
 {
     match read_all(alloc, source, MOST_SCRIPT_BYTES) {
         Ok(bytes) => run_bytes(alloc, &bytes, sink),
         Err(wire_io::ReadFault::Failed) => 3,
         Err(wire_io::ReadFault::TooMany) => {
-            say_limit_bytes(sink);
+            say_limit(sink, Limit::Bytes);
             6
         }
         Err(wire_io::ReadFault::NoMemory) => 5,
@@ -91,9 +112,12 @@ fn run_source<S: Source, K: Sink>(alloc: Global, source: &mut S, sink: &mut K) -
 /// - 3: the source failed; nothing is written.
 /// - 4: the sink failed; a prefix of the text of a scheduled history is written.
 /// - 5: there was no memory; such a prefix, or nothing, is written.
-/// - 6: the source has more than 16,777,216 bytes; the line `limit bytes` is written.
+/// - 6: the source has more than 16,777,216 bytes, more than 40,000 line feeds, or more than 64 lines
+///   that begin with `client `, a last one without its line feed among them; the line `limit bytes`,
+///   `limit lines` or `limit clients` names the first of these.
 ///
-/// A status that is decided stands also where the sink fails while its line is written.
+/// The statuses are decided in the order 1, then 3 and 6 for bytes while reading, 6 for lines, 6 for
+/// clients, 2, and 4 while writing. The source is asked at most 16,777,217 times. A status that is decided stands also where the sink fails while its line is written.
 pub fn fsa_single<S: Source, K: Sink>(
     alloc: Global,
     words: &[String],
@@ -107,14 +131,15 @@ pub fn fsa_single<S: Source, K: Sink>(
     ensures source_failed { result ≡ 3 → Rose (S.faults source.old) (S.faults source.new) × (sink.new ≡ sink.old) }
     ensures sink_failed { result ≡ 4 → Rose (K.faults sink.old) (K.faults sink.new) × RanInPart (S.left source.old) (S.left source.new) (K.written sink.old) (K.written sink.new) }
     ensures no_memory { result ≡ 5 → (sink.new ≡ sink.old) ⊎ RanInPart (S.left source.old) (S.left source.new) (K.written sink.old) (K.written sink.new) }
-    ensures too_many_bytes { result ≡ 6 → HasMoreThan MOST_SCRIPT_BYTES (S.left source.old) × Says limit_bytes_line (K.written sink.old) (K.written sink.new) (K.faults sink.old) (K.faults sink.new) }
+    ensures limit_passed { result ≡ 6 → FoundLimit (S.left source.old) (K.written sink.old) (K.written sink.new) (K.faults sink.old) (K.faults sink.new) }
     ensures known { result ≤ 6 }
+    ensures reads_in_few_turns { S.takes source.new ≤ S.takes source.old + (MOST_SCRIPT_BYTES + 1) }
     ensures faults_never_fall { (S.faults source.old ≤ S.faults source.new) × (K.faults sink.old ≤ K.faults sink.new) }
 
     // The converses: what the words and the bytes are decides the status, but for want of memory.
-    ensures complete { (bytes : List ℕ) → is_run words.now ≡ true → S.left source.old ≡ Some bytes → length bytes ≤ MOST_SCRIPT_BYTES → IsScript bytes → (Rose (S.faults source.old) (S.faults source.new) → ⊥) → (Rose (K.faults sink.old) (K.faults sink.new) → ⊥) → (result ≡ 0) ⊎ (result ≡ 5) }
-    ensures bad_exactly { (bytes : List ℕ) → is_run words.now ≡ true → S.left source.old ≡ Some bytes → length bytes ≤ MOST_SCRIPT_BYTES → IsNoScript bytes → (Rose (S.faults source.old) (S.faults source.new) → ⊥) → (result ≡ 2) ⊎ (result ≡ 5) }
-    ensures limit_exactly { (bytes : List ℕ) → is_run words.now ≡ true → S.left source.old ≡ Some bytes → MOST_SCRIPT_BYTES < length bytes → (Rose (S.faults source.old) (S.faults source.new) → ⊥) → (result ≡ 6) ⊎ (result ≡ 5) }
+    ensures complete { (bytes : List ℕ) → is_run words.now ≡ true → S.left source.old ≡ Some bytes → limit_of bytes ≡ None → IsScript bytes → (Rose (S.faults source.old) (S.faults source.new) → ⊥) → (Rose (K.faults sink.old) (K.faults sink.new) → ⊥) → (result ≡ 0) ⊎ (result ≡ 5) }
+    ensures bad_exactly { (bytes : List ℕ) → is_run words.now ≡ true → S.left source.old ≡ Some bytes → limit_of bytes ≡ None → IsNoScript bytes → (Rose (S.faults source.old) (S.faults source.new) → ⊥) → (result ≡ 2) ⊎ (result ≡ 5) }
+    ensures limit_exactly { (bytes : List ℕ) (limit : Limit) → is_run words.now ≡ true → S.left source.old ≡ Some bytes → limit_of bytes ≡ Some limit → (Rose (S.faults source.old) (S.faults source.new) → ⊥) → ((result ≡ 6) × Says (limit_line limit) (K.written sink.old) (K.written sink.new) (K.faults sink.old) (K.faults sink.new)) ⊎ (result ≡ 5) }
 {
     if !is_run(words) {
         say_usage(sink);
@@ -140,12 +165,13 @@ pub fn fsa_main<R: Threads + Wait + Sync, S: Source, K: Sink, G: Gate + Sync>(
     ensures source_failed { result ≡ 3 → Rose (S.faults source.old) (S.faults source.new) × (sink.new ≡ sink.old) }
     ensures sink_failed { result ≡ 4 → Rose (K.faults sink.old) (K.faults sink.new) × RanInPart (S.left source.old) (S.left source.new) (K.written sink.old) (K.written sink.new) }
     ensures no_memory { result ≡ 5 → (sink.new ≡ sink.old) ⊎ RanInPart (S.left source.old) (S.left source.new) (K.written sink.old) (K.written sink.new) }
-    ensures too_many_bytes { result ≡ 6 → HasMoreThan MOST_SCRIPT_BYTES (S.left source.old) × Says limit_bytes_line (K.written sink.old) (K.written sink.new) (K.faults sink.old) (K.faults sink.new) }
+    ensures limit_passed { result ≡ 6 → FoundLimit (S.left source.old) (K.written sink.old) (K.written sink.new) (K.faults sink.old) (K.faults sink.new) }
     ensures known { result ≤ 6 }
+    ensures reads_in_few_turns { S.takes source.new ≤ S.takes source.old + (MOST_SCRIPT_BYTES + 1) }
     ensures faults_never_fall { (S.faults source.old ≤ S.faults source.new) × (K.faults sink.old ≤ K.faults sink.new) }
-    ensures complete { (bytes : List ℕ) → is_run words.now ≡ true → S.left source.old ≡ Some bytes → length bytes ≤ MOST_SCRIPT_BYTES → IsScript bytes → (Rose (S.faults source.old) (S.faults source.new) → ⊥) → (Rose (K.faults sink.old) (K.faults sink.new) → ⊥) → (result ≡ 0) ⊎ (result ≡ 5) }
-    ensures bad_exactly { (bytes : List ℕ) → is_run words.now ≡ true → S.left source.old ≡ Some bytes → length bytes ≤ MOST_SCRIPT_BYTES → IsNoScript bytes → (Rose (S.faults source.old) (S.faults source.new) → ⊥) → (result ≡ 2) ⊎ (result ≡ 5) }
-    ensures limit_exactly { (bytes : List ℕ) → is_run words.now ≡ true → S.left source.old ≡ Some bytes → MOST_SCRIPT_BYTES < length bytes → (Rose (S.faults source.old) (S.faults source.new) → ⊥) → (result ≡ 6) ⊎ (result ≡ 5) }
+    ensures complete { (bytes : List ℕ) → is_run words.now ≡ true → S.left source.old ≡ Some bytes → limit_of bytes ≡ None → IsScript bytes → (Rose (S.faults source.old) (S.faults source.new) → ⊥) → (Rose (K.faults sink.old) (K.faults sink.new) → ⊥) → (result ≡ 0) ⊎ (result ≡ 5) }
+    ensures bad_exactly { (bytes : List ℕ) → is_run words.now ≡ true → S.left source.old ≡ Some bytes → limit_of bytes ≡ None → IsNoScript bytes → (Rose (S.faults source.old) (S.faults source.new) → ⊥) → (result ≡ 2) ⊎ (result ≡ 5) }
+    ensures limit_exactly { (bytes : List ℕ) (limit : Limit) → is_run words.now ≡ true → S.left source.old ≡ Some bytes → limit_of bytes ≡ Some limit → (Rose (S.faults source.old) (S.faults source.new) → ⊥) → ((result ≡ 6) × Says (limit_line limit) (K.written sink.old) (K.written sink.new) (K.faults sink.old) (K.faults sink.new)) ⊎ (result ≡ 5) }
 {
     let _rt = rt;
     let _gate = gate;

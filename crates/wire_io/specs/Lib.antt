@@ -3,3 +3,4 @@ pub mod MemorySink
 pub mod MemorySource
 pub mod Sink
 pub mod Source
+pub mod StdSource

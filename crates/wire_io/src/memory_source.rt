@@ -1,5 +1,5 @@
 //! A source over bytes in memory, whose chosen calls fail.
-ghost use Rattle.std.specs.Prelude.{◌≡◌, ◌≢◌, ◌≤◌, ◌↔◌, [], length, IfOk, OnOk, OnErr, IsErr, IsTrue};
+ghost use Rattle.std.specs.Prelude.{◌≡◌, ◌≢◌, ◌+◌, ◌≤◌, ◌↔◌, [], length, IfOk, OnOk, OnErr, IsErr, IsTrue};
 ghost use Rattle.wire_io.specs.Faults.{HasCause};
 ghost use Rattle.wire_io.specs.Source.{Takes};
 ghost use Rattle.wire_io.specs.MemorySource.{begun, fails_next, count_given, after_take, after_fault};
@@ -64,10 +64,13 @@ impl Source for MemorySource {
 
     ghost faults = { λ s. s.faults };
 
+    ghost takes = { λ s. s.calls };
+
     fn take(&mut self, buf: &mut [u8]) -> Result<usize, Failed>
         ensures bound { IfOk result (λ n. n ≤ length buf.new) }
         ensures bytes { Takes (Some self.old.left) (Some self.new.left) result buf.new }
         ensures cause { HasCause self.old.faults self.new.faults result }
+        ensures counted { self.new.calls ≤ self.old.calls + 1 }
 
         // It fails exactly where its call is listed, and else gives all that the piece, the
         // buffer and the rest allow.

@@ -50,7 +50,11 @@ pub fn read_all<S: Source>(
     ensures failed { IsErrOf result ReadFault.Failed → Rose (S.faults source.old) (S.faults source.new) }
     ensures too_many { IsErrOf result ReadFault.TooMany → HasMoreThan limit (S.left source.old) }
 
+    // Each take gave a byte at least, but for the last.
+    ensures moves { IfOk result (λ bytes. S.takes source.new ≤ S.takes source.old + (vec_len bytes + 1)) }
+
     // At every exit, also after a failure:
+    ensures turns { S.takes source.new ≤ S.takes source.old + (limit + 1) }
     ensures read { HasReadAtMost (limit + 1) (S.left source.old) (S.left source.new) }
     ensures later { S.faults source.old ≤ S.faults source.new }
 {
@@ -70,6 +74,8 @@ fn read_pieces<S: Source>(
     ensures few { IfOk result (λ bytes. vec_len bytes ≤ limit) }
     ensures failed { IsErrOf result ReadFault.Failed → Rose (S.faults source.old) (S.faults source.new) }
     ensures too_many { IsErrOf result ReadFault.TooMany → HasMoreThan limit (S.left source.old) }
+    ensures moves { IfOk result (λ bytes. S.takes source.new ≤ S.takes source.old + (vec_len bytes + 1)) }
+    ensures turns { S.takes source.new ≤ S.takes source.old + (limit + 1) }
     ensures read { HasReadAtMost (limit + 1) (S.left source.old) (S.left source.new) }
     ensures later { S.faults source.old ≤ S.faults source.new }
 {

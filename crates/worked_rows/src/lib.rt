@@ -3,4 +3,10 @@
 #![tactic(auto)]
 
 #[cfg(test)]
+mod limits;
+#[cfg(test)]
+mod program;
+#[cfg(test)]
 mod tests;
+#[cfg(test)]
+mod troubles;

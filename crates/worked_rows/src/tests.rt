@@ -1,13 +1,15 @@
+//! Whole scripts, each with its status and its text.
+
+use crate::program::run;
 use fsa_top::fsa_single;
-use std::alloc::{AllocError, Global};
 use std::test::Fail;
 use wire_io::{MemorySink, MemorySource};
 
 // A file is created, written, read and closed.
-const FIRST: &str = "fsa 1\nclient a 7\na 1 create =\\A.txt 0x3 0x0 create 0x0 0x0 0\n\
+pub const FIRST: &str = "fsa 1\nclient a 7\na 1 create =\\A.txt 0x3 0x0 create 0x0 0x0 0\n\
     a 2 write 1 0 x68656c6c6f\na 3 read 1 0 5\na 4 close 1\n";
 
-const FIRST_TEXT: &str = "> a 1 create\na 1 SUCCESS created\n> a 2 write\na 2 SUCCESS 5\n\
+pub const FIRST_TEXT: &str = "> a 1 create\na 1 SUCCESS created\n> a 2 write\na 2 SUCCESS 5\n\
     > a 3 read\na 3 SUCCESS x68656c6c6f\n> a 4 close\na 4 SUCCESS\n> a 5 leave\na 5 SUCCESS\nend 5\n";
 
 // Scripts, each with its status and what is written.
@@ -60,21 +62,15 @@ const RUNS: [(&str, u8, &str); 10] = [
     ("fsa 1\nclient a 7\na 2 close 1\n", 2, "bad line 3\n"),
 ];
 
-// The one word `run`.
-fn run_word(alloc: Global) -> Result<Vec<String>, AllocError> {
-    let mut words = Vec::new(alloc);
-    words.push(String::from_str(alloc, "run")?)?;
-    Ok(words)
-}
-
+// With ample memory every run succeeds. No clause can say that: a program that always answers 5, or
+// whose machine never finds memory, is caught here.
 #[test]
 fn scripts_give_their_texts(rt: HostRuntime) -> Result<(), Fail> {
     for (script, status, text) in RUNS {
         for piece in [1, 32, 65536] {
-            let words = run_word(rt.alloc())?;
             let mut source = MemorySource::new(rt.alloc(), script.as_bytes(), piece, &[])?;
             let mut sink = MemorySink::new(rt.alloc(), 4096, piece, &[])?;
-            let found = fsa_single(rt.alloc(), words.as_slice(), &mut source, &mut sink);
+            let found = run(rt.alloc(), &mut source, &mut sink)?;
             assert_eq!(rt; found, status, "{script}");
             assert_eq!(rt; sink.bytes(), text.as_bytes(), "{script}");
         }
@@ -89,43 +85,14 @@ fn other_words_are_usage(rt: HostRuntime) -> Result<(), Fail> {
         for word in text.split_whitespace() {
             words.push(String::from_str(rt.alloc(), word)?)?;
         }
-        let mut source = MemorySource::new(rt.alloc(), b"fsa 1\n", 1, &[])?;
-        let mut sink = MemorySink::new(rt.alloc(), 4096, 4096, &[])?;
-        let found = fsa_single(rt.alloc(), words.as_slice(), &mut source, &mut sink);
-        assert_eq!(rt; found, 1, "{text}");
-        assert_eq!(rt; sink.bytes(), b"usage: fsa run / race / gen N\n".as_slice());
+        // A sink whose first call fails changes no status.
+        for (failing, written) in [(0, "usage: fsa run / race / gen N\n"), (1, "")] {
+            let mut source = MemorySource::new(rt.alloc(), b"fsa 1\n", 1, &[])?;
+            let mut sink = MemorySink::new(rt.alloc(), 4096, 4096, &[failing])?;
+            let found = fsa_single(rt.alloc(), words.as_slice(), &mut source, &mut sink);
+            assert_eq!(rt; found, 1, "{text}");
+            assert_eq!(rt; sink.bytes(), written.as_bytes(), "{text}");
+        }
     }
-    Ok(())
-}
-
-#[test]
-fn a_source_that_fails_writes_nothing(rt: HostRuntime) -> Result<(), Fail> {
-    for call in 1u64..6 {
-        let words = run_word(rt.alloc())?;
-        let mut source = MemorySource::new(rt.alloc(), FIRST.as_bytes(), 32, &[call])?;
-        let mut sink = MemorySink::new(rt.alloc(), 4096, 4096, &[])?;
-        let found = fsa_single(rt.alloc(), words.as_slice(), &mut source, &mut sink);
-        assert_eq!(rt; found, 3, "{call}");
-        assert_eq!(rt; sink.bytes(), b"".as_slice());
-    }
-    Ok(())
-}
-
-#[test]
-fn a_sink_that_fails_has_a_prefix(rt: HostRuntime) -> Result<(), Fail> {
-    for call in 1u64..7 {
-        let words = run_word(rt.alloc())?;
-        let mut source = MemorySource::new(rt.alloc(), FIRST.as_bytes(), 4096, &[])?;
-        let mut sink = MemorySink::new(rt.alloc(), 4096, 4096, &[call])?;
-        let found = fsa_single(rt.alloc(), words.as_slice(), &mut source, &mut sink);
-        assert_eq!(rt; found, 4, "{call}");
-        assert!(rt; FIRST_TEXT.as_bytes().starts_with(sink.bytes()), "{call}");
-    }
-    let words = run_word(rt.alloc())?;
-    let mut source = MemorySource::new(rt.alloc(), b"fsa 2\n", 4096, &[])?;
-    let mut sink = MemorySink::new(rt.alloc(), 4096, 4096, &[1])?;
-    let found = fsa_single(rt.alloc(), words.as_slice(), &mut source, &mut sink);
-    assert_eq!(rt; found, 2);
-    assert_eq!(rt; sink.bytes(), b"".as_slice());
     Ok(())
 }

@@ -33,6 +33,7 @@ takes-preserved g c =
           (HasRead-append _ _ _ _ _ c.takes.invariant.read c.in_ok-count.ensures.bytes.0);
       within = omega (arith, length-take {A = ℕ}, c.in_ok-extend_from_slice.ensures.len, c.in_ok-count.ensures.bound);
       moves = omega (arith, length-take {A = ℕ}, c.in_ok-extend_from_slice.ensures.len, c.in_ok-count.ensures.bound);
+      counted = omega (arith, c.take.ensures.counted, c.takes.invariant.counted);
       later = omega (arith, c.take.ensures.cause.later);
     }
 

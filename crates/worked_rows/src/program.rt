@@ -1,0 +1,38 @@
+//! The program over bytes in memory.
+
+use fsa_top::fsa_single;
+use std::alloc::{AllocError, Global};
+use wire_io::{Sink, Source};
+
+/// The status of a run of the script that the source gives.
+pub fn run<S: Source, K: Sink>(
+    alloc: Global,
+    source: &mut S,
+    sink: &mut K,
+) -> Result<u8, AllocError> {
+    let mut words = Vec::new(alloc);
+    words.push(String::from_str(alloc, "run")?)?;
+    Ok(fsa_single(alloc, words.as_slice(), source, sink))
+}
+
+// How often a text stands in a chunk.
+const CHUNK: usize = 4096;
+
+/// This text, so many times, and then the tail.
+pub fn repeated(
+    alloc: Global,
+    text: &str,
+    times: usize,
+    tail: &str,
+) -> Result<Vec<u8>, AllocError> {
+    let mut bytes = Vec::new(alloc);
+    let chunk = text.repeat(alloc, CHUNK)?;
+    for _chunk in 0..times / CHUNK {
+        bytes.extend_from_slice(chunk.as_bytes())?;
+    }
+    for _time in 0..times % CHUNK {
+        bytes.extend_from_slice(text.as_bytes())?;
+    }
+    bytes.extend_from_slice(tail.as_bytes())?;
+    Ok(bytes)
+}
