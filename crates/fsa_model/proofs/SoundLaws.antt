@@ -2,7 +2,7 @@
 use Rattle.std.proofs.Common.{◌≡◌, ℕ, zero, suc, ◌+◌, ◌-◌, ◌^◌, ◌<◌, ◌≤◌, Bool, true, false, not, List, [], ◌∷◌, ◌++◌, length, get_or, refl, ap, sym, ◌∙◌, arith, inl, inr, Option, Some, None}
 use Rattle.std.specs.List.{find, filter, list_any, All, AllPairs}
 use Rattle.std.specs.Option.{option_map_or}
-use Rattle.std.specs.Prelude.{◌==◌, ◌||◌, ◌&&◌, map, option_map, IsTrue, IfSome, if◌then◌else◌}
+use Rattle.std.specs.Prelude.{◌==◌, ◌||◌, ◌&&◌, is_some, map, option_map, IsTrue, IfSome, if◌then◌else◌}
 use Rattle.std.proofs.lemmas.Bool.{ne_eqb, eq-eqb, both_ways, eqb-true, not-true, cases_Bool, or_cases, and_parts, and_from, and_cases, and_left, and_right}
 use Rattle.std.proofs.lemmas.List.Folds.{list_any-append, list_any_at, list_any_none, find-append}
 use Rattle.std.proofs.lemmas.List.Elements.{All-nil, All-push, All-map, All-filter, filter_passes}
@@ -14,7 +14,7 @@ use Rattle.fsa_model.specs.Setup.{Setup}
 use Rattle.fsa_model.specs.Volume.{File, Link, Stream, Handle, Volume, fresh, root}
 use Rattle.fsa_model.specs.Lookups.{child_of, stream_of, handle_of, is_named, is_stream_named, is_opened_by, is_directory, has_child, has_row, leads_to, link_of_file, is_open_on, is_open_by}
 use Rattle.fsa_model.specs.Edits.{with_file, with_link, with_stream, with_handle, without_handle, with_link_marked, without_stream, without_file, without_link}
-use Rattle.fsa_model.specs.Sound.{IsSound, IsTree, AreOpens, LeadsUp, PointFits, is_of_living, is_stream_of_link}
+use Rattle.fsa_model.specs.Sound.{IsSound, IsTree, AreOpens, LeadsUp, PointFits, is_of_living, is_stream_of_link, is_link_of_directory, has_its_stream}
 use Rattle.fsa_model.proofs.RowLaws.{any-push, any-filter, any-filter_none, find-all, find-any, find-none, row_of-all, any-map, any-same, any-weaker, find-map, find-same, find-filter, AllPairs-map, change_at, change_at-same, change_at-number, IsNumbered-change, row_of-here, eqb-swap, or_right, option_cases, none-all, number_of-none, lives-given, IsNumbered-push, IsNumbered-filter, or-false}
 
 -- a file more is no directory's number that was given before
@@ -24,6 +24,19 @@ is_directory-push files last id file given living =
     let bound = lives-given files last id given living in
     let other : (last + 1 == id) ≡ false = ne_eqb (last + 1) id (λ e. absurd (omega arith)) in
     list_any-append (λ entry. entry.0 == id && entry.1.directory) files ((last + 1, file) ∷ []) ∙ rw other (or-false (is_directory files id))
+
+-- a handle has its stream where it had, or where its link is still a directory's
+has_its_stream-more : (files files' : List (ℕ × File)) (links links' : List (ℕ × Link)) (handle : Handle)
+    → (list_any (λ l. l.0 == handle.link && is_directory files l.1.file) links ≡ true → list_any (λ l. l.0 == handle.link && is_directory files' l.1.file) links' ≡ true)
+    → has_its_stream files links handle ≡ true → has_its_stream files' links' handle ≡ true
+has_its_stream-more files files' links links' handle more has =
+    let here : Bool = list_any (λ l. l.0 == handle.link && is_directory files l.1.file) links in
+    let there : Bool = list_any (λ l. l.0 == handle.link && is_directory files' l.1.file) links' in
+    elim (or_cases (is_some handle.stream) (handle.link == 0 || here) has) [
+      | inl some ↦ rw some refl
+      | inr directory ↦ or_right (is_some handle.stream) (handle.link == 0 || there)
+          (elim (or_cases (handle.link == 0) here directory) [ inl root ↦ rw root refl | inr lived ↦ or_right (handle.link == 0) there (more lived) ])
+    ]
 
 pub IsSound-with_file : (v : Volume) (file : File) → IsSound v → v.last_file + 1 < 2 ^ 32 - 1 → PointFits file → IsSound (with_file v file)
 IsSound-with_file v file sound ids_left fits = record {
@@ -41,8 +54,19 @@ IsSound-with_file v file sound ids_left fits = record {
     directories_have_one_link = λ j k d below within.
         rw (is_directory-push v.files v.last_file _ file sound.files_numbered.given (sound.tree.link_files_live k d within)) (sound.tree.directories_have_one_link j k d below within);
     marked_are_empty = sound.tree.marked_are_empty;
+    numbers_are_not_0 = sound.tree.numbers_are_not_0;
   };
-  opens = sound.opens;
+  opens = record {
+    are_of_living = sound.opens.are_of_living;
+    have_streams = λ k d within. has_its_stream-more v.files (v.files ++ (v.last_file + 1, file) ∷ []) v.links v.links (get_or v.handles k d).1
+        (any-weaker (λ l. l.0 == (get_or v.handles k d).1.link && is_directory v.files l.1.file)
+        (λ l. l.0 == (get_or v.handles k d).1.link && is_directory (v.files ++ (v.last_file + 1, file) ∷ []) l.1.file) v.links
+        (λ l both. let parts = and_parts (l.0 == (get_or v.handles k d).1.link) (is_directory v.files l.1.file) both in
+        and_from (l.0 == (get_or v.handles k d).1.link) (is_directory (v.files ++ (v.last_file + 1, file) ∷ []) l.1.file) parts.0 (any-push _ v.files ((v.last_file + 1, file) ∷ []) parts.1)))
+        (sound.opens.have_streams k d within);
+    differ = sound.opens.differ;
+    have_clients = sound.opens.have_clients;
+  };
   pending = sound.pending;
   clients = sound.clients;
   of_handles = sound.of_handles;
@@ -129,10 +153,13 @@ IsSound-with_link v parent name file sound ids_left directory leads unmarked liv
                 | inr kept ↦ rw kept refl
               ]
             ]) refl;
+        numbers_are_not_0 = All-push (λ entry. (entry.0 == 0) ≡ false) v.links row sound.tree.numbers_are_not_0 (ne_eqb (v.last_link + 1) 0 (λ e. absurd (omega arith)));
       };
       opens = record {
         are_of_living = λ k d within. is_of_living-more v.links (v.links ++ row ∷ []) v.streams v.streams (get_or v.handles k d).1
             (any-push _ v.links (row ∷ [])) (λ stream is. is_stream_of_link-links v.links (row ∷ []) v.streams _ stream) (sound.opens.are_of_living k d within);
+        have_streams = λ k d within. has_its_stream-more v.files v.files v.links (v.links ++ row ∷ []) (get_or v.handles k d).1
+            (any-push _ v.links (row ∷ [])) (sound.opens.have_streams k d within);
         differ = sound.opens.differ;
         have_clients = sound.opens.have_clients;
       };
@@ -166,10 +193,12 @@ IsSound-with_stream v file name sound ids_left living no_directory fresh_name =
         directories_have_no_stream = All-push (λ entry. is_directory v.files entry.1.file ≡ false) v.streams row sound.tree.directories_have_no_stream no_directory;
         directories_have_one_link = sound.tree.directories_have_one_link;
         marked_are_empty = sound.tree.marked_are_empty;
+        numbers_are_not_0 = sound.tree.numbers_are_not_0;
       };
       opens = record {
         are_of_living = λ k d within. is_of_living-more v.links v.links v.streams (v.streams ++ row ∷ []) (get_or v.handles k d).1
             (λ living. living) (λ s is. any-push _ v.streams (row ∷ [])) (sound.opens.are_of_living k d within);
+        have_streams = sound.opens.have_streams;
         differ = sound.opens.differ;
         have_clients = sound.opens.have_clients;
       };
@@ -186,13 +215,14 @@ IsSound-with_stream v file name sound ids_left living no_directory fresh_name =
     }
 
 pub IsSound-with_handle : (v : Volume) (handle : Handle) → IsSound v → v.last_handle + 1 < 2 ^ 32 - 1
-    → is_of_living v.links v.streams handle ≡ true → handle_of v handle.client handle.number ≡ None → handle.client < length v.clients
+    → is_of_living v.links v.streams handle ≡ true → has_its_stream v.files v.links handle ≡ true → handle_of v handle.client handle.number ≡ None → handle.client < length v.clients
     → IsSound (with_handle v handle)
-IsSound-with_handle v handle sound ids_left living fresh_number client =
+IsSound-with_handle v handle sound ids_left living its_stream fresh_number client =
     let row : ℕ × Handle = (v.last_handle + 1, handle) in record {
       tree = sound.tree;
       opens = record {
         are_of_living = All-push (λ entry. is_of_living v.links v.streams entry.1 ≡ true) v.handles row sound.opens.are_of_living living;
+        have_streams = All-push (λ entry. has_its_stream v.files v.links entry.1 ≡ true) v.handles row sound.opens.have_streams its_stream;
         differ = all_pairs_push (λ a b. is_opened_by b.1.client b.1.number a.1 ≡ false) v.handles row sound.opens.differ
             (number_of-none (is_opened_by handle.client handle.number) v.handles fresh_number);
         have_clients = All-push (λ entry. entry.1.client < length v.clients) v.handles row sound.opens.have_clients client;
@@ -224,6 +254,7 @@ IsSound-without_handle v handle sound = record {
   tree = sound.tree;
   opens = record {
     are_of_living = All-filter (λ entry. not (entry.0 == handle)) (λ entry. is_of_living v.links v.streams entry.1 ≡ true) v.handles sound.opens.are_of_living;
+    have_streams = All-filter (λ entry. not (entry.0 == handle)) (λ entry. has_its_stream v.files v.links entry.1 ≡ true) v.handles sound.opens.have_streams;
     differ = AllPairs-filter (λ a b. is_opened_by b.1.client b.1.number a.1 ≡ false) (λ entry. not (entry.0 == handle)) v.handles sound.opens.differ;
     have_clients = All-filter (λ entry. not (entry.0 == handle)) (λ entry. entry.1.client < length v.clients) v.handles sound.opens.have_clients;
   };
@@ -275,8 +306,16 @@ IsSound-file_changed v change file sound directory point =
         directories_have_no_stream = λ k d within. as_directory _ ∙ sound.tree.directories_have_no_stream k d within;
         directories_have_one_link = λ j k d below within. rw (as_directory (get_or v.links k d).1.file) (sound.tree.directories_have_one_link j k d below within);
         marked_are_empty = sound.tree.marked_are_empty;
+        numbers_are_not_0 = sound.tree.numbers_are_not_0;
       };
-      opens = sound.opens;
+      opens = record {
+        are_of_living = sound.opens.are_of_living;
+        have_streams = λ k d within. has_its_stream-more v.files files' v.links v.links (get_or v.handles k d).1
+            (λ living. any-same (λ l. l.0 == (get_or v.handles k d).1.link && is_directory files' l.1.file) (λ l. l.0 == (get_or v.handles k d).1.link && is_directory v.files l.1.file) v.links
+            (λ l. rw (as_directory l.1.file) refl) ∙ living) (sound.opens.have_streams k d within);
+        differ = sound.opens.differ;
+        have_clients = sound.opens.have_clients;
+      };
       pending = sound.pending;
       clients = sound.clients;
       of_handles = sound.of_handles;
@@ -321,10 +360,12 @@ IsSound-stream_changed v change stream sound file name fits =
         directories_have_no_stream = All-map (λ entry. is_directory v.files entry.1.file ≡ false) at v.streams (λ k d within. rw (file_of (get_or v.streams k d)) (sound.tree.directories_have_no_stream k d within));
         directories_have_one_link = sound.tree.directories_have_one_link;
         marked_are_empty = sound.tree.marked_are_empty;
+        numbers_are_not_0 = sound.tree.numbers_are_not_0;
       };
       opens = record {
         are_of_living = λ k d within. is_of_living-more v.links v.links v.streams (with_row_changed change v.streams stream) (get_or v.handles k d).1
             (λ living. living) (λ s is living. of_link _ s ∙ living) (sound.opens.are_of_living k d within);
+        have_streams = sound.opens.have_streams;
         differ = sound.opens.differ;
         have_clients = sound.opens.have_clients;
       };
@@ -411,10 +452,15 @@ IsSound-with_link_marked v link deleted sound empty =
               ])
               | inr other ↦ rw other (sound.tree.marked_are_empty k d within)
             ]));
+        numbers_are_not_0 = All-map (λ entry. (entry.0 == 0) ≡ false) at v.links (λ k d within. rw (change_at-number change link (get_or v.links k d)) (sound.tree.numbers_are_not_0 k d within));
       };
       opens = record {
         are_of_living = λ k d within. is_of_living-more v.links links' v.streams v.streams (get_or v.handles k d).1
             (λ living. as_many _ ∙ living) (λ s is living. of_link _ s ∙ living) (sound.opens.are_of_living k d within);
+        have_streams = λ k d within. has_its_stream-more v.files v.files v.links links' (get_or v.handles k d).1
+            (λ living. any-map (λ l. l.0 == (get_or v.handles k d).1.link && is_directory v.files l.1.file) at v.links
+            ∙ any-same (λ l. (at l).0 == (get_or v.handles k d).1.link && is_directory v.files (at l).1.file) (λ l. l.0 == (get_or v.handles k d).1.link && is_directory v.files l.1.file) v.links
+            (λ l. rw (change_at-number change link l, file_of l) refl) ∙ living) (sound.opens.have_streams k d within);
         differ = sound.opens.differ;
         have_clients = sound.opens.have_clients;
       };
@@ -446,6 +492,7 @@ IsSound-without_stream v stream sound unopened =
         directories_have_no_stream = All-filter kept (λ entry. is_directory v.files entry.1.file ≡ false) v.streams sound.tree.directories_have_no_stream;
         directories_have_one_link = sound.tree.directories_have_one_link;
         marked_are_empty = sound.tree.marked_are_empty;
+        numbers_are_not_0 = sound.tree.numbers_are_not_0;
       };
       opens = record {
         are_of_living = λ k d within. is_of_living-more v.links v.links v.streams (without_row v.streams stream) (get_or v.handles k d).1
@@ -455,6 +502,7 @@ IsSound-without_stream v stream sound unopened =
             any-filter (λ e. e.0 == s && list_any (λ l. l.0 == (get_or v.handles k d).1.link && l.1.file == e.1.file) v.links) kept v.streams
             (λ e both. rw (eqb-true e.0 s (and_parts (e.0 == s) _ both).0, closed) refl) living)
             (sound.opens.are_of_living k d within);
+        have_streams = sound.opens.have_streams;
         differ = sound.opens.differ;
         have_clients = sound.opens.have_clients;
       };
@@ -498,9 +546,9 @@ leads_to-without (suc steps) links last link row above dir numbered found empty 
     ]
 
 -- the link taken out, with nothing in it and no handle by it
-IsSound-link_out : (v : Volume) (link : ℕ) (row : Link) → IsSound v → row_of v.links link ≡ Some row → has_child v.links row.file ≡ false
+IsSound-link_out : (v : Volume) (link : ℕ) (gone : Link) → IsSound v → row_of v.links link ≡ Some gone → has_child v.links gone.file ≡ false
     → has_row (is_open_by link) v.handles ≡ false → IsSound (record v { links = without_row v.links link })
-IsSound-link_out v link row sound found empty unopened =
+IsSound-link_out v link gone sound found empty unopened =
     let kept : ℕ × Link → Bool = λ entry. not (entry.0 == link) in
     let links' : List (ℕ × Link) = without_row v.links link in
     let parents : All (λ e. has_child v.links e.1.parent ≡ true) v.links
@@ -515,7 +563,7 @@ IsSound-link_out v link row sound found empty unopened =
         parents_lead_up = All-filter kept (λ entry. LeadsUp links' entry.1.parent) v.links
             (λ k d within. let up = sound.tree.parents_lead_up k d within in record {
               steps = up.steps;
-              leads = leads_to-without up.steps v.links v.last_link link row 1 (get_or v.links k d).1.parent sound.links_numbered found empty (parents k d within) up.leads;
+              leads = leads_to-without up.steps v.links v.last_link link gone 1 (get_or v.links k d).1.parent sound.links_numbered found empty (parents k d within) up.leads;
             });
         root_is_directory = sound.tree.root_is_directory;
         root_has_no_link = All-filter kept (λ entry. (entry.1.file == 1) ≡ false) v.links sound.tree.root_has_no_link;
@@ -526,6 +574,7 @@ IsSound-link_out v link row sound found empty unopened =
               | inl unmarked ↦ rw unmarked refl
               | inr none ↦ and_right (get_or v.links k d).1.deleted _ (any-filter_none (λ e. e.1.parent == (get_or v.links k d).1.file) kept v.links none)
             ]);
+        numbers_are_not_0 = All-filter kept (λ entry. (entry.0 == 0) ≡ false) v.links sound.tree.numbers_are_not_0;
       };
       opens = record {
         are_of_living = λ k d within.
@@ -539,6 +588,11 @@ IsSound-link_out v link row sound found empty unopened =
             (any-filter (λ l. l.0 == (get_or v.handles k d).1.link && l.1.file == e.1.file) kept v.links
             (λ l here. rw (eqb-true l.0 _ (and_parts (l.0 == (get_or v.handles k d).1.link) _ here).0, closed) refl) parts.1)) living)
             (sound.opens.are_of_living k d within);
+        have_streams = λ k d within.
+            let closed : ((get_or v.handles k d).1.link == link) ≡ false = none-all (λ entry. is_open_by link entry.1) v.handles unopened k d within in
+            has_its_stream-more v.files v.files v.links links' (get_or v.handles k d).1
+            (any-filter (λ l. l.0 == (get_or v.handles k d).1.link && is_directory v.files l.1.file) kept v.links
+            (λ l here. rw (eqb-true l.0 _ (and_parts (l.0 == (get_or v.handles k d).1.link) _ here).0, closed) refl)) (sound.opens.have_streams k d within);
         differ = sound.opens.differ;
         have_clients = sound.opens.have_clients;
       };
@@ -553,6 +607,15 @@ IsSound-link_out v link row sound found empty unopened =
       points_fit = sound.points_fit;
       bounded = record { files = sound.bounded.files; links = sound.bounded.links; streams = sound.bounded.streams; handles = sound.bounded.handles; clock = sound.bounded.clock; locks = sound.bounded.locks; breaks = sound.bounded.breaks };
     }
+
+-- a test that is weaker on each item passes too
+any-all : {X : Type 0} (p q : X → Bool) (xs : List X) → All (λ x. p x ≡ true → q x ≡ true) xs → list_any p xs ≡ true → list_any q xs ≡ true
+any-all p q [] weaker some = some
+any-all p q (x ∷ xs) weaker some =
+    elim (cases_Bool (p x)) [
+      | inl passes ↦ rw (weaker 0 x (omega arith) passes) refl
+      | inr fails ↦ or_right (q x) (list_any q xs) (any-all p q xs (λ k d within. weaker (suc k) d (omega arith)) (rw fails at some))
+    ]
 
 -- a file without a link or a child taken out, with its streams
 IsSound-without_file : (v : Volume) (file : ℕ) → IsSound v → has_row (λ link. link.file == file) v.links ≡ false → has_child v.links file ≡ false
@@ -587,6 +650,7 @@ IsSound-without_file v file sound unlinked empty not_root =
               | inr other ↦ and_right (is_directory files' (get_or v.links k d).1.file) _ other
             ];
         marked_are_empty = sound.tree.marked_are_empty;
+        numbers_are_not_0 = sound.tree.numbers_are_not_0;
       };
       opens = record {
         are_of_living = λ k d within. is_of_living-more v.links v.links v.streams (filter kept_stream v.streams) (get_or v.handles k d).1
@@ -600,6 +664,11 @@ IsSound-without_file v file sound unlinked empty not_root =
               | inr other ↦ rw other refl
             ]) living)
             (sound.opens.are_of_living k d within);
+        have_streams = λ k d within. has_its_stream-more v.files files' v.links v.links (get_or v.handles k d).1
+            (any-all (λ l. l.0 == (get_or v.handles k d).1.link && is_directory v.files l.1.file) (λ l. l.0 == (get_or v.handles k d).1.link && is_directory files' l.1.file) v.links
+            (λ j e inside both. let parts = and_parts ((get_or v.links j e).0 == (get_or v.handles k d).1.link) (is_directory v.files (get_or v.links j e).1.file) both in
+            and_from ((get_or v.links j e).0 == (get_or v.handles k d).1.link) (is_directory files' (get_or v.links j e).1.file) parts.0 (directory _ parts.1 (no_link j e inside))))
+            (sound.opens.have_streams k d within);
         differ = sound.opens.differ;
         have_clients = sound.opens.have_clients;
       };
@@ -658,8 +727,9 @@ IsSound-fresh setup sids = record {
     directories_have_no_stream = All-nil _;
     directories_have_one_link = λ i j d below within. absurd (omega arith);
     marked_are_empty = All-nil _;
+    numbers_are_not_0 = All-nil _;
   };
-  opens = record { are_of_living = All-nil _; differ = λ i j d below within. absurd (omega arith); have_clients = All-nil _ };
+  opens = record { are_of_living = All-nil _; have_streams = All-nil _; differ = λ i j d below within. absurd (omega arith); have_clients = All-nil _ };
   pending = record { differ = λ i j d below within. absurd (omega arith); turns_differ = λ i j d below within. absurd (omega arith); have_clients = All-nil _ };
   clients = record { have_sids = sids; may_leave = length-map setup.clients (λ _. false) };
   of_handles = record { locks_live = All-nil _; oplocks_live = All-nil _; watches_live = All-nil _; watches_differ = λ i j d below within. absurd (omega arith) };

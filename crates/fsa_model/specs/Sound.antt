@@ -1,5 +1,5 @@
 -- What is always true of a volume.
-use Rattle.std.specs.Prelude.{◌≡◌, ℕ, Bool, true, false, ◌+◌, ◌-◌, ◌^◌, ◌<◌, ◌≤◌, ◌&&◌, ◌||◌, ◌==◌, not, List, Option, length, All, AllPairs, IsTrue, IfSome}
+use Rattle.std.specs.Prelude.{◌≡◌, ℕ, Bool, true, false, ◌+◌, ◌-◌, ◌^◌, ◌<◌, ◌≤◌, ◌&&◌, ◌||◌, ◌==◌, not, List, Option, is_some, length, All, AllPairs, IsTrue, IfSome}
 use Rattle.std.specs.Option.{option_map_or}
 use Rattle.std.specs.List.{list_any}
 use Rattle.fsa_types.specs.Rows.{lives, IsNumbered}
@@ -25,6 +25,14 @@ is_of_living links streams handle =
     (handle.link == 0 || lives links handle.link)
     && option_map_or (λ stream. is_stream_of_link links streams handle.link stream) handle.stream true
 
+-- the link is a directory's; link 0 is the root's
+abbrev pub is_link_of_directory : List (ℕ × File) → List (ℕ × Link) → ℕ → Bool
+is_link_of_directory files links link = link == 0 || list_any (λ l. l.0 == link && is_directory files l.1.file) links
+
+-- a handle has no stream only where its link is a directory's
+abbrev pub has_its_stream : List (ℕ × File) → List (ℕ × Link) → Handle → Bool
+has_its_stream files links handle = is_some handle.stream || is_link_of_directory files links handle.link
+
 -- the bounds of a file: a reparse point has at most 16,376 bytes
 abbrev pub PointFits : File → Type 0
 PointFits file = IfSome file.point (λ point. length point.1 ≤ 16376)
@@ -46,10 +54,13 @@ pub record IsTree (table : List (ℕ × ℕ)) (files : List (ℕ × File)) (link
   pub directories_have_no_stream : All (λ entry. is_directory files entry.1.file ≡ false) streams
   pub directories_have_one_link : AllPairs (λ a b. (is_directory files b.1.file && a.1.file == b.1.file) ≡ false) links
   pub marked_are_empty : All (λ entry. (entry.1.deleted && has_child links entry.1.file) ≡ false) links
+  -- no link has the number 0, which a handle of the root has
+  pub numbers_are_not_0 : All (λ entry. (entry.0 == 0) ≡ false) links
 
 -- the handles, each of a client of the setup
-pub record AreOpens (clients : List Client) (links : List (ℕ × Link)) (streams : List (ℕ × Stream)) (handles : List (ℕ × Handle)) : Type 0 where
+pub record AreOpens (clients : List Client) (files : List (ℕ × File)) (links : List (ℕ × Link)) (streams : List (ℕ × Stream)) (handles : List (ℕ × Handle)) : Type 0 where
   pub are_of_living : All (λ entry. IsTrue (is_of_living links streams entry.1)) handles
+  pub have_streams : All (λ entry. IsTrue (has_its_stream files links entry.1)) handles
   -- no two have the same client and number
   pub differ : AllPairs (λ a b. is_opened_by b.1.client b.1.number a.1 ≡ false) handles
   pub have_clients : All (λ entry. entry.1.client < length clients) handles
@@ -87,7 +98,7 @@ pub record AreBounded (v : Volume) : Type 0 where
 -- a volume is sound
 pub record IsSound (v : Volume) : Type 0 where
   pub tree : IsTree v.table v.files v.links v.streams
-  pub opens : AreOpens v.clients v.links v.streams v.handles
+  pub opens : AreOpens v.clients v.files v.links v.streams v.handles
   pub pending : ArePending v.clients v.pending
   pub clients : AreClients v.clients v.left
   pub of_handles : AreOfHandles v.handles v.locks v.oplocks v.watches

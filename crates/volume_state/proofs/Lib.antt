@@ -1,3 +1,5 @@
 pub mod BytesLemmas
 pub mod ChangeLemmas
+pub mod OpenLaws
+pub mod PathLaws
 pub mod StreamLemmas

@@ -22,9 +22,9 @@ pub(crate) struct Entry {
 // so that the name relative to an ancestor is the part that was written when the ancestor is reached.
 #[derive(Debug, Drop)]
 pub(crate) struct ChangeLog {
-    entries: Series<Entry>,
-    units: Series<u16>,
-    dirs: Series<(u64, usize)>,
+    pub(crate) entries: Series<Entry>,
+    pub(crate) units: Series<u16>,
+    pub(crate) dirs: Series<(u64, usize)>,
     first_unit: usize,
     first_dir: usize,
 }

@@ -1,10 +1,11 @@
 //! Files and directories.
 
-ghost use Rattle.std.specs.Prelude.{ℕ, ◌≡◌, ◌≤◌, ◌<◌, ◌+◌, ◌-◌, ◌^◌};
+ghost use Rattle.std.specs.Prelude.{ℕ, List, ◌≡◌, ◌≤◌, ◌<◌, ◌+◌, ◌-◌, ◌^◌, ◌==◌, ◌&&◌, IsTrue, IsSome, IfSome, None, true, false};
 ghost use Rattle.std.specs.Option.{option_copied};
-ghost use Rattle.fsa_types.specs.Rows.{row_of, with_row_changed};
+ghost use Rattle.fsa_types.specs.Rows.{row_of, lives, with_row_changed};
 ghost use Rattle.fsa_model.specs.Edits.{with_file, with_basic};
-ghost use Rattle.fsa_model.specs.Sound.{PointFits};
+ghost use Rattle.fsa_model.specs.Lookups.{has_row, is_directory, stream_of};
+ghost use Rattle.fsa_model.specs.Sound.{LeadsUp, PointFits};
 ghost use Rattle.volume_state.specs.Seen.{room_for};
 
 use crate::rows::FileRow;
@@ -12,9 +13,24 @@ use crate::volume::Volume;
 use object_tables::Table;
 
 impl Volume {
+    /// The file number of the root directory. It has no link; 0, which stands for one, is no link's
+    /// number.
+    pub fn root(&self) -> u64
+        ensures id { result ≡ 1 }
+        ensures directory { IsTrue (is_directory self.now.content.files result) }
+        ensures leads { LeadsUp self.now.content.links result }
+        ensures no_link { row_of self.now.content.links 0 ≡ None }
+        ensures unmarked { has_row (λ link. link.file == result && link.deleted) self.now.content.links ≡ false }
+    {
+        let _files = &self.files;
+        1
+    }
+
     /// The file or directory of this number; `None` exactly where there is none.
     pub fn file(&self, id: u64) -> Option<&FileRow>
-        ensures { option_copied result ≡ row_of self.now.content.files id }
+        ensures row { option_copied result ≡ row_of self.now.content.files id }
+        ensures lives { lives self.now.content.files id ≡ true → IsSome result }
+        ensures directory { IfSome result (λ row. is_directory self.now.content.files id ≡ row.now.directory) }
     {
         self.files.get(id)
     }
@@ -32,6 +48,14 @@ impl Volume {
         ensures owners_left { self.old.spare.owners ≤ self.new.spare.owners + 1 }
         ensures links_left { (dir : ℕ) → room_for self.old.spare.links dir ≤ room_for self.new.spare.links dir }
         ensures id { result ≡ self.old.content.last_file + 1 }
+
+        // It lives, isn't the root, and has no link and no stream yet; directories stay what they are.
+        ensures lives { IsTrue (lives self.new.content.files result) }
+        ensures not_root { (result == 1) ≡ false }
+        ensures directory { is_directory self.new.content.files result ≡ file.directory }
+        ensures directories { (id : ℕ) → IsTrue (is_directory self.old.content.files id) → IsTrue (is_directory self.new.content.files id) }
+        ensures unlinked { has_row (λ link. link.file == result) self.new.content.links ≡ false }
+        ensures no_stream { (name : List ℕ) → stream_of self.new.content result name ≡ None }
     {
         let Ok(id) = self.files.add(file) else {
             unreachable!()

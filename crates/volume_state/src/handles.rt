@@ -1,11 +1,11 @@
 //! Handles: the opens of clients.
 
-ghost use Rattle.std.specs.Prelude.{ℕ, ◌≡◌, ◌≤◌, ◌<◌, ◌+◌, ◌-◌, ◌^◌, ◌==◌, ◌&&◌, IsTrue, IfSome, None, option_map, find, length, nat_lt, filter};
+ghost use Rattle.std.specs.Prelude.{ℕ, ◌≡◌, ◌≤◌, ◌<◌, ◌+◌, ◌-◌, ◌^◌, ◌==◌, ◌&&◌, IsTrue, IsSome, IfSome, None, true, option_map, find, length, nat_lt, filter};
 ghost use Rattle.std.specs.Option.{option_copied};
-ghost use Rattle.fsa_types.specs.Rows.{row_of};
+ghost use Rattle.fsa_types.specs.Rows.{row_of, lives};
 ghost use Rattle.fsa_model.specs.Edits.{with_handle, without_handle};
 ghost use Rattle.fsa_model.specs.Lookups.{handle_of, is_opened_by, next_handle_of, handles_on};
-ghost use Rattle.fsa_model.specs.Sound.{is_of_living};
+ghost use Rattle.fsa_model.specs.Sound.{is_of_living, has_its_stream};
 ghost use Rattle.volume_state.specs.Room.{IsNoLess};
 
 use crate::rows::HandleRow;
@@ -15,15 +15,18 @@ impl Volume {
     /// The handle of this number; `None` exactly where there is none.
     pub fn handle(&self, id: u64) -> Option<&HandleRow>
         ensures row { option_copied result ≡ row_of self.now.content.handles id }
+        ensures lives { lives self.now.content.handles id ≡ true → IsSome result }
         ensures living { IfSome result (λ row. IsTrue (is_of_living self.now.content.links self.now.content.streams row.now)) }
         ensures client { IfSome result (λ row. row.now.client < length self.now.content.clients) }
+        ensures stream { IfSome result (λ row. IsTrue (has_its_stream self.now.content.files self.now.content.links row.now)) }
     {
         self.handles.get(id)
     }
 
     /// The handle that this call of this client opened; `None` exactly where there is none.
     pub fn handle_of(&self, client: u32, number: u32) -> Option<u64>
-        ensures { result ≡ handle_of self.now.content client number }
+        ensures found { result ≡ handle_of self.now.content client number }
+        ensures lives { IfSome result (λ id. IsTrue (lives self.now.content.handles id)) }
     {
         find_handle(self.handles.as_slice(), client, number)
     }
@@ -33,6 +36,7 @@ impl Volume {
         requires room { 1 ≤ self.old.spare.handles }
         requires ids_left { self.old.content.last_handle + 1 < 2 ^ 32 - 1 }
         requires living { IsTrue (is_of_living self.old.content.links self.old.content.streams row) }
+        requires stream { IsTrue (has_its_stream self.old.content.files self.old.content.links row) }
         requires new { handle_of self.old.content row.client row.number ≡ None }
         requires client { row.client < length self.old.content.clients }
         ensures content { self.new.content ≡ with_handle self.old.content row }

@@ -6,6 +6,7 @@
 //!
 //! ```text
 //! let mut volume = Volume::new(alloc, setup)?;      // the root alone, file 1
+//! let room = volume.note_room_in(1, units)?;        // how much a note of a link in the root takes
 //! volume.reserve(&need)?;                           // may be refused; nothing has changed then
 //! let file = volume.add_file(row);                  // takes no memory
 //! let link = volume.add_link(1, name, file);
@@ -14,8 +15,9 @@
 //!
 //! The calls group so: making and room (`new`, `reserve`, `reserve_bytes`); what is there (`file`,
 //! `link`, `stream`, `handle`, `pending`, `ended`, each by number, and `child`, `stream_of`,
-//! `handle_of`, `next_handle_of`, `dir_link`, `has_child`, `handles_on`, `clashes`, `bytes_of`,
-//! `clock`, `has_left`, `table`, `sids`, `oplocks`); changes of one table (`add_..`, `drop_..`,
+//! `handle_of`, `next_handle_of`, `root`, `dir_link`, `has_child`, `handles_on`, `clashes`,
+//! `bytes_of`, `clock`, `has_left`, `table`, `sids`, `oplocks`); the room that a note takes
+//! (`note_room`, `note_room_in`); changes of one table (`add_..`, `drop_..`,
 //! `mark_..`, `put_bytes`, `set_length`, `set_basic`, `end`, `leave`, `advance`); changes noted
 //! (`note`); and the break of oplocks (`begin`, `waited`).
 //!
@@ -25,7 +27,8 @@
 //!
 //! It asks of its caller that the things named live, that room was reserved, and that what a call
 //! leaves is sound: a link's name is new in its directory, a directory that goes is empty, and so on,
-//! each as a condition of the call. `link` and `handle` tell what soundness says of the row found.
+//! each as a condition of the call. What soundness says of a row that is found or added is told by the
+//! call that finds or adds it, so that no caller needs a law of its own.
 //!
 //! It costs time linear in the rows of a table for each look-up, and in the depth of a link for a note.
 //!
@@ -37,16 +40,25 @@ mod bytes;
 mod changes;
 mod files;
 mod handles;
+mod kinds;
 mod links;
 mod notes;
 mod noting;
 mod opens;
 mod oplocks;
+mod room;
 mod rows;
 mod sharing;
+#[cfg(test)]
+mod steps;
 mod streams;
+#[cfg(test)]
+mod tests;
+mod tried;
 mod volume;
 
 pub use fsa_types::{Class, HandleSet};
+pub use room::NoteRoom;
 pub use rows::{Cursor, Enumeration, FileRow, HandleRow, LinkRow, Need, StreamInfo};
+pub use tried::Tried;
 pub use volume::Volume;

@@ -1,12 +1,15 @@
 //! Links: the names of files in directories.
 
-ghost use Rattle.std.specs.Prelude.{ℕ, ◌≡◌, ◌≤◌, ◌<◌, ◌+◌, ◌-◌, ◌^◌, ◌==◌, ◌&&◌, not, IsTrue, IfSome, None, true, false, option_map, find};
+ghost use Rattle.std.specs.Prelude.{ℕ, ◌≡◌, ◌≤◌, ◌<◌, ◌+◌, ◌-◌, ◌^◌, ◌==◌, ◌&&◌, not, IsTrue, IsSome, IfSome, Option, Some, None, true, false, length, option_map, find};
 ghost use Rattle.std.specs.List.{list_any};
 ghost use Rattle.std.specs.Option.{option_copied};
 ghost use Rattle.fsa_types.specs.Rows.{row_of, lives, with_row_changed};
+ghost use Rattle.fsa_model.specs.Changes.{units_noted, dirs_noted, stream_suffix};
 ghost use Rattle.fsa_model.specs.Edits.{with_link, with_link_marked, without_link};
 ghost use Rattle.fsa_model.specs.Lookups.{child_of, dir_link, has_child, has_row, is_directory, is_named, is_open_by, link_of_file};
-ghost use Rattle.fsa_model.specs.Sound.{LeadsUp};
+ghost use Rattle.fsa_model.specs.Sound.{LeadsUp, is_link_of_directory};
+ghost use Rattle.volume_state.specs.Living.{is_link_to};
+ghost use Rattle.volume_state.specs.Paths.{units_in, dirs_in};
 ghost use Rattle.volume_state.specs.Seen.{room_for};
 
 use crate::rows::LinkRow;
@@ -23,13 +26,22 @@ impl Volume {
         ensures parent { IfSome result (λ row. IsTrue (is_directory self.now.content.files row.now.parent)) }
         ensures leads { IfSome result (λ row. is_directory self.now.content.files row.now.file ≡ true → LeadsUp self.now.content.links row.now.file) }
         ensures not_root { IfSome result (λ row. (row.now.file == 1) ≡ false) }
+        ensures linked { IfSome result (λ row. IsTrue (is_link_to self.now.content.links id row.now.file)) }
+        ensures directory { IfSome result (λ row. is_directory self.now.content.files row.now.file ≡ true → IsTrue (is_link_of_directory self.now.content.files self.now.content.links id)) }
+        ensures childless { IfSome result (λ row. is_directory self.now.content.files row.now.file ≡ false → has_child self.now.content.links row.now.file ≡ false) }
+        ensures number { IfSome result (λ row. (id == 0) ≡ false) }
+        ensures lives { lives self.now.content.links id ≡ true → IsSome result }
+
+        // A directory has no other link, so its mark is this one's.
+        ensures mark { IfSome result (λ row. is_directory self.now.content.files row.now.file ≡ true → has_row (λ link. link.file == row.now.file && link.deleted) self.now.content.links ≡ row.now.deleted) }
     {
         self.links.get(id)
     }
 
     /// The link of the same name in this directory; `None` exactly where there is none.
     pub fn child(&self, parent: u64, units: &[u16]) -> Option<u64>
-        ensures { result ≡ child_of self.now.content parent units.now }
+        ensures found { result ≡ child_of self.now.content parent units.now }
+        ensures lives { IfSome result (λ id. IsTrue (lives self.now.content.links id)) }
     {
         find_child(self.links.as_slice(), &self.table, parent, units)
     }
@@ -64,6 +76,14 @@ impl Volume {
         ensures others { self.new.spare ≡ record self.old.spare { links = self.new.spare.links } }
         ensures left { room_for self.old.spare.links parent ≤ room_for self.new.spare.links parent + 1 }
         ensures id { result ≡ self.old.content.last_link + 1 }
+
+        // It lives and is one of the file; a note of it takes the room that was told for the parent.
+        ensures row { row_of self.new.content.links result ≡ Some (record { parent = parent; name = name; file = file; deleted = false }) }
+        ensures lives { IsTrue (lives self.new.content.links result) }
+        ensures linked { IsTrue (is_link_to self.new.content.links result file) }
+        ensures directory { is_directory self.old.content.files file ≡ true → IsTrue (is_link_of_directory self.new.content.files self.new.content.links result) }
+        ensures units { (stream : Option ℕ) → units_noted self.new.content result stream ≡ units_in self.old.content parent (length name + length (stream_suffix self.new.content.streams stream)) }
+        ensures dirs { (stream : Option ℕ) → dirs_noted self.new.content result stream ≡ dirs_in self.old.content parent }
     {
         let row = LinkRow {
             parent,
@@ -98,6 +118,7 @@ impl Volume {
         ensures files_kept { self.old.spare.files ≤ self.new.spare.files }
         ensures links_kept { (dir : ℕ) → room_for self.old.spare.links dir ≤ room_for self.new.spare.links dir }
         ensures streams_kept { self.old.spare.streams ≤ self.new.spare.streams }
+        ensures bytes_kept { (stream : ℕ) → lives self.new.content.streams stream ≡ true → row_of self.new.spare.bytes stream ≡ row_of self.old.spare.bytes stream }
     {
         let Some(row) = self.links.remove(link) else {
             return;

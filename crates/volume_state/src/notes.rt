@@ -37,7 +37,7 @@ impl Volume {
 }
 
 // The name of a stream, where one is asked for and there.
-fn name_of_stream(streams: &Table<StreamRow>, stream: Option<u64>) -> Option<&[u16]>
+pub(crate) fn name_of_stream(streams: &Table<StreamRow>, stream: Option<u64>) -> Option<&[u16]>
     ensures { suffix_of result ≡ stream_suffix (streams_in streams.now.rows) stream }
 {
     match stream {

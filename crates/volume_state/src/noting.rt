@@ -19,7 +19,7 @@ const COLON: u16 = 58;
 // The changes that were noted.
 #[derive(Debug, Drop)]
 pub(crate) struct Changes {
-    log: ChangeLog,
+    pub(crate) log: ChangeLog,
 }
 
 impl Model for Changes {

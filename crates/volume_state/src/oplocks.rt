@@ -26,11 +26,14 @@ impl Volume {
     /// Breaks the oplocks of the handles of the set, as a request of this class does: those of other
     /// keys than the acting handle's, which a Create doesn't have yet. Gives how many breaks the
     /// request has to wait for. Room has to be reserved for the ends of the calls that are told, and
-    /// numbers for the breaks have to be left.
+    /// numbers for the breaks have to be left. Files, links, streams, handles and all else stay.
     pub fn begin(&mut self, handles: HandleSet, class: Class, handle: Option<u64>, key: u64) -> u32
         requires room { length (told self.old.content handles class handle key) ≤ self.old.spare.ends }
         requires numbers { self.old.content.last_break + length self.old.content.oplocks < 2 ^ 64 - 1 }
         ensures content { self.new.content ≡ with_breaks self.old.content handles class handle key }
+        ensures rest { self.new.content ≡ record self.old.content { oplocks = self.new.content.oplocks; pending = self.new.content.pending; ended = self.new.content.ended; last_break = self.new.content.last_break } }
+        ensures few { length self.new.content.oplocks ≤ length self.old.content.oplocks }
+        ensures numbers_left { self.new.content.last_break ≤ self.old.content.last_break + length self.old.content.oplocks }
         ensures waited { self.new.beside ≡ record self.old.beside { waited = awaited self.old.content handles class handle key } }
         ensures others { self.new.spare ≡ record self.old.spare { ends = self.new.spare.ends } }
         ensures left { self.old.spare.ends ≤ self.new.spare.ends + length (told self.old.content handles class handle key) }

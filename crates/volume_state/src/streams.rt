@@ -1,11 +1,15 @@
 //! Streams and their bytes.
 
-ghost use Rattle.std.specs.Prelude.{ℕ, ◌≡◌, ◌≤◌, ◌<◌, ◌+◌, ◌-◌, ◌^◌, ◌==◌, ◌⊎◌, not, IsTrue, IfSome, None, OnOk, false, filter, map, option_map, find, length};
+ghost use Rattle.std.specs.Prelude.{ℕ, ◌≡◌, ◌≤◌, ◌<◌, ◌+◌, ◌-◌, ◌^◌, ◌==◌, ◌⊎◌, not, List, IsTrue, IsSome, IfSome, Some, None, OnOk, true, false, ◌&&◌, filter, map, option_map, find, length};
 ghost use Rattle.std.specs.Option.{option_copied, option_map_or};
 ghost use Rattle.fsa_types.specs.Rows.{row_of, lives, with_row_changed};
+ghost use Rattle.fsa_types.specs.CaseTable.{same_name};
+ghost use Rattle.fsa_model.specs.Changes.{units_noted, dirs_noted};
 ghost use Rattle.fsa_model.specs.Edits.{with_stream, with_stream_marked, with_bytes, with_length, without_stream};
 ghost use Rattle.fsa_model.specs.Lookups.{stream_of, bytes_of, has_row, is_directory, is_open_on, is_stream_named};
+ghost use Rattle.fsa_model.specs.Sound.{is_stream_of_link};
 ghost use Rattle.volume_state.specs.Infos.{info_of};
+ghost use Rattle.volume_state.specs.Living.{is_link_to};
 ghost use Rattle.volume_state.specs.Seen.{CanWrite, CanReach};
 ghost use Rattle.volume_state.specs.Streams.{KeepsStreams, ChangesStream};
 ghost use Rattle.fsa_types.specs.StreamBytes.{put, cut};
@@ -18,7 +22,8 @@ use object_tables::Table;
 impl Volume {
     /// The stream of this number, without its bytes; `None` exactly where there is none.
     pub fn stream(&self, id: u64) -> Option<&StreamInfo>
-        ensures { option_copied result ≡ option_map info_of (row_of self.now.content.streams id) }
+        ensures info { option_copied result ≡ option_map info_of (row_of self.now.content.streams id) }
+        ensures lives { lives self.now.content.streams id ≡ true → IsSome result }
     {
         match self.streams.get(id) {
             None => None,
@@ -29,7 +34,9 @@ impl Volume {
     /// The stream of the same name of this file; `None` exactly where there is none. The default
     /// stream's name is empty.
     pub fn stream_of(&self, file: u64, units: &[u16]) -> Option<u64>
-        ensures { result ≡ stream_of self.now.content file units.now }
+        ensures found { result ≡ stream_of self.now.content file units.now }
+        ensures lives { IfSome result (λ id. IsTrue (lives self.now.content.streams id)) }
+        ensures of_link { IfSome result (λ id. (link : ℕ) → IsTrue (is_link_to self.now.content.links link file) → IsTrue (is_stream_of_link self.now.content.links self.now.content.streams link id)) }
     {
         find_stream(self.streams.as_slice(), &self.table, file, units)
     }
@@ -55,8 +62,17 @@ impl Volume {
         ensures content { self.new.content ≡ with_stream self.old.content file name }
         ensures beside { self.new.beside ≡ self.old.beside }
         ensures others { self.new.spare ≡ record self.old.spare { streams = self.new.spare.streams; bytes = self.new.spare.bytes } }
+        ensures bytes { (other : ℕ) → (other == result) ≡ false → row_of self.new.spare.bytes other ≡ row_of self.old.spare.bytes other }
         ensures left { self.old.spare.streams ≤ self.new.spare.streams + 1 }
         ensures id { result ≡ self.old.content.last_stream + 1 }
+
+        // It lives and is one of each link of the file; of other names nothing else is found; a note
+        // of it takes the room that one of the file takes, and its name with the `:`.
+        ensures lives { IsTrue (lives self.new.content.streams result) }
+        ensures of_link { (link : ℕ) → IsTrue (is_link_to self.new.content.links link file) → IsTrue (is_stream_of_link self.new.content.links self.new.content.streams link result) }
+        ensures named { (other : ℕ) (units : List ℕ) → (file == other && same_name self.old.content.table name units) ≡ false → stream_of self.new.content other units ≡ stream_of self.old.content other units }
+        ensures units { (link : ℕ) → units_noted self.new.content link (Some result) ≤ units_noted self.old.content link None + 1 + length name }
+        ensures dirs { (link : ℕ) → dirs_noted self.new.content link (Some result) ≡ dirs_noted self.old.content link None }
     {
         let info = StreamInfo {
             file,
@@ -88,6 +104,7 @@ impl Volume {
         ensures content { self.new.content ≡ self.old.content }
         ensures beside { self.new.beside ≡ self.old.beside }
         ensures others { self.new.spare ≡ record self.old.spare { bytes = self.new.spare.bytes } }
+        ensures bytes { (other : ℕ) → (other == stream) ≡ false → row_of self.new.spare.bytes other ≡ row_of self.old.spare.bytes other }
         ensures room { OnOk result (CanWrite self.new.spare stream at count) }
         ensures reach { OnOk result (CanReach self.new.spare stream (at + count)) }
     {
@@ -102,6 +119,7 @@ impl Volume {
         ensures content { self.new.content ≡ with_bytes self.old.content stream at bytes.now }
         ensures beside { self.new.beside ≡ self.old.beside }
         ensures others { self.new.spare ≡ record self.old.spare { bytes = self.new.spare.bytes } }
+        ensures bytes { (other : ℕ) → (other == stream) ≡ false → row_of self.new.spare.bytes other ≡ row_of self.old.spare.bytes other }
     {
         put_in(&mut self.streams, stream, at as usize, bytes);
     }
@@ -114,6 +132,7 @@ impl Volume {
         ensures content { self.new.content ≡ with_length self.old.content stream bytes }
         ensures beside { self.new.beside ≡ self.old.beside }
         ensures others { self.new.spare ≡ record self.old.spare { bytes = self.new.spare.bytes } }
+        ensures bytes { (other : ℕ) → (other == stream) ≡ false → row_of self.new.spare.bytes other ≡ row_of self.old.spare.bytes other }
     {
         set_length_in(&mut self.streams, stream, bytes as usize);
     }
@@ -124,6 +143,7 @@ impl Volume {
         ensures content { self.new.content ≡ without_stream self.old.content stream }
         ensures beside { self.new.beside ≡ self.old.beside }
         ensures others { self.new.spare ≡ record self.old.spare { streams = self.new.spare.streams; bytes = self.new.spare.bytes } }
+        ensures bytes { (other : ℕ) → (other == stream) ≡ false → row_of self.new.spare.bytes other ≡ row_of self.old.spare.bytes other }
         ensures kept { self.old.spare.streams ≤ self.new.spare.streams }
     {
         let _ = self.streams.remove(stream);
@@ -145,6 +165,7 @@ fn mark_stream(streams: &mut Table<StreamRow>, stream: u64, deleted: bool)
 fn reserve_in(streams: &mut Table<StreamRow>, stream: u64, end: usize) -> Result<(), NoMemory>
     requires { IsTrue (lives streams.old.rows stream) }
     ensures rows { KeepsStreams streams.old.rows streams.new.rows }
+    ensures others { (other : ℕ) → (other == stream) ≡ false → row_of streams.new.rows other ≡ row_of streams.old.rows other }
     ensures last { streams.new.last ≡ streams.old.last }
     ensures room { streams.new.room ≡ streams.old.room }
     ensures reserved { OnOk result (IfSome (row_of streams.new.rows stream) (λ row. (row.room.from ≡ 0) × (end ≤ row.room.to))) }
@@ -159,6 +180,7 @@ fn reserve_in(streams: &mut Table<StreamRow>, stream: u64, end: usize) -> Result
 fn put_in(streams: &mut Table<StreamRow>, stream: u64, at: usize, piece: &[u8])
     requires { IfSome (row_of streams.old.rows stream) (λ row. at + length piece.now ≤ row.room.to) }
     ensures rows { ChangesStream streams.old.rows streams.new.rows stream (λ row. record row { bytes = put row.bytes at piece.now }) }
+    ensures others { (other : ℕ) → (other == stream) ≡ false → row_of streams.new.rows other ≡ row_of streams.old.rows other }
     ensures last { streams.new.last ≡ streams.old.last }
     ensures room { streams.new.room ≡ streams.old.room }
 {
@@ -171,6 +193,7 @@ fn put_in(streams: &mut Table<StreamRow>, stream: u64, at: usize, piece: &[u8])
 fn set_length_in(streams: &mut Table<StreamRow>, stream: u64, bytes: usize)
     requires { IfSome (row_of streams.old.rows stream) (λ row. (bytes ≤ row.room.to) ⊎ (bytes ≤ length row.stream.bytes)) }
     ensures rows { ChangesStream streams.old.rows streams.new.rows stream (λ row. record row { bytes = cut row.bytes bytes }) }
+    ensures others { (other : ℕ) → (other == stream) ≡ false → row_of streams.new.rows other ≡ row_of streams.old.rows other }
     ensures last { streams.new.last ≡ streams.old.last }
     ensures room { streams.new.room ≡ streams.old.room }
 {

@@ -1,6 +1,7 @@
 use Rattle.std.proofs.Common.{sym}
 use Rattle.fsa_types.specs.StreamBytes.{put}
 use Rattle.volume_state.proofs.StreamLemmas.{streams_in-changed, streams_in-none}
+use Rattle.volume_state.proofs.StreamLemmas.{row_of-other}
 use Rattle.volume_state.proofs.streams.put_in.Goals as goal
 
 pub returns-in-Some-clause-rows : goal.returns-in-Some-clause-rows
@@ -11,3 +12,6 @@ returns-in-Some-clause-rows c =
 pub returns-in_default-clause-rows : goal.returns-in_default-clause-rows
 returns-in_default-clause-rows c =
     streams_in-none c.args.streams.now.rows c.args.stream (λ row. record row { bytes = put row.bytes c.args.at c.args.piece.now }) (sym c.in_default.ensures.row)
+
+pub returns-in-Some-clause-others : goal.returns-in-Some-clause-others
+returns-in-Some-clause-others c = row_of-other (λ _. c.put.new.self) c.args.streams.now.rows c.args.stream

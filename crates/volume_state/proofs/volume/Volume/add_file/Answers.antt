@@ -1,8 +1,26 @@
 use Rattle.fsa_model.proofs.SoundLaws.{IsSound-with_file}
 use Rattle.volume_state.specs.Inside.{content_of}
+use Rattle.std.proofs.Common.{◌+◌}
+use Rattle.std.proofs.lemmas.Bool.{and_left}
+use Rattle.fsa_model.specs.Lookups.{is_stream_named}
+use Rattle.volume_state.proofs.OpenLaws.{is_directory-push, next-not_root, next-unlinked, next-no_stream, number-none}
 use Rattle.volume_state.proofs.volume.Volume.add_file.Goals as goal
 
 pub invariant_of-self : goal.invariant_of-self
 invariant_of-self c =
     rw (c.in-Ok.ensures.rows, c.in-Ok.ensures.last)
     (IsSound-with_file (content_of c.self.inside) c.args.file c.self.invariant (rw (← c.self.view_is) at c.requires.ids_left) c.requires.point)
+
+pub returns-clause-not_root : goal.returns-clause-not_root
+returns-clause-not_root c = rw c.in-Ok.ensures.id (next-not_root (content_of c.self.inside) c.self.invariant)
+
+pub returns-clause-directory : goal.returns-clause-directory
+returns-clause-directory c = rw (c.in-Ok.ensures.id, c.in-Ok.ensures.rows) (is_directory-push c.self.inside.files.rows c.self.inside.files.last c.args.file c.self.invariant.files_numbered.given)
+
+pub returns-clause-unlinked : goal.returns-clause-unlinked
+returns-clause-unlinked c = rw c.in-Ok.ensures.id (next-unlinked (content_of c.self.inside) c.self.invariant)
+
+pub returns-clause-no_stream : goal.returns-clause-no_stream
+returns-clause-no_stream c =
+    rw c.in-Ok.ensures.id (λ name. number-none (is_stream_named c.self.inside.table (c.self.inside.files.last + 1) name) (content_of c.self.inside).streams
+    (λ k d within. and_left _ _ (next-no_stream (content_of c.self.inside) c.self.invariant k d within)))

@@ -1,6 +1,9 @@
 use Rattle.std.proofs.lemmas.List.{map-append}
 use Rattle.fsa_model.proofs.SoundLaws.{IsSound-with_stream}
 use Rattle.volume_state.specs.Inside.{content_of}
+use Rattle.fsa_model.specs.Lookups.{is_stream_named}
+use Rattle.volume_state.proofs.OpenLaws.{number_of-push, units_noted-stream, dirs_noted-stream}
+use Rattle.volume_state.proofs.StreamLemmas.{row_of-before, rooms-same}
 use Rattle.volume_state.proofs.volume.Volume.add_stream.Goals as goal
 
 pub invariant_of-self : goal.invariant_of-self
@@ -9,3 +12,20 @@ invariant_of-self c =
     (IsSound-with_stream (content_of c.self.inside) c.args.file c.args.name c.self.invariant
     (rw (← c.self.view_is) at c.requires.ids_left) (rw (← c.self.view_is) at c.requires.file)
     (rw (← c.self.view_is) at c.requires.no_directory) (rw (← c.self.view_is) at c.requires.new))
+
+pub returns-clause-named : goal.returns-clause-named
+returns-clause-named c =
+    rw (← c.self.view_is, c.in-Ok.ensures.rows, map-append) (λ other units differ. number_of-push (is_stream_named c.self.inside.table other units) (content_of c.self.inside).streams _ differ)
+
+pub returns-clause-units : goal.returns-clause-units
+returns-clause-units c =
+    rw (← c.self.view_is, c.in-Ok.ensures.id, c.in-Ok.ensures.rows, map-append, c.new-bytes.ensures.items) (λ link. units_noted-stream (content_of c.self.inside) c.args.file c.args.name link c.self.invariant)
+
+pub returns-clause-dirs : goal.returns-clause-dirs
+returns-clause-dirs c =
+    rw (← c.self.view_is, c.in-Ok.ensures.id, c.in-Ok.ensures.rows, map-append, c.new-bytes.ensures.items) (λ link. dirs_noted-stream (content_of c.self.inside) c.args.file c.args.name link)
+
+pub returns-clause-bytes : goal.returns-clause-bytes
+returns-clause-bytes c =
+    rw (← c.self.view_is, c.in-Ok.ensures.id) (λ other differ. rooms-same c.self.inside.streams.rows c.add.new.self.rows other
+    (rw c.in-Ok.ensures.rows (row_of-before c.self.inside.streams.rows _ other differ)))

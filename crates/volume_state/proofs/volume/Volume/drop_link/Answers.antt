@@ -7,6 +7,9 @@ use Rattle.fsa_model.specs.Volume.{Link}
 use Rattle.fsa_model.proofs.RowLaws.{without_row-none}
 use Rattle.fsa_model.proofs.SoundLaws.{IsSound-without_link, without_link-last, without_link-other}
 use Rattle.volume_state.specs.Inside.{content_of}
+use Rattle.std.proofs.Common.{◌≡◌}
+use Rattle.fsa_types.proofs.RowLemmas.{lives-map}
+use Rattle.volume_state.proofs.StreamLemmas.{row_of-filter, rooms-same, AreRising-seen}
 use Rattle.volume_state.proofs.volume.Volume.drop_link.Goals as goal
 
 -- nothing is taken out
@@ -76,3 +79,9 @@ returns-clause-content c =
     = rw (← c.in-Some.ensures.rows, ← c.as_slice.ensures.rows) (sym c.has_link.ensures ∙ c.if-not-has_link.false) in
     rw (← c.self.view_is, c.in-Some.ensures.rows, c.in-Some.ensures.last)
     (sym (without_link-other (content_of c.self.inside) c.args.link row found linked))
+
+pub returns-then-not-has_link-clause-bytes_kept : goal.returns-then-not-has_link-clause-bytes_kept
+returns-then-not-has_link-clause-bytes_kept c =
+    rw (← c.self.view_is) (λ stream living. rooms-same c.self.inside.streams.rows c.drop_streams_of.new.streams.rows stream
+    (rw c.drop_streams_of.ensures.rows (row_of-filter (λ entry. not (entry.1.stream.file == c.row.inside.file)) c.self.inside.streams.rows stream (AreRising-seen (λ kept. kept.stream) c.self.inside.streams.rows c.self.invariant.streams_numbered.rising)
+    (rw (← c.drop_streams_of.ensures.rows) (sym (lives-map (λ kept. kept.stream) c.drop_streams_of.new.streams.rows stream) ∙ living)))))

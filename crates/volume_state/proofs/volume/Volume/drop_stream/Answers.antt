@@ -2,6 +2,7 @@ use Rattle.fsa_types.proofs.RowLemmas.{map-filter_seen}
 use Rattle.std.proofs.Common.{not, ◌==◌}
 use Rattle.fsa_model.proofs.SoundLaws.{IsSound-without_stream}
 use Rattle.volume_state.specs.Inside.{content_of}
+use Rattle.volume_state.proofs.StreamLemmas.{row_of-without, rooms-same}
 use Rattle.volume_state.proofs.volume.Volume.drop_stream.Goals as goal
 
 pub invariant_of-self : goal.invariant_of-self
@@ -12,3 +13,7 @@ invariant_of-self c =
 pub returns-clause-content : goal.returns-clause-content
 returns-clause-content c =
     rw (← c.self.view_is, c.remove.ensures.rows, c.remove.ensures.last, map-filter_seen (λ kept. kept.stream) (λ e. not (e.0 == c.args.stream)) c.self.inside.streams.rows)
+
+pub returns-clause-bytes : goal.returns-clause-bytes
+returns-clause-bytes c =
+    rw (← c.self.view_is) (λ other differ. rooms-same c.self.inside.streams.rows c.remove.new.self.rows other (rw c.remove.ensures.rows (row_of-without c.self.inside.streams.rows c.args.stream other differ)))

@@ -3,6 +3,8 @@ use Rattle.fsa_model.specs.Sound.{is_of_living}
 use Rattle.fsa_model.specs.Volume.{Handle}
 use Rattle.fsa_model.proofs.RowLaws.{found-all, lent-row}
 use Rattle.volume_state.specs.Inside.{content_of}
+use Rattle.volume_state.proofs.OpenLaws.{lent-lives}
+use Rattle.fsa_model.specs.Sound.{has_its_stream}
 use Rattle.volume_state.proofs.volume.Volume.handle.Goals as goal
 
 pub returns-clause-living : goal.returns-clause-living
@@ -14,3 +16,11 @@ pub returns-clause-client : goal.returns-clause-client
 returns-clause-client c =
     let P : Handle → Type 0 = λ row. row.client < length (content_of c.self.inside).clients in
     rw (← c.self.view_is) (lent-row P c.get.result _ c.get.ensures (found-all P c.self.inside.handles.rows c.args.id c.self.invariant.opens.have_clients))
+
+pub returns-clause-lives : goal.returns-clause-lives
+returns-clause-lives c = rw (← c.self.view_is) (lent-lives c.self.inside.handles.rows c.args.id c.get.result c.get.ensures)
+
+pub returns-clause-stream : goal.returns-clause-stream
+returns-clause-stream c =
+    let P : Handle → Type 0 = λ row. has_its_stream c.self.inside.files.rows c.self.inside.links.rows row ≡ true in
+    rw (← c.self.view_is) (lent-row P c.get.result _ c.get.ensures (found-all P c.self.inside.handles.rows c.args.id c.self.invariant.opens.have_streams))

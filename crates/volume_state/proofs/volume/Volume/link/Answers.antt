@@ -1,11 +1,16 @@
-use Rattle.std.proofs.Common.{◌≡◌, true, false, ◌==◌}
+use Rattle.std.proofs.Common.{◌≡◌, true, false, ◌==◌, ◌&&◌}
 use Rattle.fsa_types.specs.Rows.{lives}
-use Rattle.fsa_model.specs.Lookups.{is_directory}
+use Rattle.fsa_model.specs.Lookups.{has_row, is_directory}
 use Rattle.fsa_model.specs.Sound.{LeadsUp}
 use Rattle.fsa_model.specs.Volume.{Link}
 use Rattle.fsa_model.proofs.RowLaws.{found-all, lent-row}
 use Rattle.fsa_model.proofs.SoundLaws.{LeadsUp-file}
 use Rattle.volume_state.specs.Inside.{content_of}
+use Rattle.volume_state.specs.Living.{is_link_to}
+use Rattle.volume_state.proofs.OpenLaws.{lent-lives, linked, one-mark}
+use Rattle.fsa_model.specs.Lookups.{has_child}
+use Rattle.fsa_model.specs.Sound.{is_link_of_directory}
+use Rattle.volume_state.proofs.OpenLaws.{linked-directory, found-number, childless}
 use Rattle.volume_state.proofs.volume.Volume.link.Goals as goal
 
 pub returns-clause-file : goal.returns-clause-file
@@ -28,3 +33,31 @@ pub returns-clause-not_root : goal.returns-clause-not_root
 returns-clause-not_root c =
     let P : Link → Type 0 = λ row. (row.file == 1) ≡ false in
     lent-row P c.get.result _ c.get.ensures (found-all P c.self.inside.links.rows c.args.id c.self.invariant.tree.root_has_no_link)
+
+pub returns-clause-linked : goal.returns-clause-linked
+returns-clause-linked c =
+    let P : Link → Type 0 = λ row. is_link_to c.self.inside.links.rows c.args.id row.file ≡ true in
+    rw (← c.self.view_is) (lent-row P c.get.result _ c.get.ensures (linked c.self.inside.links.rows c.args.id))
+
+pub returns-clause-lives : goal.returns-clause-lives
+returns-clause-lives c = rw (← c.self.view_is) (lent-lives c.self.inside.links.rows c.args.id c.get.result c.get.ensures)
+
+pub returns-clause-mark : goal.returns-clause-mark
+returns-clause-mark c =
+    let P : Link → Type 0 = λ row. is_directory c.self.inside.files.rows row.file ≡ true → has_row (λ link. link.file == row.file && link.deleted) c.self.inside.links.rows ≡ row.deleted in
+    rw (← c.self.view_is) (lent-row P c.get.result _ c.get.ensures (found-all P c.self.inside.links.rows c.args.id (one-mark (content_of c.self.inside) c.self.invariant)))
+
+pub returns-clause-directory : goal.returns-clause-directory
+returns-clause-directory c =
+    let P : Link → Type 0 = λ row. is_directory c.self.inside.files.rows row.file ≡ true → is_link_of_directory c.self.inside.files.rows c.self.inside.links.rows c.args.id ≡ true in
+    rw (← c.self.view_is) (lent-row P c.get.result _ c.get.ensures (linked-directory c.self.inside.files.rows c.self.inside.links.rows c.args.id))
+
+pub returns-clause-childless : goal.returns-clause-childless
+returns-clause-childless c =
+    let P : Link → Type 0 = λ row. is_directory c.self.inside.files.rows row.file ≡ false → has_child c.self.inside.links.rows row.file ≡ false in
+    rw (← c.self.view_is) (lent-row P c.get.result _ c.get.ensures (found-all P c.self.inside.links.rows c.args.id (λ k d within. childless (content_of c.self.inside) c.self.invariant _)))
+
+pub returns-clause-number : goal.returns-clause-number
+returns-clause-number c =
+    let P : Link → Type 0 = λ row. (c.args.id == 0) ≡ false in
+    lent-row P c.get.result _ c.get.ensures (found-number c.self.inside.links.rows c.args.id c.self.invariant.tree.numbers_are_not_0)

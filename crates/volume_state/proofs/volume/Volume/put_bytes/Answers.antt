@@ -5,6 +5,7 @@ use Rattle.fsa_model.proofs.SoundLaws.{IsSound-stream_changed}
 use Rattle.volume_state.specs.Inside.{content_of}
 use Rattle.volume_state.specs.Streams.{Kept}
 use Rattle.volume_state.proofs.StreamLemmas.{room-down, IfSome-weaker, length-put_le}
+use Rattle.volume_state.proofs.StreamLemmas.{rooms-same}
 use Rattle.volume_state.proofs.volume.Volume.put_bytes.Goals as goal
 
 pub put_in-requires : goal.put_in-requires
@@ -18,3 +19,7 @@ invariant_of-self c =
     rw (c.put_in.ensures.rows, c.put_in.ensures.last)
     (IsSound-stream_changed (content_of c.self.inside) (λ row. record row { bytes = put row.bytes c.args.at c.args.bytes.now }) c.args.stream c.self.invariant
     (λ row. refl) (λ row. refl) (λ row fits. length-put_le row.bytes c.args.at c.args.bytes.now _ fits c.requires.fits))
+
+pub returns-clause-bytes : goal.returns-clause-bytes
+returns-clause-bytes c =
+    rw (← c.self.view_is) (λ other differ. rooms-same c.self.inside.streams.rows c.put_in.new.streams.rows other (c.put_in.ensures.others other differ))

@@ -3,6 +3,7 @@ use Rattle.fsa_types.specs.Rows.{row_of}
 use Rattle.volume_state.specs.Streams.{Kept}
 use Rattle.fsa_types.proofs.RowLemmas.{lives-map}
 use Rattle.volume_state.proofs.StreamLemmas.{room-up, IfSome-weaker, OnOk-weaker}
+use Rattle.volume_state.proofs.StreamLemmas.{rooms-same}
 use Rattle.volume_state.proofs.volume.Volume.reserve_bytes.Goals as goal
 
 pub reserve_in-requires : goal.reserve_in-requires
@@ -23,3 +24,7 @@ returns-clause-reach c =
     (IfSome-weaker (λ (row : Kept). (row.room.from ≡ 0) × (c.args.at + c.args.count ≤ row.room.to)) (λ (row : Kept). c.args.at + c.args.count ≤ row.room.to)
     (row_of c.reserve_in.new.streams.rows c.args.stream) (λ row both. both.1) reserved))
     c.reserve_in.ensures.reserved
+
+pub returns-clause-bytes : goal.returns-clause-bytes
+returns-clause-bytes c =
+    rw (← c.self.view_is) (λ other differ. rooms-same c.self.inside.streams.rows c.reserve_in.new.streams.rows other (c.reserve_in.ensures.others other differ))

@@ -6,6 +6,7 @@ use Rattle.fsa_model.proofs.RowLaws.{option_cases}
 use Rattle.fsa_model.proofs.SoundLaws.{IsSound-stream_changed}
 use Rattle.volume_state.specs.Inside.{content_of}
 use Rattle.volume_state.proofs.StreamLemmas.{room-down, IfSome-weaker, length-cut}
+use Rattle.volume_state.proofs.StreamLemmas.{rooms-same}
 use Rattle.volume_state.proofs.volume.Volume.set_length.Goals as goal
 
 pub set_length_in-requires : goal.set_length_in-requires
@@ -24,3 +25,7 @@ invariant_of-self c =
     rw (c.set_length_in.ensures.rows, c.set_length_in.ensures.last)
     (IsSound-stream_changed (content_of c.self.inside) (λ row. record row { bytes = cut row.bytes c.args.bytes }) c.args.stream c.self.invariant
     (λ row. refl) (λ row. refl) (λ row fits. rw (length-cut row.bytes c.args.bytes) c.requires.fits))
+
+pub returns-clause-bytes : goal.returns-clause-bytes
+returns-clause-bytes c =
+    rw (← c.self.view_is) (λ other differ. rooms-same c.self.inside.streams.rows c.set_length_in.new.streams.rows other (c.set_length_in.ensures.others other differ))

@@ -1,0 +1,14 @@
+-- What a try of a call gave, against what it is defined to come to.
+use Rattle.std.specs.Prelude.{◌≡◌}
+use Rattle.fsa_model.specs.Volume.{Volume}
+use Rattle.fsa_model.specs.Outcome.{Outcome, Done, Stay, Hold}
+use Rattle.volume_state.specs.declared.tried.Tried.{Tried}
+use Rattle.volume_state.specs.declared.tried.Tried.TheVariants as tried
+
+-- a try that answered this, and left the volume new, did what the definition says; where there was
+-- no memory, nothing has changed
+abbrev pub Gives : Outcome → Volume → Volume → Tried → Type 0
+Gives outcome old new (tried.Done reply) = outcome ≡ Done new reply
+Gives outcome old new (tried.Stay interim) = outcome ≡ Stay new interim
+Gives outcome old new (tried.Hold blockers interim) = outcome ≡ Hold new blockers.items interim
+Gives outcome old new tried.NoMemory = new ≡ old

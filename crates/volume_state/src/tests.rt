@@ -1,0 +1,220 @@
+//! Each call that takes memory, with ample memory; and what is noted, from each ancestor.
+
+ghost use Rattle.std.specs.Prelude.{ℕ, ◌≡◌, ◌≤◌, ◌<◌, ◌+◌, ◌-◌, ◌^◌, ◌==◌, ◌&&◌, IsTrue, IfOk, OnOk, All, None, true, false, length};
+ghost use Rattle.fsa_model.specs.Lookups.{child_of, is_directory, has_row};
+ghost use Rattle.fsa_model.specs.Sound.{LeadsUp};
+ghost use Rattle.volume_state.specs.Steps.{directory};
+
+use crate::rows::{FileRow, Need};
+use crate::steps::{make_file, nothing};
+use crate::volume::Volume;
+use fsa_types::{Bytes, Client, ClientList, Name, NoMemory, Setup, SidList, UpcaseTable};
+use std::alloc::Global;
+use std::test::Fail;
+
+// One client with one SID, and the default case table.
+fn setup(alloc: Global) -> Result<Setup, NoMemory>
+    ensures one { IfOk result (λ s. length s.clients.items ≡ 1) }
+    ensures sids { IfOk result (λ s. All (λ client. 0 < length client.sids.items) s.clients.items) }
+{
+    let mut sids = SidList::with_room(alloc, 1)?;
+    sids.push(7);
+    let mut clients = ClientList::with_room(alloc, 1)?;
+    let name = Bytes::copy_of(alloc, b"a")?;
+    clients.push(Client { name, sids });
+    let table = UpcaseTable::ascii(alloc)?;
+    Ok(Setup { table, clients })
+}
+
+// A file or a directory as it is made.
+fn row(is_directory: bool) -> FileRow
+    ensures { result ≡ directory is_directory }
+{
+    FileRow {
+        directory: is_directory,
+        attributes: 0,
+        creation: 0,
+        access: 0,
+        write: 0,
+        change: 0,
+        owner: 7,
+        dacl: None,
+        point: None,
+    }
+}
+
+// A volume with the root alone, and one client.
+fn fresh_volume(alloc: Global) -> Result<Volume, NoMemory>
+    ensures numbers { IfOk result (λ v. (v.content.last_file ≡ 1) × (v.content.last_link ≡ 0) × (v.content.last_stream ≡ 0) × (v.content.last_handle ≡ 0)) }
+    ensures client { IfOk result (λ v. length v.content.clients ≡ 1) }
+{
+    let setup = setup(alloc)?;
+    Volume::new(alloc, setup)
+}
+
+// A directory made in a directory.
+fn make_directory(volume: &mut Volume, parent: u64, name: Name) -> Result<u64, NoMemory>
+    requires ids_left { (volume.old.content.last_file < 2 ^ 32 - 4) × (volume.old.content.last_link < 2 ^ 32 - 4) }
+    requires parent { IsTrue (is_directory volume.old.content.files parent) }
+    requires leads { LeadsUp volume.old.content.links parent }
+    requires unmarked { has_row (λ link. link.file == parent && link.deleted) volume.old.content.links ≡ false }
+    requires new { child_of volume.old.content parent name ≡ None }
+    ensures numbers { (volume.new.content.last_file ≤ volume.old.content.last_file + 1) × (volume.new.content.last_link ≤ volume.old.content.last_link + 1) }
+    ensures rest { (volume.new.content.last_stream ≡ volume.old.content.last_stream) × (volume.new.content.last_handle ≡ volume.old.content.last_handle) × (volume.new.content.clients ≡ volume.old.content.clients) }
+    ensures directory { IfOk result (λ dir. IsTrue (is_directory volume.new.content.files dir)) }
+    ensures leads { IfOk result (λ dir. LeadsUp volume.new.content.links dir) }
+    ensures unmarked { IfOk result (λ dir. has_row (λ link. link.file == dir && link.deleted) volume.new.content.links ≡ false) }
+{
+    volume.reserve(&Need {
+        files: 1,
+        links: 1,
+        owners: 1,
+        parent,
+        ..nothing()
+    })?;
+    let dir = volume.add_file(row(true));
+    let link = volume.add_link(parent, name, dir);
+    let Some(row) = volume.link(link) else {
+        unreachable!()
+    };
+    Ok(row.file)
+}
+
+// A directory of this name, which no link has.
+fn directory_in(alloc: Global, volume: &mut Volume, parent: u64, units: &[u16]) -> Result<u64, Fail>
+    requires ids_left { (volume.old.content.last_file < 2 ^ 32 - 4) × (volume.old.content.last_link < 2 ^ 32 - 4) }
+    requires parent { IsTrue (is_directory volume.old.content.files parent) }
+    requires leads { LeadsUp volume.old.content.links parent }
+    requires unmarked { has_row (λ link. link.file == parent && link.deleted) volume.old.content.links ≡ false }
+    ensures numbers { (volume.new.content.last_file ≤ volume.old.content.last_file + 1) × (volume.new.content.last_link ≤ volume.old.content.last_link + 1) }
+    ensures rest { (volume.new.content.last_stream ≡ volume.old.content.last_stream) × (volume.new.content.last_handle ≡ volume.old.content.last_handle) × (volume.new.content.clients ≡ volume.old.content.clients) }
+    ensures directory { IfOk result (λ dir. IsTrue (is_directory volume.new.content.files dir)) }
+    ensures leads { IfOk result (λ dir. LeadsUp volume.new.content.links dir) }
+    ensures unmarked { IfOk result (λ dir. has_row (λ link. link.file == dir && link.deleted) volume.new.content.links ≡ false) }
+{
+    let name = Name::copy_of(alloc, units)?;
+    if volume.child(parent, name.units()).is_some() {
+        return Err(Fail::from("the name is taken"));
+    }
+    let dir = make_directory(volume, parent, name)?;
+    Ok(dir)
+}
+
+// A file of this name, which no link has, with this stream, opened by the client's first call.
+fn file_in(
+    alloc: Global,
+    volume: &mut Volume,
+    parent: u64,
+    units: &[u16],
+    stream: &[u16],
+) -> Result<(), Fail>
+    requires short { (length units.now ≤ 255) × (length stream.now ≤ 255) }
+    requires ids_left { (volume.old.content.last_file < 2 ^ 32 - 4) × (volume.old.content.last_link < 2 ^ 32 - 4) × (volume.old.content.last_stream < 2 ^ 32 - 4) × (volume.old.content.last_handle < 2 ^ 32 - 4) }
+    requires client { 0 < length volume.old.content.clients }
+    requires parent { IsTrue (is_directory volume.old.content.files parent) }
+    requires leads { LeadsUp volume.old.content.links parent }
+    requires unmarked { has_row (λ link. link.file == parent && link.deleted) volume.old.content.links ≡ false }
+{
+    let name = Name::copy_of(alloc, units)?;
+    let stream = Name::copy_of(alloc, stream)?;
+    if volume.child(parent, name.units()).is_some() || volume.handle_of(0, 1).is_some() {
+        return Err(Fail::from("the name or the call is taken"));
+    }
+    make_file(volume, parent, row(false), name, stream, 0, 1)?;
+    Ok(())
+}
+
+#[test]
+fn memory_is_there(rt: HostRuntime) -> Result<(), Fail> {
+    let alloc = rt.alloc();
+    let mut volume = fresh_volume(alloc)?;
+    let need = Need {
+        files: 3,
+        links: 3,
+        streams: 2,
+        handles: 1,
+        changes: 2,
+        ends: 1,
+        units: 40,
+        dirs: 4,
+        parent: 1,
+        ..nothing()
+    };
+    assert_eq!(rt; volume.reserve(&need), Ok(()));
+    let root = volume.root();
+    file_in(alloc, &mut volume, root, &[99], &[])?;
+    let Some(stream) = volume.stream_of(2, &[]) else {
+        return Err(Fail::from("the file has its default stream"));
+    };
+    assert_eq!(rt; volume.reserve_bytes(stream, 2, 3), Ok(()));
+    Ok(())
+}
+
+// The volume with the file `\a\b\c` that has the stream `s`, and its changes.
+fn nested(alloc: Global) -> Result<Volume, Fail> {
+    let mut volume = fresh_volume(alloc)?;
+    let root = volume.root();
+    let a = directory_in(alloc, &mut volume, root, &[97])?;
+    let b = directory_in(alloc, &mut volume, a, &[98])?;
+    file_in(alloc, &mut volume, b, &[99], &[115])?;
+    Ok(volume)
+}
+
+// How many changes were noted, and from how many directories they are seen in all.
+fn noted(volume: &Volume) -> (usize, usize) {
+    let changes = &volume.changes;
+    let log = &changes.log;
+    (log.entries.len(), log.dirs.len())
+}
+
+// Whether the change at this place is seen from this directory by this name, as this ancestor.
+fn is_seen(volume: &Volume, place: usize, ancestor: usize, dir: u64, name: &[u16]) -> bool {
+    let changes = &volume.changes;
+    let log = &changes.log;
+    let Some(entry) = log.entries.as_slice().get(place) else {
+        return false;
+    };
+    let dirs = log.dirs.as_slice().iter().skip(entry.first_dir);
+    let Some((seen_from, written)) = dirs.skip(ancestor).next() else {
+        return false;
+    };
+    let units = log.units.as_slice().iter().skip(entry.first_unit);
+    *seen_from == dir && *written == name.len() && units.take(*written).eq(name.iter().rev())
+}
+
+#[test]
+fn a_change_is_seen_from_each_ancestor(rt: HostRuntime) -> Result<(), Fail> {
+    let volume = nested(rt.alloc())?;
+    // `c`, `b\c` and `a\b\c`
+    assert!(rt; is_seen(&volume, 0, 0, 3, &[99]));
+    assert!(rt; is_seen(&volume, 0, 1, 2, &[98, 92, 99]));
+    assert!(rt; is_seen(&volume, 0, 2, 1, &[97, 92, 98, 92, 99]));
+    assert_eq!(rt; noted(&volume), (2, 6));
+    Ok(())
+}
+
+#[test]
+fn a_stream_is_seen_behind_its_file(rt: HostRuntime) -> Result<(), Fail> {
+    let volume = nested(rt.alloc())?;
+    // `c:s`, `b\c:s` and `a\b\c:s`
+    assert!(rt; is_seen(&volume, 1, 0, 3, &[99, 58, 115]));
+    assert!(rt; is_seen(&volume, 1, 1, 2, &[98, 92, 99, 58, 115]));
+    assert!(rt; is_seen(&volume, 1, 2, 1, &[97, 92, 98, 92, 99, 58, 115]));
+    Ok(())
+}
+
+#[test]
+fn a_note_of_the_root_notes_nothing(rt: HostRuntime) -> Result<(), Fail> {
+    let mut volume = fresh_volume(rt.alloc())?;
+    let Some(room) = volume.note_room(0, None) else {
+        return Err(Fail::from("the root takes no room"));
+    };
+    assert_eq!(rt; (room.units, room.dirs), (0, 0));
+    volume.reserve(&Need {
+        changes: 1,
+        ..nothing()
+    })?;
+    volume.note(0, 1, 1, None);
+    assert_eq!(rt; noted(&volume), (0, 0));
+    Ok(())
+}
