@@ -9,6 +9,7 @@ pub mod History
 pub mod Lines
 pub mod Lookups
 pub mod Numbers
+pub mod Open
 pub mod Outcome
 pub mod Read
 pub mod Requests
@@ -24,5 +25,6 @@ pub mod Turn
 pub mod VerbEdits
 pub mod VerbLookups
 pub mod Volume
+pub mod Walk
 pub mod Words
 pub mod Write
