@@ -1,0 +1,3 @@
+pub mod NameLemmas
+pub mod OverwriteLemmas
+pub mod PathExamples
