@@ -1,6 +1,6 @@
 -- What breaks of oplocks leave as it was, and how many numbers they take.
-use Rattle.std.proofs.Common.{◌≡◌, ℕ, Bool, true, false, ◌+◌, ◌≤◌, ◌==◌, not, List, [], ◌∷◌, length, refl, ap, ◌∙◌, arith, Option, Some, None, cond, inl, inr}
-use Rattle.std.specs.Prelude.{filter, fold, map, if◌then◌else◌}
+use Rattle.std.proofs.Common.{◌≡◌, ℕ, Bool, true, false, ◌+◌, ◌≤◌, ◌==◌, not, List, [], ◌∷◌, length, refl, ap, ◌∙◌, arith, Option, Some, None, inl, inr}
+use Rattle.std.specs.Prelude.{filter, fold, if◌then◌else◌}
 use Rattle.std.proofs.lemmas.Bool.{cases_Bool}
 use Rattle.std.proofs.lemmas.List.{length-map}
 use Rattle.fsa_types.proofs.RowLemmas.{length-filter_le}
@@ -11,7 +11,7 @@ use Rattle.fsa_types.specs.declared.oplock.Class.{Class}
 use Rattle.fsa_types.specs.declared.oplock.HandleSet.{HandleSet}
 use Rattle.fsa_types.specs.declared.request.Level.{Level}
 use Rattle.fsa_types.specs.declared.request.Level.TheVariants.{Nil}
-use Rattle.fsa_model.specs.Breaks.{with_told, with_break_begun, with_oplock_changed, with_effect, with_breaks, is_broken_before, is_chosen, chosen}
+use Rattle.fsa_model.specs.Breaks.{with_told, with_break_begun, with_effect, with_breaks, is_broken_before, is_chosen, chosen}
 use Rattle.fsa_model.specs.Edits.{without_oplock}
 use Rattle.fsa_model.specs.Volume.{Oplock, Volume}
 use Rattle.fsa_model.proofs.RowLaws.{option_cases}

@@ -1,5 +1,5 @@
 -- Worked examples, each shown by computation.
-use Rattle.std.specs.Prelude.{◌≡◌, ℕ, true, false, List, [], ◌∷◌, ◌++◌, Option, Some, None, map, codes, refl}
+use Rattle.std.specs.Prelude.{◌≡◌, ℕ, true, false, List, [], ◌∷◌, Option, Some, None, map, codes, refl}
 use Rattle.std.specs.Fmt.{digits}
 use Rattle.fsa_types.specs.CaseTable.{ascii_pairs}
 use Rattle.fsa_types.specs.Sharing.{clash}
@@ -13,13 +13,17 @@ use Rattle.fsa_types.specs.declared.request.Request.TheVariants.{Create, Close, 
 use Rattle.fsa_types.specs.declared.request.What.{What}
 use Rattle.fsa_types.specs.declared.request.What.TheVariants.{Ask}
 use Rattle.fsa_types.specs.declared.request.Call.{Call}
-use Rattle.fsa_model.specs.Breaks.{chosen, awaited, told, with_breaks}
+use Rattle.fsa_model.specs.Breaks.{chosen, awaited, with_breaks}
 use Rattle.fsa_model.specs.Changes.{with_change_noted}
-use Rattle.fsa_model.specs.Charge.{charge, clusters}
-use Rattle.fsa_model.specs.Setup.{Setup, Script}
+use Rattle.fsa_model.specs.Charge.{charge}
+use Rattle.fsa_model.specs.Close.{try_close, close_at, with_closed, try_leave, with_client_gone}
+use Rattle.fsa_model.specs.Open.{try_create, create_at, create_walked, create_named, create_missing, make_file}
+use Rattle.fsa_model.specs.Read.{try_read, read_at, read_by, read_stream, read_range, read_unlocked, read_bytes}
+use Rattle.fsa_model.specs.Setup.{Script}
 use Rattle.fsa_model.specs.Schedule.{plain}
 use Rattle.fsa_model.specs.Text.{text}
 use Rattle.fsa_model.specs.Volume.{Volume, File, Link, Stream, Handle, Oplock, fresh, root}
+use Rattle.fsa_model.specs.Write.{try_write, write_at, write_by, write_stream, write_at_place, write_range, write_unlocked, write_grown, write_bytes}
 
 -- the call of client 0 with this number
 abbrev call : ℕ → What → Call
@@ -37,12 +41,12 @@ pub create_write_read_close :
     text (script (call 1 (Ask (Create (codes "\\A.txt") 3 0 CreateNew 0 0 0)) ∷ call 2 (Ask (Write 1 (Some 0) (codes "hello"))) ∷ call 3 (Ask (Read 1 0 5)) ∷ call 4 (Ask (Close 1)) ∷ []))
     (plain (script (call 1 (Ask (Create (codes "\\A.txt") 3 0 CreateNew 0 0 0)) ∷ call 2 (Ask (Write 1 (Some 0) (codes "hello"))) ∷ call 3 (Ask (Read 1 0 5)) ∷ call 4 (Ask (Close 1)) ∷ [])))
     ≡ codes "> a 1 create\na 1 SUCCESS created\n> a 2 write\na 2 SUCCESS 5\n> a 3 read\na 3 SUCCESS x68656c6c6f\n> a 4 close\na 4 SUCCESS\n> a 5 leave\na 5 SUCCESS\nend 5\n"
-unfolding digits
+unfolding digits try_create create_at create_walked create_named create_missing make_file try_write write_at write_by write_stream write_at_place write_range write_unlocked write_grown write_bytes try_read read_at read_by read_stream read_range read_unlocked read_bytes try_close close_at with_closed try_leave with_client_gone
 create_write_read_close = refl
 
 -- a client without requests only leaves
 pub no_requests : text (script []) (plain (script [])) ≡ codes "> a 1 leave\na 1 SUCCESS\nend 1\n"
-unfolding digits
+unfolding digits try_leave with_client_gone
 no_requests = refl
 
 -- a write past the end fills the gap with zeros

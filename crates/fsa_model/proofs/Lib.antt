@@ -1,10 +1,18 @@
 pub mod BreakLaws
+pub mod BytesExamples
+pub mod CloseExamples
 mod ScriptExamples
 pub mod Examples
 pub mod HistoryLaws
+pub mod LineExamples
 pub mod OpenExamples
 pub mod OpenLeaves
 pub mod OpenTable
+pub mod Quiet
+pub mod QuietClose
+pub mod QuietLaws
+pub mod QuietOpen
+pub mod QuietTry
 pub mod RowLaws
 pub mod ScheduleLaws
 pub mod ScriptLaws

@@ -1,17 +1,16 @@
 -- Laws of the schedule: which call is next where the calls were made in order and nobody waits.
-use Rattle.std.proofs.Common.{◌≡◌, ℕ, ◌+◌, ◌<◌, ◌≤◌, zero, suc, List, [], ◌∷◌, ◌++◌, length, take, map, Bool, true, false, cond, Option, Some, None, refl, ap, sym, subst, ◌∙◌, append_assoc, append-nil, arith, length-append, eq-eqb}
-use Rattle.std.specs.Prelude.{option_and_then, option_map, ◌==◌, ◌&&◌, ◌||◌, not, find, nat_eq, IsTrue, IsSome, slice_get, ◌⊎◌}
+use Rattle.std.proofs.Common.{◌≡◌, ℕ, ◌+◌, ◌<◌, ◌≤◌, zero, suc, List, [], ◌∷◌, ◌++◌, length, take, map, Bool, true, false, cond, Some, refl, ap, sym, subst, ◌∙◌, append_assoc, append-nil, arith, eq-eqb}
+use Rattle.std.specs.Prelude.{option_and_then, ◌==◌, ◌&&◌, ◌||◌, IsTrue, slice_get, ◌⊎◌}
 use Rattle.std.proofs.Common.{inl, inr}
 use Rattle.std.specs.Option.{option_map_or}
 use Rattle.std.specs.List.{list_any, list_all}
-use Rattle.std.proofs.lemmas.Grind.{common_steps}
 use Rattle.std.proofs.lemmas.Bool.Decides.{nat_tests}
 use Rattle.fsa_types.specs.declared.request.Call.{Call}
-use Rattle.fsa_model.specs.Setup.{Client, Setup, Script}
+use Rattle.fsa_model.specs.Setup.{Script}
 use Rattle.fsa_model.specs.Volume.{Volume}
-use Rattle.fsa_model.specs.History.{HistoryEntry, Run, run, with_turn}
+use Rattle.fsa_model.specs.History.{HistoryEntry, Run, run}
 use Rattle.fsa_model.specs.Turn.{Turned, turn}
-use Rattle.fsa_model.specs.Schedule.{calls_of, AreNumbered, is_same_call, is_made, waits, next_in, next, plain_entry, all_calls, Scheduled, HasAllCalls, plain_on, plain}
+use Rattle.fsa_model.specs.Schedule.{calls_of, AreNumbered, is_same_call, is_made, next_in, next, plain_entry, all_calls, Scheduled, plain_on, plain}
 use Rattle.fsa_model.proofs.HistoryLaws.{run-push}
 
 -- the turns of these calls, in which none found no memory
@@ -71,7 +70,7 @@ skip_made front (one ∷ back) call rest v =
     (let joined : front ++ one ∷ back ≡ (front ++ one ∷ []) ++ back = sym (append_assoc front (one ∷ []) back) in
     subst (λ (made : List Call). next_in (back ++ call ∷ rest) (entries made) v ≡ next_in (call ∷ rest) (entries made) v) (sym joined) (skip_made (front ++ one ∷ []) back call rest v))
 
-front-numbered : (before front back : List Call) → AreNumbered before (front ++ back) → AreNumbered before front × AreNumbered (before ++ front) back
+pub front-numbered : (before front back : List Call) → AreNumbered before (front ++ back) → AreNumbered before front × AreNumbered (before ++ front) back
 front-numbered before [] back numbered = (tt, rw (append-nil before) numbered)
 front-numbered before (call ∷ front) back numbered =
     let rest = front-numbered (before ++ call ∷ []) front back numbered.1 in

@@ -3,7 +3,7 @@ use Rattle.std.specs.Prelude.{◌≡◌, [], ◌∷◌, ◌++◌, Ok, Err, Some,
 use Rattle.fsa_types.specs.CaseTable.{ascii_pairs}
 use Rattle.fsa_types.specs.declared.request.What.TheVariants.{Ask, Tick}
 use Rattle.fsa_types.specs.declared.request.Request.TheVariants.{Create, Write}
-use Rattle.fsa_types.specs.declared.request.Disposition.TheVariants.{CreateNew}
+use Rattle.fsa_types.specs.declared.request.Disposition.TheVariants.{Supersede, CreateNew, OverwriteIf}
 use Rattle.fsa_model.specs.Fault.{BadCut, BadSyntax, BadClient, BadNumber}
 use Rattle.fsa_model.specs.Words.{field_at, number_at, mask_of, mask_at, text_of, text_at, string_of, string_at}
 use Rattle.fsa_model.specs.Requests.{disposition_at, create_at, write_at, tick_at, what_of}
@@ -23,6 +23,36 @@ pub create : line_of (codes "a 1 create =\\A%0042 0x3 0x7 create 0x0 0x0 0")
     ≡ Ok (RequestLine (codes "a") 1 (Ask (Create (92 ∷ 65 ∷ 66 ∷ []) 3 7 CreateNew 0 0 0)))
 unfolding line_of request_of what_of create_at text_at text_of mask_at mask_of disposition_at number_at field_at
 create = refl
+
+-- a create of a stream, with the greatest mask as wanted access and the greatest key
+pub create_stream : line_of (codes "a 1 create =\\d\\f:s 0xffffffff 0x8 overwrite_if 0x41 0x31b7 18446744073709551615")
+    ≡ Ok (RequestLine (codes "a") 1 (Ask (Create (codes "\\d\\f:s") 4294967295 8 OverwriteIf 0x41 0x31B7 18446744073709551615)))
+unfolding line_of request_of what_of create_at text_at text_of mask_at mask_of disposition_at number_at field_at
+create_stream = refl
+
+-- a create with an empty path
+pub create_empty_path : line_of (codes "a 1 create = 0x0 0x0 supersede 0x0 0x0 0")
+    ≡ Ok (RequestLine (codes "a") 1 (Ask (Create [] 0 0 Supersede 0 0 0)))
+unfolding line_of request_of what_of create_at text_at text_of mask_at mask_of disposition_at number_at field_at
+create_empty_path = refl
+
+-- DELETE_ON_CLOSE isn't taken, by itself or beside another option
+pub delete_on_close : line_of (codes "a 1 create =\\A 0x10001 0x7 create 0x1000 0x0 0") ≡ Err BadSyntax
+unfolding line_of request_of what_of create_at text_at text_of mask_at mask_of disposition_at number_at field_at
+delete_on_close = refl
+
+pub delete_on_close_too : line_of (codes "a 1 create =\\A 0x10001 0x7 create 0x1001 0x0 0") ≡ Err BadSyntax
+unfolding line_of request_of what_of create_at text_at text_of mask_at mask_of disposition_at number_at field_at
+delete_on_close_too = refl
+
+-- a mask of 2 ^ 32, and a key of 2 ^ 64
+pub mask_too_great : line_of (codes "a 1 create =\\A 0x100000000 0x7 create 0x0 0x0 0") ≡ Err BadSyntax
+unfolding line_of request_of what_of create_at text_at text_of mask_at mask_of disposition_at number_at field_at
+mask_too_great = refl
+
+pub key_too_great : line_of (codes "a 1 create =\\A 0x3 0x7 create 0x0 0x0 18446744073709551616") ≡ Err BadSyntax
+unfolding line_of request_of what_of create_at text_at text_of mask_at mask_of disposition_at number_at field_at
+key_too_great = refl
 
 pub write : line_of (codes "a 2 write 1 3 x0aff") ≡ Ok (RequestLine (codes "a") 2 (Ask (Write 1 (Some 3) (10 ∷ 255 ∷ []))))
 unfolding line_of request_of what_of write_at string_at string_of number_at field_at

@@ -1,6 +1,7 @@
 -- Laws of scripts: their calls are numbered in turn, few, and within the bounds of requests.
 use Rattle.std.proofs.Common.{◌≡◌, ℕ, ◌+◌, ◌*◌, ◌<◌, ◌≤◌, suc, List, [], ◌∷◌, ◌++◌, length, map, Bool, true, false, cond, if◌then◌else◌, Option, Some, None, Result, Ok, Err, refl, ap, sym, subst, ◌∙◌, append_assoc, append-nil, arith, length-append, ne_eqb, eqb-true, leb-true, le-leb, ltb-true}
 use Rattle.std.proofs.lemmas.Bool.{and_parts}
+use Rattle.std.proofs.lemmas.List.Quantifiers.{position-Some}
 use Rattle.std.specs.Prelude.{◌==◌, ◌&&◌, not, nat_le, nat_lt, IsTrue, filter, is_some, codes, nat_eq, drop}
 use Rattle.std.specs.List.{enumerate_from, starts_with}
 use Rattle.fsa_types.specs.declared.request.Call.{Call}
@@ -10,13 +11,14 @@ use Rattle.fsa_types.specs.declared.request.Request.TheVariants.{Create, Close, 
 use Rattle.fsa_types.specs.Request.{what_fits}
 use Rattle.fsa_types.specs.CaseTable.{is_at_fault}
 use Rattle.fsa_model.specs.Setup.{Client, Script}
-use Rattle.fsa_model.specs.Fault.{Kind, Fault, ◌>>=◌, only_if, read_as}
+use Rattle.fsa_model.specs.Fault.{Kind, BadSyntax, Fault, ◌>>=◌, only_if, read_as}
 use Rattle.fsa_model.specs.Numbers.{digit_of, number_after, number_of}
 use Rattle.fsa_model.specs.Words.{same, word_of, after_word, field_at, number_at, mask_at, text_at, onto, bytes_of, string_of, string_at, ended, is_name}
-use Rattle.fsa_model.specs.Requests.{most_id, most_place, most_bytes, disposition_at, is_built_create, create_at, close_at, read_at, write_at, tick_at, what_of}
+use Rattle.fsa_model.specs.Requests.{marks_nothing, most_id, most_key, most_place, most_bytes, disposition_at, is_built_create, create_at, close_at, read_at, write_at, tick_at, what_of}
 use Rattle.fsa_model.specs.Lines.{Line, Version, DefaultTable, PairTable, Pair, ClientLine, RequestLine, pair_at, sids_at, client_at, request_of, line_of}
 use Rattle.fsa_model.specs.Script.{Reading, nothing_read, takes_version, takes_table, takes_pairs, takes_clients, takes_requests, place_of, next_number, with_call, with_client, take_client, take_call, take_request_of, take_request, take_line, line_after, end_after, at_line, lines_from, pieces, script_of}
 use Rattle.fsa_model.specs.Schedule.{calls_of, leave_after, AreNumbered, all_calls}
+use Rattle.fsa_model.proofs.Quiet.{ticks_fit}
 use Rattle.fsa_model.proofs.ScheduleLaws.{calls_of-push}
 
 -- ---- the leaves behind the lines
@@ -74,6 +76,10 @@ if-gives P false one other holds fails = fails refl
 only_if-gives : {A : Type 0} (P : A → Type 0) (test : Bool) (value : A) → P value → Gives P (only_if test value)
 only_if-gives P true value holds = ok-gives P value holds
 only_if-gives P false value holds = err-gives P _
+
+only_if-when : {A : Type 0} (P : A → Type 0) (test : Bool) (value : A) → (test ≡ true → P value) → Gives P (only_if test value)
+only_if-when P true value holds = ok-gives P value (holds refl)
+only_if-when P false value holds = err-gives P BadSyntax
 
 -- ---- the bounds of the fields
 
@@ -155,7 +161,7 @@ string_at-short bytes =
 -- ---- the requests are within the bounds
 
 abbrev Fits : What → Type 0
-Fits what = IsTrue (what_fits what)
+Fits what = IsTrue (what_fits what) × IsTrue (marks_nothing what) × IsTrue (ticks_fit what)
 
 ended-gives : {A : Type 0} (P : A → Type 0) (rest : List ℕ) (value : A) → P value → Gives P (ended rest value)
 ended-gives P rest value holds = only_if-gives P (length rest == 0) value holds
@@ -165,32 +171,34 @@ unfolding create_at
 create_at-fits bytes =
     then-gives Fits (text_at bytes) _ (λ path. then-gives Fits (mask_at path.1) _ (λ wanted. then-gives Fits (mask_at wanted.1) _ (λ share.
     then-gives Fits (disposition_at share.1) _ (λ disposition. then-gives Fits (mask_at disposition.1) _ (λ options. then-gives Fits (mask_at options.1) _ (λ attributes.
-    then-gives Fits (number_at 0 attributes.1) _ (λ key.
-    bind-gives Fits Fits (only_if (is_built_create path.0 wanted.0 share.0 options.0 attributes.0 key.0) (Ask (Create path.0 wanted.0 share.0 disposition.0 options.0 attributes.0 key.0))) _
-    (only_if-gives Fits (is_built_create path.0 wanted.0 share.0 options.0 attributes.0 key.0) (Ask (Create path.0 wanted.0 share.0 disposition.0 options.0 attributes.0 key.0)) refl)
+    then-gives Fits (number_at most_key attributes.1) _ (λ key.
+    bind-gives Fits Fits (only_if (is_built_create options.0) (Ask (Create path.0 wanted.0 share.0 disposition.0 options.0 attributes.0 key.0))) _
+    (only_if-when Fits (is_built_create options.0) (Ask (Create path.0 wanted.0 share.0 disposition.0 options.0 attributes.0 key.0)) (λ built. (refl, built, refl)))
     (λ what fits. ended-gives Fits key.1 what fits))))))))
 
 close_at-fits : (bytes : List ℕ) → Gives Fits (close_at bytes)
 unfolding close_at
-close_at-fits bytes = then-gives Fits (number_at most_id bytes) _ (λ handle. ended-gives Fits handle.1 (Ask (Close handle.0)) refl)
+close_at-fits bytes = then-gives Fits (number_at most_id bytes) _ (λ handle. ended-gives Fits handle.1 (Ask (Close handle.0)) (refl, refl, refl))
 
 read_at-fits : (bytes : List ℕ) → Gives Fits (read_at bytes)
 unfolding read_at
 read_at-fits bytes =
     then-gives Fits (number_at most_id bytes) _ (λ handle. then-gives Fits (number_at most_place handle.1) _ (λ place.
     bind-gives (IsAtMost most_bytes) Fits (number_at most_bytes place.1) _ (number_at-bound most_bytes place.1) (λ count below.
-    ended-gives Fits count.1 (Ask (Read handle.0 place.0 count.0)) (le-leb count.0 16384 below))))
+    ended-gives Fits count.1 (Ask (Read handle.0 place.0 count.0)) (le-leb count.0 16384 below, refl, refl))))
 
 write_at-fits : (bytes : List ℕ) → Gives Fits (write_at bytes)
 unfolding write_at
 write_at-fits bytes =
     then-gives Fits (number_at most_id bytes) _ (λ handle. then-gives Fits (number_at most_place handle.1) _ (λ place.
     bind-gives IsShortAt Fits (string_at place.1) _ (string_at-short place.1) (λ string short.
-    ended-gives Fits string.1 (Ask (Write handle.0 (Some place.0) string.0)) (le-leb (length string.0) 16384 short))))
+    ended-gives Fits string.1 (Ask (Write handle.0 (Some place.0) string.0)) (le-leb (length string.0) 16384 short, refl, refl))))
 
 tick_at-fits : (bytes : List ℕ) → Gives Fits (tick_at bytes)
 unfolding tick_at
-tick_at-fits bytes = then-gives Fits (number_at most_id bytes) _ (λ ticks. ended-gives Fits ticks.1 (Tick ticks.0) refl)
+tick_at-fits bytes =
+    bind-gives (IsAtMost most_id) Fits (number_at most_id bytes) _ (number_at-bound most_id bytes) (λ ticks below.
+    ended-gives Fits ticks.1 (Tick ticks.0) (refl, refl, le-leb ticks.0 4294967295 below))
 
 what_of-fits : (verb fields : List ℕ) → Gives Fits (what_of verb fields)
 unfolding what_of
@@ -202,8 +210,9 @@ what_of-fits verb fields =
     (λ no. if-gives Fits (same verb (codes "tick")) _ _ (λ is. tick_at-fits fields)
     (λ no. err-gives Fits _)))))
 
--- a line that is a request is within the bounds
+-- a line that is a request is within the bounds, and one of a client has a SID
 abbrev LineFits : Line → Type 0
+LineFits (ClientLine name sids) = 0 < length sids
 LineFits (RequestLine name number what) = Fits what
 LineFits _ = Unit {0}
 
@@ -215,7 +224,7 @@ client_at-fits : (bytes : List ℕ) → Gives LineFits (client_at bytes)
 unfolding client_at
 client_at-fits bytes =
     then-gives LineFits (field_at bytes) _ (λ word. then-gives LineFits (only_if (is_name word.0) word.0) _ (λ name. then-gives LineFits (number_at most_id word.1) _ (λ sid.
-    then-gives LineFits (sids_at 15 sid.1) _ (λ sids. ok-gives LineFits (ClientLine name (sid.0 ∷ sids)) tt))))
+    then-gives LineFits (sids_at 15 sid.1) _ (λ sids. ok-gives LineFits (ClientLine name (sid.0 ∷ sids)) (omega arith)))))
 
 request_of-fits : (bytes : List ℕ) → Gives LineFits (request_of bytes)
 unfolding request_of
@@ -235,20 +244,44 @@ line_of-fits bytes =
 
 -- ---- the calls of the lines so far
 
--- each call is within the bounds of requests
-abbrev pub AllFit : List Call → Type 0
-AllFit [] = Unit {0}
-AllFit (call ∷ more) = IsTrue (what_fits call.what) × AllFit more
+-- a call of one of so many clients, within the bounds of requests, that marks nothing for deletion
+pub record IsLineCall (clients : ℕ) (call : Call) : Type 0 where
+  pub fits : IsTrue (what_fits call.what)
+  pub marks_nothing : IsTrue (marks_nothing call.what)
+  pub ticks : IsTrue (ticks_fit call.what)
+  pub client : call.client < clients
 
--- the calls are numbered in turn, each is within the bounds, and there are few
-record Lawful (lines : List Call) : Type 0 where
+-- each call is such a one
+abbrev pub AreLineCalls : ℕ → List Call → Type 0
+AreLineCalls clients [] = Unit {0}
+AreLineCalls clients (call ∷ more) = IsLineCall clients call × AreLineCalls clients more
+
+-- each client has a SID
+abbrev pub HaveSids : List Client → Type 0
+HaveSids [] = Unit {0}
+HaveSids (client ∷ more) = (0 < length client.sids) × HaveSids more
+
+HaveSids-push : (clients : List Client) (client : Client) → HaveSids clients → 0 < length client.sids → HaveSids (clients ++ client ∷ [])
+HaveSids-push [] client have last = (last, tt)
+HaveSids-push (one ∷ clients) client have last = (have.0, HaveSids-push clients client have.1 last)
+
+-- the calls are numbered in turn, each is one of so many clients and within the bounds, and there are few
+record Lawful (clients : ℕ) (lines : List Call) : Type 0 where
   numbered : AreNumbered [] lines
-  fits : AllFit lines
+  fit : AreLineCalls clients lines
   few : length lines ≤ 64
 
-AllFit-push : (calls : List Call) (call : Call) → AllFit calls → IsTrue (what_fits call.what) → AllFit (calls ++ call ∷ [])
-AllFit-push [] call fit last = (last, tt)
-AllFit-push (one ∷ calls) call fit last = (fit.0, AllFit-push calls call fit.1 last)
+AreLineCalls-push : (clients : ℕ) (calls : List Call) (call : Call) → AreLineCalls clients calls → IsLineCall clients call → AreLineCalls clients (calls ++ call ∷ [])
+AreLineCalls-push clients [] call fit last = (last, tt)
+AreLineCalls-push clients (one ∷ calls) call fit last = (fit.0, AreLineCalls-push clients calls call fit.1 last)
+
+-- so they are of more clients
+AreLineCalls-more : (few many : ℕ) (calls : List Call) → few ≤ many → AreLineCalls few calls → AreLineCalls many calls
+AreLineCalls-more few many [] more fit = tt
+AreLineCalls-more few many (call ∷ calls) more fit = (
+  record { fits = fit.0.fits; marks_nothing = fit.0.marks_nothing; ticks = fit.0.ticks; client = let below : call.client < few = fit.0.client in omega arith },
+  AreLineCalls-more few many calls more fit.1,
+)
 
 length-filter_calls : (calls : List Call) (client : ℕ) → length (filter (λ (call : Call). call.client == client) calls) ≡ calls_of client calls
 length-filter_calls [] client = refl
@@ -258,44 +291,65 @@ length-filter_calls (call ∷ calls) client =
       | false ↦ omega (arith, length-filter_calls calls client)
     ]
 
-Lawful-push : (lines : List Call) (call : Call) → Lawful lines → call.number ≡ next_number lines call.client → IsTrue (what_fits call.what) → length lines < 64 → Lawful (lines ++ call ∷ [])
-Lawful-push lines call lawful next fits few = record {
+Lawful-push : (clients : ℕ) (lines : List Call) (call : Call) → Lawful clients lines → call.number ≡ next_number lines call.client → IsLineCall clients call → length lines < 64
+    → Lawful clients (lines ++ call ∷ [])
+Lawful-push clients lines call lawful next fits few = record {
   numbered = AreNumbered-append [] lines (call ∷ []) lawful.numbered (next ∙ ap (λ count. count + 1) (length-filter_calls lines call.client), tt);
-  fits = AllFit-push lines call lawful.fits fits;
+  fit = AreLineCalls-push clients lines call lawful.fit fits;
   few = omega (arith, length-append lines (call ∷ []));
 }
 
-abbrev IsLawful : Reading → Type 0
-IsLawful reading = Lawful reading.script.lines
+-- how many clients were read
+abbrev clients_in : Reading → ℕ
+clients_in reading = length reading.script.setup.clients
 
-take_call-lawful : (reading : Reading) (client number : ℕ) (what : What) → IsLawful reading → IsTrue (what_fits what) → length reading.script.lines < 64 → Gives IsLawful (take_call reading client number what)
+abbrev IsLawfulScript : Script → Type 0
+IsLawfulScript script = HaveSids script.setup.clients × Lawful (length script.setup.clients) script.lines
+
+abbrev IsLawful : Reading → Type 0
+IsLawful reading = IsLawfulScript reading.script
+
+Lawful-more : (few many : ℕ) (lines : List Call) → few ≤ many → Lawful few lines → Lawful many lines
+Lawful-more few many lines more lawful = record { numbered = lawful.numbered; fit = AreLineCalls-more few many lines more lawful.fit; few = lawful.few }
+
+-- the place of a name is one of those of the clients
+place_of-below : (clients : List Client) (name : List ℕ) (place : ℕ) → place_of clients name ≡ Some place → place < length clients
+place_of-below clients name place is = (position-Some (λ (client : Client). same name client.name) clients place (record { name = []; sids = [] }) is).0
+
+take_call-lawful : (reading : Reading) (client number : ℕ) (what : What) → IsLawful reading → client < clients_in reading → Fits what → length reading.script.lines < 64
+    → Gives IsLawful (take_call reading client number what)
 unfolding take_call
-take_call-lawful reading client number what lawful fits few =
+take_call-lawful reading client number what lawful known fits few =
     if-gives IsLawful (number == next_number reading.script.lines client) _ _
-    (λ is. ok-gives IsLawful (with_call reading client number what) (Lawful-push reading.script.lines (record { client = client; number = number; what = what }) lawful (eqb-true number (next_number reading.script.lines client) is) fits few))
+    (λ is. ok-gives IsLawful (with_call reading client number what) (
+      lawful.0,
+      Lawful-push (clients_in reading) reading.script.lines (record { client = client; number = number; what = what }) lawful.1 (eqb-true number (next_number reading.script.lines client) is)
+          (record { fits = fits.0; marks_nothing = fits.1; ticks = fits.2; client = known }) few,
+    ))
     (λ out. err-gives IsLawful _)
 
-take_request_of-lawful : (reading : Reading) (place : Option ℕ) (number : ℕ) (what : What) → IsLawful reading → IsTrue (what_fits what) → length reading.script.lines < 64 → Gives IsLawful (take_request_of reading place number what)
-take_request_of-lawful reading None number what lawful fits few = err-gives IsLawful _
-take_request_of-lawful reading (Some client) number what lawful fits few = take_call-lawful reading client number what lawful fits few
+take_request_of-lawful : (reading : Reading) (place : Option ℕ) (number : ℕ) (what : What) → IsLawful reading → ((client : ℕ) → place ≡ Some client → client < clients_in reading) → Fits what
+    → length reading.script.lines < 64 → Gives IsLawful (take_request_of reading place number what)
+take_request_of-lawful reading None number what lawful known fits few = err-gives IsLawful _
+take_request_of-lawful reading (Some client) number what lawful known fits few = take_call-lawful reading client number what lawful (known client refl) fits few
 
 right_true : (left right : Bool) → not (left && right) ≡ false → right ≡ true
 right_true true true e = refl
 right_true true false e = cc
 right_true false right e = cc
 
-take_request-lawful : (reading : Reading) (name : List ℕ) (number : ℕ) (what : What) → IsLawful reading → IsTrue (what_fits what) → Gives IsLawful (take_request reading name number what)
+take_request-lawful : (reading : Reading) (name : List ℕ) (number : ℕ) (what : What) → IsLawful reading → Fits what → Gives IsLawful (take_request reading name number what)
 unfolding take_request
 take_request-lawful reading name number what lawful fits =
     if-gives IsLawful (not (takes_requests reading.stage && nat_lt (length reading.script.lines) 64)) _ _
     (λ over. err-gives IsLawful _)
-    (λ within. take_request_of-lawful reading (place_of reading.script.setup.clients name) number what lawful fits (ltb-true _ 64 (right_true (takes_requests reading.stage) (nat_lt (length reading.script.lines) 64) within)))
+    (λ within. take_request_of-lawful reading (place_of reading.script.setup.clients name) number what lawful (place_of-below reading.script.setup.clients name) fits (ltb-true _ 64 (right_true (takes_requests reading.stage) (nat_lt (length reading.script.lines) 64) within)))
 
-take_client-lawful : (reading : Reading) (name sids : List ℕ) → IsLawful reading → Gives IsLawful (take_client reading name sids)
+take_client-lawful : (reading : Reading) (name sids : List ℕ) → IsLawful reading → 0 < length sids → Gives IsLawful (take_client reading name sids)
 unfolding take_client
-take_client-lawful reading name sids lawful =
+take_client-lawful reading name sids lawful some =
     if-gives IsLawful (not (takes_clients reading.stage)) _ _ (λ bad. err-gives IsLawful _)
-    (λ good. if-gives IsLawful (is_some (place_of reading.script.setup.clients name)) _ _ (λ named. err-gives IsLawful _) (λ new. ok-gives IsLawful (with_client reading name sids) lawful))
+    (λ good. if-gives IsLawful (is_some (place_of reading.script.setup.clients name)) _ _ (λ named. err-gives IsLawful _) (λ new. ok-gives IsLawful (with_client reading name sids) (HaveSids-push reading.script.setup.clients (record { name = name; sids = sids }) lawful.0 some, Lawful-more (clients_in reading) (clients_in (with_client reading name sids)) reading.script.lines (omega (arith, length-append reading.script.setup.clients (record { name = name; sids = sids } ∷ []))) lawful.1)))
 
 take_line-lawful : (reading : Reading) (line : Line) → IsLawful reading → LineFits line → Gives IsLawful (take_line reading line)
 unfolding take_line
@@ -304,7 +358,7 @@ take_line-lawful reading DefaultTable lawful fits = only_if-gives IsLawful (take
 take_line-lawful reading PairTable lawful fits = only_if-gives IsLawful (takes_table reading.stage) _ lawful
 take_line-lawful reading (Pair source target) lawful fits =
     only_if-gives IsLawful (takes_pairs reading.stage && nat_le source 65535 && nat_le target 65535 && not (is_at_fault reading.script.setup.table (source, target))) _ lawful
-take_line-lawful reading (ClientLine name sids) lawful fits = take_client-lawful reading name sids lawful
+take_line-lawful reading (ClientLine name sids) lawful fits = take_client-lawful reading name sids lawful fits
 take_line-lawful reading (RequestLine name number what) lawful fits = take_request-lawful reading name number what lawful fits
 
 line_after-lawful : (reading : Reading) (bytes : List ℕ) → IsLawful reading → Gives IsLawful (line_after reading bytes)
@@ -312,7 +366,7 @@ unfolding line_after
 line_after-lawful reading bytes lawful = bind-gives LineFits IsLawful (line_of bytes) (take_line reading) (line_of-fits bytes) (λ line fits. take_line-lawful reading line lawful fits)
 
 abbrev HasLawful : Script → Type 0
-HasLawful script = Lawful script.lines
+HasLawful script = IsLawfulScript script
 
 end_after-lawful : (line : ℕ) (reading : Reading) (rest : List ℕ) → IsLawful reading → Gives HasLawful (end_after line reading rest)
 unfolding end_after
@@ -335,19 +389,23 @@ script_of-gives : (bytes : List ℕ) → Gives HasLawful (script_of bytes)
 unfolding script_of
 script_of-gives bytes =
     if-gives HasLawful (length bytes == 0) _ _ (λ none. err-gives HasLawful _)
-    (λ some. lines_from-lawful 1 nothing_read (pieces bytes) (record { numbered = tt; fits = tt; few = omega arith }))
+    (λ some. lines_from-lawful 1 nothing_read (pieces bytes) (tt, record { numbered = tt; fit = tt; few = omega arith }))
 
-script_of-lawful : (bytes : List ℕ) (script : Script) → script_of bytes ≡ Ok script → Lawful script.lines
+script_of-lawful : (bytes : List ℕ) (script : Script) → script_of bytes ≡ Ok script → IsLawfulScript script
 script_of-lawful bytes script is = (script_of-gives bytes).given script is
 
 -- a script's calls are numbered in turn
 pub script_of-numbered : (bytes : List ℕ) (script : Script) → script_of bytes ≡ Ok script → AreNumbered [] script.lines
-script_of-numbered bytes script is = (script_of-lawful bytes script is).numbered
+script_of-numbered bytes script is = (script_of-lawful bytes script is).1.numbered
 
--- a script's requests are within the bounds
-pub script_of-fits : (bytes : List ℕ) (script : Script) → script_of bytes ≡ Ok script → AllFit script.lines
-script_of-fits bytes script is = (script_of-lawful bytes script is).fits
+-- a script's calls are of its clients, within the bounds of requests, and mark nothing for deletion
+pub script_of-fits : (bytes : List ℕ) (script : Script) → script_of bytes ≡ Ok script → AreLineCalls (length script.setup.clients) script.lines
+script_of-fits bytes script is = (script_of-lawful bytes script is).1.fit
 
 -- a script has few calls
 pub script_of-few : (bytes : List ℕ) (script : Script) → script_of bytes ≡ Ok script → length script.lines ≤ 64
-script_of-few bytes script is = (script_of-lawful bytes script is).few
+script_of-few bytes script is = (script_of-lawful bytes script is).1.few
+
+-- a script's clients have SIDs
+pub script_of-sids : (bytes : List ℕ) (script : Script) → script_of bytes ≡ Ok script → HaveSids script.setup.clients
+script_of-sids bytes script is = (script_of-lawful bytes script is).0

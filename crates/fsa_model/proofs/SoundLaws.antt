@@ -1,9 +1,9 @@
 -- What stays true of a volume when it changes.
 use Rattle.std.proofs.Common.{◌≡◌, ℕ, zero, suc, ◌+◌, ◌-◌, ◌^◌, ◌<◌, ◌≤◌, Bool, true, false, not, List, [], ◌∷◌, ◌++◌, length, get_or, refl, ap, sym, ◌∙◌, arith, inl, inr, Option, Some, None}
-use Rattle.std.specs.List.{find, filter, list_any, All, AllPairs}
+use Rattle.std.specs.List.{filter, list_any, All}
 use Rattle.std.specs.Option.{option_map_or}
-use Rattle.std.specs.Prelude.{◌==◌, ◌||◌, ◌&&◌, is_some, map, option_map, IsTrue, IfSome, if◌then◌else◌}
-use Rattle.std.proofs.lemmas.Bool.{ne_eqb, eq-eqb, both_ways, eqb-true, not-true, cases_Bool, or_cases, and_parts, and_from, and_cases, and_left, and_right}
+use Rattle.std.specs.Prelude.{◌==◌, ◌||◌, ◌&&◌, is_some, map, option_map, IfSome}
+use Rattle.std.proofs.lemmas.Bool.{ne_eqb, eq-eqb, both_ways, eqb-true, not-true, cases_Bool, or_cases, and_parts, and_from, and_cases, and_right}
 use Rattle.std.proofs.lemmas.List.Folds.{list_any-append, list_any_at, list_any_none, find-append}
 use Rattle.std.proofs.lemmas.List.Elements.{All-nil, All-push, All-map, All-filter, filter_passes}
 use Rattle.std.proofs.lemmas.List.Quantifiers.{all_pairs_push}
@@ -14,7 +14,7 @@ use Rattle.fsa_model.specs.Setup.{Setup}
 use Rattle.fsa_model.specs.Volume.{File, Link, Stream, Handle, Volume, fresh, root}
 use Rattle.fsa_model.specs.Lookups.{child_of, stream_of, handle_of, is_named, is_stream_named, is_opened_by, is_directory, has_child, has_row, leads_to, link_of_file, is_open_on, is_open_by}
 use Rattle.fsa_model.specs.Edits.{with_file, with_link, with_stream, with_handle, without_handle, with_link_marked, without_stream, without_file, without_link}
-use Rattle.fsa_model.specs.Sound.{IsSound, IsTree, AreOpens, LeadsUp, PointFits, is_of_living, is_stream_of_link, is_link_of_directory, has_its_stream}
+use Rattle.fsa_model.specs.Sound.{IsSound, LeadsUp, PointFits, is_of_living, is_stream_of_link, has_its_stream}
 use Rattle.fsa_model.proofs.RowLaws.{any-push, any-filter, any-filter_none, find-all, find-any, find-none, row_of-all, any-map, any-same, any-weaker, find-map, find-same, find-filter, AllPairs-map, change_at, change_at-same, change_at-number, IsNumbered-change, row_of-here, eqb-swap, or_right, option_cases, none-all, number_of-none, lives-given, IsNumbered-push, IsNumbered-filter, or-false}
 
 -- a file more is no directory's number that was given before

@@ -1,17 +1,16 @@
 -- The break of oplocks over a volume: which are broken, in what order, what becomes of them, whose
 -- calls are told, and for which breaks a request waits, after [MS-FSA] 'Algorithm to Check for an
 -- Oplock Break'.
-use Rattle.std.specs.Prelude.{ℕ, Bool, true, false, List, [], ◌∷◌, ◌+◌, ◌&&◌, ◌==◌, not, nat_lt, Option, Some, None, filter, find, map, fold, length, is_some, option_map, option_and_then, if◌then◌else◌}
+use Rattle.std.specs.Prelude.{ℕ, Bool, true, false, List, [], ◌+◌, ◌&&◌, ◌==◌, not, nat_lt, Option, Some, None, filter, find, map, fold, is_some, option_and_then, if◌then◌else◌}
 use Rattle.std.specs.Option.{option_map_or}
 use Rattle.std.specs.Ordering.{is_lt}
 use Rattle.fsa_types.specs.CaseTable.{cmp_name, same_name}
 use Rattle.fsa_types.specs.Oplocks.{Effect, Stays, Ends, Begins, Lowers, effect, is_awaited, is_same_key}
-use Rattle.fsa_types.specs.Rows.{row_of, without_row}
+use Rattle.fsa_types.specs.Rows.{row_of}
 use Rattle.fsa_types.specs.Sorting.{in_order}
 use Rattle.fsa_types.specs.declared.oplock.Class.{Class}
 use Rattle.fsa_types.specs.declared.oplock.HandleSet.{HandleSet}
 use Rattle.fsa_types.specs.declared.reply.Body.TheVariants.{Broken}
-use Rattle.fsa_types.specs.declared.reply.Reply.{Reply}
 use Rattle.fsa_types.specs.declared.request.Level.{Level}
 use Rattle.fsa_types.specs.declared.request.Level.TheVariants.{Nil}
 use Rattle.fsa_types.specs.declared.status.Status.TheVariants.{Success}

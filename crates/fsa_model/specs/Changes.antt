@@ -3,7 +3,7 @@
 use Rattle.std.specs.Prelude.{ℕ, ◌+◌, List, [], ◌∷◌, ◌++◌, Option, zero, suc, max, length}
 use Rattle.std.specs.Option.{option_map_or}
 use Rattle.fsa_types.specs.Rows.{row_of}
-use Rattle.fsa_model.specs.Volume.{Link, Stream, Change, Volume}
+use Rattle.fsa_model.specs.Volume.{Link, Stream, Volume}
 use Rattle.fsa_model.specs.Lookups.{link_of_file}
 
 -- the ancestor directories of what is called `name` in directory `dir`, the parent first, each with

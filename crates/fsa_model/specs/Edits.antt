@@ -1,14 +1,13 @@
 -- What can change in a volume, one name for each change. What a change doesn't name stays.
-use Rattle.std.specs.Prelude.{ℕ, Bool, true, false, List, [], ◌∷◌, ◌++◌, ◌+◌, ◌&&◌, ◌==◌, nat_eq, not, Option, Some, None, filter, map, if◌then◌else◌, slice_set, option_to_list}
+use Rattle.std.specs.Prelude.{ℕ, Bool, true, false, List, [], ◌∷◌, ◌++◌, ◌+◌, ◌&&◌, ◌==◌, not, Option, Some, filter, if◌then◌else◌, slice_set}
 use Rattle.std.specs.Option.{option_map_or}
 use Rattle.fsa_types.specs.Rows.{row_of, without_row, with_row_changed}
 use Rattle.fsa_types.specs.StreamBytes.{put, cut}
 use Rattle.fsa_types.specs.declared.request.Ace.{Ace}
 use Rattle.fsa_types.specs.declared.request.Call.{Call}
 use Rattle.fsa_types.specs.declared.reply.Blocker.{Blocker}
-use Rattle.fsa_types.specs.declared.reply.EndOf.{EndOf}
 use Rattle.fsa_types.specs.declared.reply.Reply.{Reply}
-use Rattle.fsa_model.specs.Volume.{File, Link, Stream, Cursor, Handle, Lock, Watch, Pending, Volume}
+use Rattle.fsa_model.specs.Volume.{File, Cursor, Handle, Lock, Pending, Volume}
 use Rattle.fsa_model.specs.Lookups.{has_row, number_of}
 
 -- a file or directory more, with the next number

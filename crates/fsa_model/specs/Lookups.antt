@@ -1,6 +1,6 @@
 -- What can be looked up in a volume: links by directory and name, streams by file and name, handles
 -- by client and number, and what belongs to what.
-use Rattle.std.specs.Prelude.{ℕ, Bool, true, false, List, [], ◌&&◌, ◌||◌, ◌==◌, not, Option, Some, None, find, filter, map, length, nat_lt, option_map, zero, suc, if◌then◌else◌}
+use Rattle.std.specs.Prelude.{ℕ, Bool, false, List, [], ◌&&◌, ◌||◌, ◌==◌, not, Option, Some, find, filter, length, nat_lt, option_map, zero, suc, if◌then◌else◌}
 use Rattle.std.specs.Option.{option_map_or}
 use Rattle.std.specs.List.{list_any, slice_index_or}
 use Rattle.fsa_types.specs.CaseTable.{same_name}

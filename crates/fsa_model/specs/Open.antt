@@ -1,6 +1,6 @@
 -- The open of a file, after [MS-FSA] 'Server Requests an Open of a File': its checks in order, each by
 -- its name, and what an open changes.
-use Rattle.std.specs.Prelude.{ℕ, ◌+◌, ◌==◌, ◌&&◌, ◌||◌, not, nat_lt, Bool, true, false, List, [], map, length, Option, Some, None, is_some, if◌then◌else◌, unwrap_or, slice_get}
+use Rattle.std.specs.Prelude.{ℕ, ◌+◌, ◌==◌, ◌&&◌, ◌||◌, not, nat_lt, Bool, true, false, List, [], length, Option, Some, None, is_some, if◌then◌else◌, unwrap_or, slice_get}
 use Rattle.std.specs.Option.{option_map_or}
 use Rattle.std.specs.Int.RustNames.{bit_and, bit_or}
 use Rattle.fsa_types.specs.Access.{has_any, denied, map_generic}
@@ -15,17 +15,16 @@ use Rattle.fsa_types.specs.declared.request.Disposition.{Disposition}
 use Rattle.fsa_types.specs.declared.request.Disposition.TheVariants.{Supersede, OpenExisting, CreateNew, Overwrite, OverwriteIf}
 use Rattle.fsa_types.specs.declared.reply.Action.{Action}
 use Rattle.fsa_types.specs.declared.reply.Action.TheVariants as action
-use Rattle.fsa_types.specs.declared.reply.Blocker.TheVariants.{Break}
 use Rattle.fsa_types.specs.declared.reply.Body.TheVariants.{Opened, Stopped}
-use Rattle.fsa_types.specs.declared.reply.Interim.TheVariants.{Held}
 use Rattle.fsa_types.specs.declared.status.Status.{Status}
 use Rattle.fsa_types.specs.declared.status.Status.TheVariants.{Success, Reparse, StoppedOnSymlink, OplockBreakInProgress, ObjectPathNotFound, InvalidParameter, AccessDenied, ObjectNameInvalid, ObjectNameNotFound, ObjectNameCollision, SharingViolation, DeletePending, CannotDelete, NotADirectory, FileIsADirectory}
 use Rattle.fsa_model.specs.Volume.{File, Volume}
 use Rattle.fsa_model.specs.Edits.{with_file, with_link, with_stream, with_handle, with_length, with_basic}
 use Rattle.fsa_model.specs.Lookups.{child_of, stream_of, is_directory, clashes_on}
-use Rattle.fsa_model.specs.Breaks.{with_breaks, awaited}
+use Rattle.fsa_model.specs.Breaks.{with_breaks}
 use Rattle.fsa_model.specs.Changes.{with_change_noted}
-use Rattle.fsa_model.specs.Outcome.{Outcome, Done, Hold, refused}
+use Rattle.fsa_model.specs.Outcome.{Outcome, Done, refused}
+use Rattle.fsa_model.specs.Waits.{waits_for, held_by}
 use Rattle.fsa_model.specs.Walk.{Walked, Reached, Barred, Diverted, point_of, walk, last_name}
 
 -- ---- what is asked for
@@ -178,11 +177,11 @@ opened v asked link stream status action = opens (with_open v asked link stream)
 -- oplocks of these handles and of other keys are broken by this class, and the call is held until the
 -- breaks that it waits for have ended
 abbrev pub held : Volume → HandleSet → Class → ℕ → Outcome
-held v on class key = Hold (with_breaks v on class None key) (map Break (awaited v on class None key)) Held
+held v on class key = held_by v on class None key
 
 -- it waits for some break of this class
 abbrev pub waits : Volume → HandleSet → Class → ℕ → Bool
-waits v on class key = not (length (awaited v on class None key) == 0)
+waits v on class key = waits_for v on class None key
 
 -- ---- the last name is missing
 

@@ -1,18 +1,22 @@
 -- The requests that a script can make: for each verb the fields of its line. A verb, or a form of
 -- one, that stands here is built; any other is no line.
-use Rattle.std.specs.Prelude.{ℕ, ◌==◌, ◌&&◌, ◌||◌, not, nat_le, Bool, false, List, [], ◌∷◌, length, Some, Result, Ok, Err, if◌then◌else◌, codes}
-use Rattle.std.specs.List.{list_all}
+use Rattle.std.specs.Prelude.{ℕ, not, Bool, true, List, Some, Result, Ok, Err, if◌then◌else◌, codes}
+use Rattle.fsa_types.specs.Access.{has_any}
 use Rattle.fsa_types.specs.declared.request.What.{What}
 use Rattle.fsa_types.specs.declared.request.What.TheVariants.{Ask, Tick}
 use Rattle.fsa_types.specs.declared.request.Request.TheVariants.{Create, Close, Read, Write}
 use Rattle.fsa_types.specs.declared.request.Disposition.{Disposition}
-use Rattle.fsa_types.specs.declared.request.Disposition.TheVariants.{OpenExisting, CreateNew}
+use Rattle.fsa_types.specs.declared.request.Disposition.TheVariants.{Supersede, OpenExisting, CreateNew, OpenIf, Overwrite, OverwriteIf}
 use Rattle.fsa_model.specs.Fault.{Kind, BadSyntax, ◌>>=◌, only_if}
 use Rattle.fsa_model.specs.Words.{same, field_at, number_at, mask_at, text_at, string_at, ended}
 
 -- handles, numbers of calls and SIDs are below 2 ^ 32
 abbrev pub most_id : ℕ
 most_id = 4294967295
+
+-- keys are below 2 ^ 64
+abbrev pub most_key : ℕ
+most_key = 18446744073709551615
 
 -- the places of a read and a write go up to here
 abbrev pub most_place : ℕ
@@ -24,8 +28,12 @@ most_bytes = 16384
 
 abbrev pub disposition_of : List ℕ → Result Disposition Kind
 disposition_of word =
-    if same word (codes "open") then Ok OpenExisting
+    if same word (codes "supersede") then Ok Supersede
+    else if same word (codes "open") then Ok OpenExisting
     else if same word (codes "create") then Ok CreateNew
+    else if same word (codes "open_if") then Ok OpenIf
+    else if same word (codes "overwrite") then Ok Overwrite
+    else if same word (codes "overwrite_if") then Ok OverwriteIf
     else Err BadSyntax
 
 unfoldable pub disposition_at : List ℕ → Result (Disposition × List ℕ) Kind
@@ -34,28 +42,14 @@ disposition_at bytes = do
   disposition ← disposition_of word.0
   Ok (disposition, word.1)
 
--- a letter, a digit, `_` or `.`
-abbrev pub is_plain_unit : ℕ → Bool
-is_plain_unit unit = nat_le 97 unit && nat_le unit 122 || nat_le 65 unit && nat_le unit 90 || nat_le 48 unit && nat_le unit 57 || unit == 95 || unit == 46
+-- which creates are built: those without DELETE_ON_CLOSE
+abbrev pub is_built_create : ℕ → Bool
+is_built_create options = not (has_any options 0x1000)
 
--- `.` or `..`
-abbrev pub is_dots : List ℕ → Bool
-is_dots name = nat_le (length name) 2 && list_all (λ unit. unit == 46) name
-
--- `\` and a name of 1 to 32 of these units: a file in the root
-abbrev pub is_root_path : List ℕ → Bool
-is_root_path [] = false
-is_root_path (first ∷ name) = first == 92 && nat_le 1 (length name) && nat_le (length name) 32 && list_all is_plain_unit name && not (is_dots name)
-
--- which creates are built: of a file in the root, wanted 0x1 or 0x3, any share, no options, no attributes, key 0
-abbrev pub is_built_create : List ℕ → ℕ → ℕ → ℕ → ℕ → ℕ → Bool
-is_built_create path wanted share options attributes key =
-    is_root_path path
-    && (wanted == 1 || wanted == 3)
-    && nat_le share 7
-    && options == 0
-    && attributes == 0
-    && key == 0
+-- what is asked doesn't mark what it opens for deletion: it is no open with DELETE_ON_CLOSE
+abbrev pub marks_nothing : What → Bool
+marks_nothing (Ask (Create path wanted share disposition options attributes key)) = is_built_create options
+marks_nothing _ = true
 
 -- path, wanted access, share access, disposition, options, attributes, key
 unfoldable pub create_at : List ℕ → Result What Kind
@@ -66,8 +60,8 @@ create_at bytes = do
   disposition ← disposition_at share.1
   options ← mask_at disposition.1
   attributes ← mask_at options.1
-  key ← number_at 0 attributes.1
-  what ← only_if (is_built_create path.0 wanted.0 share.0 options.0 attributes.0 key.0)
+  key ← number_at most_key attributes.1
+  what ← only_if (is_built_create options.0)
       (Ask (Create path.0 wanted.0 share.0 disposition.0 options.0 attributes.0 key.0))
   ended key.1 what
 

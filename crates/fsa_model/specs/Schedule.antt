@@ -1,5 +1,5 @@
 -- In which order a script's calls are made on one thread, and the history that comes of it.
-use Rattle.std.specs.Prelude.{◌≡◌, ℕ, zero, suc, Bool, true, false, ◌+◌, ◌==◌, ◌&&◌, not, cond, List, [], ◌∷◌, ◌++◌, Option, Some, map, take, find, length, slice_get, All, IsTrue, IsSome, option_and_then}
+use Rattle.std.specs.Prelude.{◌≡◌, ℕ, zero, suc, Bool, true, false, ◌+◌, ◌==◌, ◌&&◌, not, cond, List, [], ◌∷◌, ◌++◌, Option, Some, map, take, find, length, slice_get, IsTrue, IsSome, option_and_then}
 use Rattle.std.specs.Option.{option_map_or}
 use Rattle.std.specs.List.{list_any, list_all, enumerate_from}
 use Rattle.fsa_types.specs.declared.request.What.{What}

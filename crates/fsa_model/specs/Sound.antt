@@ -1,12 +1,11 @@
 -- What is always true of a volume.
-use Rattle.std.specs.Prelude.{◌≡◌, ℕ, Bool, true, false, ◌+◌, ◌-◌, ◌^◌, ◌<◌, ◌≤◌, ◌&&◌, ◌||◌, ◌==◌, not, List, Option, is_some, length, All, AllPairs, IsTrue, IfSome}
+use Rattle.std.specs.Prelude.{◌≡◌, ℕ, Bool, true, false, ◌-◌, ◌^◌, ◌<◌, ◌≤◌, ◌&&◌, ◌||◌, ◌==◌, List, is_some, length, All, AllPairs, IsTrue, IfSome}
 use Rattle.std.specs.Option.{option_map_or}
 use Rattle.std.specs.List.{list_any}
 use Rattle.fsa_types.specs.Rows.{lives, IsNumbered}
-use Rattle.fsa_types.specs.CaseTable.{same_name}
 use Rattle.fsa_model.specs.Setup.{Client}
 use Rattle.fsa_model.specs.Volume.{File, Link, Stream, Handle, Lock, Oplock, Pending, Watch, Volume}
-use Rattle.fsa_model.specs.Lookups.{is_named, is_stream_named, is_opened_by, is_directory, has_child, has_row, leads_to}
+use Rattle.fsa_model.specs.Lookups.{is_named, is_stream_named, is_opened_by, is_directory, has_child, leads_to}
 use Rattle.fsa_model.specs.Edits.{is_call}
 
 -- from this directory links lead up to the root

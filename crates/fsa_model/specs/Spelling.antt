@@ -5,10 +5,10 @@ use Rattle.fsa_types.specs.declared.request.What.{What}
 use Rattle.fsa_types.specs.declared.request.What.TheVariants.{Ask, Tick}
 use Rattle.fsa_types.specs.declared.request.Request.TheVariants.{Create, Close, Read, Write}
 use Rattle.fsa_types.specs.declared.request.Disposition.{Disposition}
-use Rattle.fsa_types.specs.declared.request.Disposition.TheVariants.{OpenExisting, CreateNew}
+use Rattle.fsa_types.specs.declared.request.Disposition.TheVariants.{Supersede, OpenExisting, CreateNew, OpenIf, Overwrite, OverwriteIf}
 use Rattle.fsa_model.specs.Numbers.{glyph, spelled}
 use Rattle.fsa_model.specs.Words.{is_plain, is_name}
-use Rattle.fsa_model.specs.Requests.{most_id, most_place, is_built_create}
+use Rattle.fsa_model.specs.Requests.{most_id, most_key, most_place, is_built_create}
 use Rattle.fsa_model.specs.Lines.{Line, Version, DefaultTable, PairTable, Pair, ClientLine, RequestLine}
 
 -- a decimal number, and a mask, as fields
@@ -39,14 +39,12 @@ abbrev pub string_text : List ℕ → List ℕ
 string_text bytes = 32 ∷ 120 ∷ flat_map byte_text bytes
 
 abbrev pub disposition_text : Disposition → List ℕ
+disposition_text Supersede = 32 ∷ codes "supersede"
 disposition_text OpenExisting = 32 ∷ codes "open"
 disposition_text CreateNew = 32 ∷ codes "create"
-disposition_text _ = []
-
-abbrev pub is_built_disposition : Disposition → Bool
-is_built_disposition OpenExisting = true
-is_built_disposition CreateNew = true
-is_built_disposition _ = false
+disposition_text OpenIf = 32 ∷ codes "open_if"
+disposition_text Overwrite = 32 ∷ codes "overwrite"
+disposition_text OverwriteIf = 32 ∷ codes "overwrite_if"
 
 -- a verb and its fields
 abbrev pub verb_text : What → List ℕ
@@ -69,7 +67,13 @@ fields_text _ = []
 -- which calls a script can make at this time
 abbrev pub is_built : What → Bool
 is_built (Ask (Create path wanted share disposition options attributes key)) =
-    list_all (λ unit. nat_le unit 65535) path && is_built_disposition disposition && is_built_create path wanted share options attributes key
+    list_all (λ unit. nat_le unit 65535) path
+    && nat_le wanted 4294967295
+    && nat_le share 4294967295
+    && nat_le options 4294967295
+    && nat_le attributes 4294967295
+    && nat_le key most_key
+    && is_built_create options
 is_built (Ask (Close handle)) = nat_le handle most_id
 is_built (Ask (Read handle place count)) = nat_le handle most_id && nat_le place most_place && nat_le count 16384
 is_built (Ask (Write handle (Some place) bytes)) =

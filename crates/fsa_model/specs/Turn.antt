@@ -12,9 +12,9 @@ use Rattle.fsa_types.specs.declared.reply.Answer.TheVariants.{Ended, Pending}
 use Rattle.fsa_types.specs.declared.reply.EndOf.{EndOf}
 use Rattle.fsa_model.specs.Volume.{Volume}
 use Rattle.fsa_model.specs.Lookups.{has_left}
-use Rattle.fsa_model.specs.VerbEdits.{with_end, with_pending, with_ticks}
+use Rattle.fsa_model.specs.Edits.{with_end, with_pending, with_ticks}
 use Rattle.fsa_model.specs.Outcome.{Outcome, Done, Stay, Hold, ends_with, refused, TurnOut}
-use Rattle.fsa_model.specs.Create.{try_create}
+use Rattle.fsa_model.specs.Open.{try_create}
 use Rattle.fsa_model.specs.Read.{try_read}
 use Rattle.fsa_model.specs.Write.{try_write}
 use Rattle.fsa_model.specs.Close.{try_close, try_leave}
@@ -22,7 +22,17 @@ use Rattle.fsa_model.specs.Close.{try_close, try_leave}
 -- one try of a request, from its first check; of a request that no script can make yet nothing is promised
 abbrev pub try_request : Volume → ℕ → ℕ → Request → Outcome
 try_request v client number (Create path wanted share disposition options attributes key) =
-    try_create v (record { client = client; number = number; access = wanted; share = share }) disposition path
+    try_create v (record {
+      client = client;
+      number = number;
+      path = path;
+      wanted = wanted;
+      share = share;
+      disposition = disposition;
+      options = options;
+      attributes = attributes;
+      key = key;
+    })
 try_request v client number (Close handle) = try_close v client handle
 try_request v client number (Read handle at count) = try_read v client handle at count
 try_request v client number (Write handle at bytes) = try_write v client handle at bytes
@@ -56,7 +66,7 @@ answer_of (Hold v blockers interim) = Pending interim
 
 -- the call has ended, or is pending in this turn with what it waits for
 abbrev pub answered : Call → ℕ → Outcome → Volume
-answered call turn (Done v reply) = with_end v (record { client = call.client; number = call.number; reply = reply })
+answered call turn (Done v reply) = with_end v call.client call.number reply
 answered call turn (Stay v interim) = with_pending v turn call []
 answered call turn (Hold v blockers interim) = with_pending v turn call blockers
 

@@ -1,0 +1,158 @@
+-- Lines of opens, worked by hand: what their bytes say, how they are written, which are no lines, and a
+-- turn of an open.
+use Rattle.std.specs.Prelude.{◌≡◌, ℕ, true, false, List, [], ◌∷◌, map, Some, None, option_map, Result, Ok, Err, codes, refl}
+use Rattle.fsa_types.specs.CaseTable.{ascii_pairs}
+use Rattle.fsa_types.specs.declared.request.Disposition.{Disposition}
+use Rattle.fsa_types.specs.declared.request.Disposition.TheVariants.{Supersede, OpenExisting, CreateNew, OpenIf, Overwrite, OverwriteIf}
+use Rattle.fsa_types.specs.declared.request.Request.TheVariants.{Create}
+use Rattle.fsa_types.specs.declared.request.What.TheVariants.{Ask}
+use Rattle.fsa_types.specs.declared.reply.Action.TheVariants.{Created}
+use Rattle.fsa_types.specs.declared.reply.Answer.TheVariants.{Ended}
+use Rattle.fsa_types.specs.declared.reply.Body.TheVariants.{Nothing, Opened}
+use Rattle.fsa_types.specs.declared.reply.EndOf.{EndOf}
+use Rattle.fsa_types.specs.declared.status.Status.TheVariants.{Success, CannotDelete}
+use Rattle.fsa_model.specs.Fault.{Kind, BadSyntax}
+use Rattle.fsa_model.specs.Lines.{Line, RequestLine, request_of, line_of}
+use Rattle.fsa_model.specs.Open.{try_create, create_at, create_walked, create_named, create_by_link, create_found, create_there, create_in_file, create_stream, create_on_stream, open_stream, open_directory, open_granted, overwrite_existing, open_existing, clashed, create_missing, make_file, make_directory, stopped}
+use Rattle.fsa_model.specs.Outcome.{TurnOut}
+use Rattle.fsa_model.specs.Requests.{disposition_at, what_of}
+use Rattle.fsa_model.specs.Requests as requests
+use Rattle.fsa_model.specs.Spelling.{line_text}
+use Rattle.fsa_model.specs.Turn.{turn}
+use Rattle.fsa_model.specs.Volume.{File, Handle, Volume, fresh, root}
+use Rattle.fsa_model.specs.Words.{field_at, number_at, mask_of, mask_at, text_of, text_at}
+
+-- call 1 of client `a`: wanted, share, how, options, attributes and key
+abbrev pub opens : List ℕ → ℕ → ℕ → Disposition → ℕ → ℕ → ℕ → Line
+opens path wanted share disposition options attributes key =
+    RequestLine (codes "a") 1 (Ask (Create path wanted share disposition options attributes key))
+
+-- an open in each of the six ways
+abbrev pub lines : List (List ℕ)
+lines =
+    codes "a 1 create =\\A 0x3 0x0 supersede 0x0 0x0 0"
+    ∷ codes "a 1 create =\\d\\x:s:$DATA 0x10000000 0x7 open 0x200100 0x1 18446744073709551615"
+    ∷ codes "a 1 create =\\ 0x1 0x7 create 0x1 0x31b7 5"
+    ∷ codes "a 1 create = 0x0 0x8 open_if 0x41 0x80000000 10"
+    ∷ codes "a 1 create =%0025%0020%D83D%DE00 0xffffffff 0xffffffff overwrite 0xffffefff 0xffffffff 7"
+    ∷ codes "a 1 create =\\A 0x12019f 0x5 overwrite_if 0x60 0x20 0"
+    ∷ []
+
+abbrev pub said : List Line
+said =
+    opens (codes "\\A") 0x3 0x0 Supersede 0x0 0x0 0
+    ∷ opens (codes "\\d\\x:s:$DATA") 0x10000000 0x7 OpenExisting 0x200100 0x1 18446744073709551615
+    ∷ opens (codes "\\") 0x1 0x7 CreateNew 0x1 0x31B7 5
+    ∷ opens [] 0x0 0x8 OpenIf 0x41 0x80000000 10
+    ∷ opens (37 ∷ 32 ∷ 0xD83D ∷ 0xDE00 ∷ []) 0xFFFFFFFF 0xFFFFFFFF Overwrite 0xFFFFEFFF 0xFFFFFFFF 7
+    ∷ opens (codes "\\A") 0x12019F 0x5 OverwriteIf 0x60 0x20 0
+    ∷ []
+
+pub opens_said : map line_of lines ≡ map {B = Result Line Kind} Ok said
+unfolding line_of request_of what_of requests.create_at text_at text_of mask_at mask_of disposition_at number_at field_at
+opens_said = refl
+
+-- written, with small numbers
+pub opens_written :
+    map line_text (
+    opens (codes "\\A") 0x3 0x0 Supersede 0x0 0x0 0
+    ∷ opens (codes "\\d\\x:s") 0x20 0x7 OpenExisting 0x40 0x1 10
+    ∷ opens (codes "\\") 0x1 0x7 CreateNew 0x1 0x10 5
+    ∷ opens [] 0x0 0x8 OpenIf 0x41 0x0 9
+    ∷ opens (37 ∷ 32 ∷ 0xD83D ∷ 127 ∷ []) 0xF 0x1F Overwrite 0xAB 0x3 7
+    ∷ opens (codes "~!") 0x9 0x5 OverwriteIf 0x60 0x20 0
+    ∷ [])
+    ≡ codes "a 1 create =\\A 0x3 0x0 supersede 0x0 0x0 0"
+    ∷ codes "a 1 create =\\d\\x:s 0x20 0x7 open 0x40 0x1 10"
+    ∷ codes "a 1 create =\\ 0x1 0x7 create 0x1 0x10 5"
+    ∷ codes "a 1 create = 0x0 0x8 open_if 0x41 0x0 9"
+    ∷ codes "a 1 create =%0025%0020%D83D%007F 0xf 0x1f overwrite 0xab 0x3 7"
+    ∷ codes "a 1 create =~! 0x9 0x5 overwrite_if 0x60 0x20 0"
+    ∷ []
+opens_written = refl
+
+-- a key of 2^64 or with a leading zero; a mask with nine digits, with a leading zero, in upper case, or
+-- without `0x`; a way that there isn't; a field too few or too many, a space at the end; a path without
+-- `=`, with a lower-case or a short escape, or with a space; and DELETE_ON_CLOSE, which isn't built
+pub no_opens :
+    map line_of (
+    codes "a 1 create =\\A 0x3 0x0 open 0x0 0x0 18446744073709551616"
+    ∷ codes "a 1 create =\\A 0x3 0x0 open 0x0 0x0 00"
+    ∷ codes "a 1 create =\\A 0x100000000 0x0 open 0x0 0x0 0"
+    ∷ codes "a 1 create =\\A 0x03 0x0 open 0x0 0x0 0"
+    ∷ codes "a 1 create =\\A 0x3 0xA open 0x0 0x0 0"
+    ∷ codes "a 1 create =\\A 3 0x0 open 0x0 0x0 0"
+    ∷ codes "a 1 create =\\A 0x3 0x0 opened 0x0 0x0 0"
+    ∷ codes "a 1 create =\\A 0x3 0x0 open 0x0 0x0"
+    ∷ codes "a 1 create =\\A 0x3 0x0 open 0x0 0x0 0 0"
+    ∷ codes "a 1 create =\\A 0x3 0x0 open 0x0 0x0 0 "
+    ∷ codes "a 1 create \\A 0x3 0x0 open 0x0 0x0 0"
+    ∷ codes "a 1 create =%d83d 0x3 0x0 open 0x0 0x0 0"
+    ∷ codes "a 1 create =%041 0x3 0x0 open 0x0 0x0 0"
+    ∷ codes "a 1 create =a b 0x3 0x0 open 0x0 0x0 0"
+    ∷ codes "a 1 create =\\A 0x10003 0x0 open 0x1000 0x0 0"
+    ∷ [])
+    ≡ Err BadSyntax
+    ∷ Err BadSyntax
+    ∷ Err BadSyntax
+    ∷ Err BadSyntax
+    ∷ Err BadSyntax
+    ∷ Err BadSyntax
+    ∷ Err BadSyntax
+    ∷ Err BadSyntax
+    ∷ Err BadSyntax
+    ∷ Err BadSyntax
+    ∷ Err BadSyntax
+    ∷ Err BadSyntax
+    ∷ Err BadSyntax
+    ∷ Err BadSyntax
+    ∷ Err BadSyntax
+    ∷ []
+unfolding line_of request_of what_of requests.create_at text_at text_of mask_at mask_of disposition_at number_at field_at
+no_opens = refl
+
+-- ---- a turn of an open
+
+-- each field comes to its place; READONLY with DELETE_ON_CLOSE makes nothing
+abbrev pub begun : Volume
+begun = record (fresh (record { table = ascii_pairs; clients = record { name = codes "a"; sids = 7 ∷ [] } ∷ record { name = codes "b"; sids = 9 ∷ [] } ∷ [] })) { clock = 6 }
+
+pub turn_of_a_refused_open :
+    option_map {U = TurnOut × List (ℕ × File) × List (ℕ × Handle) × List EndOf} (λ turned. (turned.out, turned.volume.files, turned.volume.handles, turned.volume.ended))
+    (turn begun (record { client = 1; number = 3; what = Ask (Create (codes "\\n:s") 0x110001 0x6 OpenIf 0x1140 0x1 12) }) [])
+    ≡ Some (
+      record { answer = Ended (record { status = CannotDelete; body = Nothing }); ended = []; starved = [] },
+      (1, root) ∷ [],
+      [],
+      record { client = 1; number = 3; reply = record { status = CannotDelete; body = Nothing } } ∷ [],
+    )
+unfolding try_create create_at create_walked create_named create_by_link create_found create_there create_in_file create_stream create_on_stream open_stream open_directory open_granted overwrite_existing open_existing clashed create_missing make_file make_directory stopped
+turn_of_a_refused_open = refl
+
+pub turn_of_an_open :
+    option_map {U = TurnOut × List (ℕ × File) × List (ℕ × Handle) × List EndOf} (λ turned. (turned.out, turned.volume.files, turned.volume.handles, turned.volume.ended))
+    (turn begun (record { client = 1; number = 3; what = Ask (Create (codes "\\n:s") 0x110001 0x6 OpenIf 0x1140 0x2 12) }) [])
+    ≡ Some (
+      record { answer = Ended (record { status = Success; body = Opened Created }); ended = []; starved = [] },
+      (1, root)
+          ∷ (2, record { directory = false; attributes = 0x22; creation = 6; access = 6; write = 6; change = 6; owner = 9; dacl = None; point = None })
+          ∷ [],
+      (
+        1,
+        record {
+          client = 1;
+          number = 3;
+          link = 1;
+          stream = Some 2;
+          access = 0x110001;
+          share = 0x6;
+          key = 12;
+          delete_on_close = true;
+          enumeration = None;
+        },
+      )
+          ∷ [],
+      record { client = 1; number = 3; reply = record { status = Success; body = Opened Created } } ∷ [],
+    )
+unfolding try_create create_at create_walked create_named create_by_link create_found create_there create_in_file create_stream create_on_stream open_stream open_directory open_granted overwrite_existing open_existing clashed create_missing make_file make_directory stopped
+turn_of_an_open = refl
