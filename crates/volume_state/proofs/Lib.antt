@@ -1,5 +1,6 @@
-pub mod BytesLemmas
-pub mod ChangeLemmas
+pub mod GrowthLemmas
+pub mod HandleLaws
+pub mod MarkLaws
 pub mod OpenLaws
 pub mod PathLaws
 pub mod StreamLemmas

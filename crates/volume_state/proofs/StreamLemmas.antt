@@ -12,7 +12,7 @@ use Rattle.fsa_types.specs.StreamBytes.{put, cut}
 use Rattle.fsa_types.proofs.RowLemmas.{AreRising, AreRising-rest, AreRising-first, map-change, map-unseen, row_of-map, with_row_changed-none}
 use Rattle.fsa_model.specs.Volume.{Stream}
 use Rattle.fsa_model.proofs.RowLaws.{option_cases}
-use Rattle.volume_state.specs.Streams.{Kept, Reserved, streams_in}
+use Rattle.volume_rows.specs.Streams.{Kept, Reserved, streams_in}
 
 -- a change of the row of a number, where the row is found, as a table tells it
 abbrev pub ChangesOne : List (ℕ × Kept) → ℕ → Type 0

@@ -2,7 +2,7 @@
 use Rattle.std.specs.Prelude.{◌≡◌, ℕ, ◌≤◌, Option, Some, option_and_then}
 use Rattle.fsa_types.specs.Rows.{row_of}
 use Rattle.fsa_model.specs.Volume.{Volume}
-use Rattle.volume_state.specs.declared.rows.Need.{Need}
+use Rattle.volume_rows.specs.declared.rows.Need.{Need}
 use Rattle.volume_state.specs.Seen.{Spare, room_for, CanWrite}
 
 -- the stream of a handle, where it has one

@@ -8,9 +8,9 @@ ghost use Rattle.fsa_model.specs.Lookups.{has_row, is_directory, stream_of};
 ghost use Rattle.fsa_model.specs.Sound.{LeadsUp, PointFits};
 ghost use Rattle.volume_state.specs.Seen.{room_for};
 
-use crate::rows::FileRow;
 use crate::volume::Volume;
 use object_tables::Table;
+use volume_rows::FileRow;
 
 impl Volume {
     /// The file number of the root directory. It has no link; 0, which stands for one, is no link's

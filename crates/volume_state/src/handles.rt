@@ -8,8 +8,8 @@ ghost use Rattle.fsa_model.specs.Lookups.{handle_of, is_opened_by, next_handle_o
 ghost use Rattle.fsa_model.specs.Sound.{is_of_living, has_its_stream};
 ghost use Rattle.volume_state.specs.Room.{IsNoLess};
 
-use crate::rows::HandleRow;
 use crate::volume::Volume;
+use volume_rows::{HandleRow, find_handle};
 
 impl Volume {
     /// The handle of this number; `None` exactly where there is none.
@@ -27,6 +27,7 @@ impl Volume {
     pub fn handle_of(&self, client: u32, number: u32) -> Option<u64>
         ensures found { result ≡ handle_of self.now.content client number }
         ensures lives { IfSome result (λ id. IsTrue (lives self.now.content.handles id)) }
+        ensures opened { IfSome result (λ id. IfSome (row_of self.now.content.handles id) (λ row. IsTrue (is_opened_by client number row))) }
     {
         find_handle(self.handles.as_slice(), client, number)
     }
@@ -59,21 +60,4 @@ impl Volume {
     {
         let _ = self.handles.remove(handle);
     }
-}
-
-// Whether this call of this client opened the handle.
-fn is_opened_by(client: u32, number: u32, handle: &HandleRow) -> bool
-    ensures { result ≡ is_opened_by client number handle.now }
-{
-    handle.client == client && handle.number == number
-}
-
-// The first handle that this call of this client opened.
-fn find_handle(handles: &[(u64, HandleRow)], client: u32, number: u32) -> Option<u64>
-    ensures { result ≡ option_map (λ entry. entry.0) (find (λ entry. is_opened_by client number entry.1) handles.now) }
-{
-    handles
-        .iter()
-        .find(|entry| is_opened_by(client, number, &entry.1))
-        .map(|entry| entry.0)
 }

@@ -4,8 +4,8 @@ ghost use Rattle.std.specs.Prelude.{◌≡◌, ◌==◌, ◌&&◌, is_some};
 ghost use Rattle.std.specs.List.{list_any};
 ghost use Rattle.fsa_model.specs.Lookups.{is_directory};
 
-use crate::rows::FileRow;
 use crate::volume::Volume;
+use volume_rows::has_directory;
 
 impl Volume {
     /// Whether there is a directory of this number.
@@ -14,20 +14,4 @@ impl Volume {
     {
         has_directory(self.files.as_slice(), file)
     }
-}
-
-// Whether a file is a directory.
-fn is_dir(file: &FileRow) -> bool
-    ensures { result ≡ file.now.directory }
-{
-    file.directory
-}
-
-// Whether one of these is a directory of this number.
-fn has_directory(files: &[(u64, FileRow)], file: u64) -> bool
-    ensures { result ≡ is_directory files.now file }
-{
-    files
-        .iter()
-        .any(|entry| entry.0 == file && is_dir(&entry.1))
 }

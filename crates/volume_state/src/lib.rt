@@ -1,6 +1,6 @@
 //! The volume: files, links, streams and handles, with all that belongs to them, always sound, behind
 //! calls that each change exactly one named thing. It knows no algorithm of [MS-FSA]; the crates of
-//! the verbs stand on it.
+//! the verbs stand on it. Its rows and the scans over them are those of `volume_rows`.
 //!
 //! Memory is taken first, and what changes the volume then can't be refused:
 //!
@@ -16,7 +16,8 @@
 //! The calls group so: making and room (`new`, `reserve`, `reserve_bytes`); what is there (`file`,
 //! `link`, `stream`, `handle`, `pending`, `ended`, each by number, and `child`, `stream_of`,
 //! `handle_of`, `next_handle_of`, `root`, `dir_link`, `has_child`, `handles_on`, `clashes`,
-//! `bytes_of`, `clock`, `has_left`, `table`, `sids`, `oplocks`); the room that a note takes
+//! `bytes_of`, `clock`, `has_left`, `table`, `sids`, `oplocks`); the space that streams take, and what an
+//! owner is charged for it and may be (`clusters`, `charge`, `limit`); the room that a note takes
 //! (`note_room`, `note_room_in`); changes of one table (`add_..`, `drop_..`,
 //! `mark_..`, `put_bytes`, `set_length`, `set_basic`, `end`, `leave`, `advance`); changes noted
 //! (`note`); and the break of oplocks (`begin`, `waited`).
@@ -36,19 +37,15 @@
 //! its contract is whole all the same.
 #![tactic(auto)]
 
-mod bytes;
-mod changes;
 mod files;
+mod growth;
 mod handles;
 mod kinds;
 mod links;
 mod notes;
-mod noting;
 mod opens;
 mod oplocks;
 mod room;
-mod rows;
-mod sharing;
 #[cfg(test)]
 mod steps;
 mod streams;
@@ -59,6 +56,6 @@ mod volume;
 
 pub use fsa_types::{Class, HandleSet};
 pub use room::NoteRoom;
-pub use rows::{Cursor, Enumeration, FileRow, HandleRow, LinkRow, Need, StreamInfo};
 pub use tried::Tried;
 pub use volume::Volume;
+pub use volume_rows::{Cursor, Enumeration, FileRow, HandleRow, LinkRow, Need, StreamInfo};

@@ -12,11 +12,11 @@ ghost use Rattle.volume_state.specs.Living.{is_link_to};
 ghost use Rattle.volume_state.specs.Paths.{units_in, dirs_in};
 ghost use Rattle.volume_state.specs.Seen.{room_for};
 
-use crate::rows::LinkRow;
 use crate::streams::drop_streams_of;
 use crate::volume::Volume;
-use fsa_types::{Name, UpcaseTable};
+use fsa_types::Name;
 use object_tables::Table;
+use volume_rows::{LinkRow, find_child, find_link_number, has_child, has_link};
 
 impl Volume {
     /// The link of this number; `None` exactly where there is none.
@@ -30,6 +30,7 @@ impl Volume {
         ensures directory { IfSome result (λ row. is_directory self.now.content.files row.now.file ≡ true → IsTrue (is_link_of_directory self.now.content.files self.now.content.links id)) }
         ensures childless { IfSome result (λ row. is_directory self.now.content.files row.now.file ≡ false → has_child self.now.content.links row.now.file ≡ false) }
         ensures number { IfSome result (λ row. (id == 0) ≡ false) }
+        ensures empty { IfSome result (λ row. row.now.deleted ≡ true → has_child self.now.content.links row.now.file ≡ false) }
         ensures lives { lives self.now.content.links id ≡ true → IsSome result }
 
         // A directory has no other link, so its mark is this one's.
@@ -50,7 +51,7 @@ impl Volume {
     pub fn dir_link(&self, dir: u64) -> u64
         ensures { result ≡ dir_link self.now.content dir }
     {
-        find_link_of(self.links.as_slice(), dir).unwrap_or(0)
+        find_link_number(self.links.as_slice(), dir).unwrap_or(0)
     }
 
     /// Whether some link, marked or not, has this parent.
@@ -103,6 +104,10 @@ impl Volume {
         ensures content { self.new.content ≡ with_link_marked self.old.content link deleted }
         ensures beside { self.new.beside ≡ self.old.beside }
         ensures room { self.new.spare ≡ self.old.spare }
+
+        // A note takes the room that it took.
+        ensures units { (other : ℕ) (stream : Option ℕ) → units_noted self.new.content other stream ≡ units_noted self.old.content other stream }
+        ensures dirs { (other : ℕ) (stream : Option ℕ) → dirs_noted self.new.content other stream ≡ dirs_noted self.old.content other stream }
     {
         mark_link(&mut self.links, link, deleted);
     }
@@ -140,64 +145,4 @@ fn mark_link(links: &mut Table<LinkRow>, link: u64, deleted: bool)
     if let Some(row) = links.get_mut(link) {
         row.deleted = deleted;
     }
-}
-
-// Whether a link has this name in this directory.
-fn is_named(table: &UpcaseTable, parent: u64, units: &[u16], link: &LinkRow) -> bool
-    ensures { result ≡ is_named table.now parent units.now link.now }
-{
-    link.parent == parent && table.same_name(link.name.units(), units)
-}
-
-// The first link of this name in this directory.
-fn find_child(
-    links: &[(u64, LinkRow)],
-    table: &UpcaseTable,
-    parent: u64,
-    units: &[u16],
-) -> Option<u64>
-    ensures { result ≡ option_map (λ entry. entry.0) (find (λ entry. is_named table.now parent units.now entry.1) links.now) }
-{
-    links
-        .iter()
-        .find(|entry| is_named(table, parent, units, &entry.1))
-        .map(|entry| entry.0)
-}
-
-// Whether a link is one of this file.
-fn is_link_of(link: &LinkRow, file: u64) -> bool
-    ensures { result ≡ (link.now.file == file) }
-{
-    link.file == file
-}
-
-// Whether a link has this parent.
-fn is_in(link: &LinkRow, dir: u64) -> bool
-    ensures { result ≡ (link.now.parent == dir) }
-{
-    link.parent == dir
-}
-
-// The number of the first link of this file.
-fn find_link_of(links: &[(u64, LinkRow)], file: u64) -> Option<u64>
-    ensures { result ≡ option_map (λ entry. entry.0) (link_of_file links.now file) }
-{
-    links
-        .iter()
-        .find(|entry| is_link_of(&entry.1, file))
-        .map(|entry| entry.0)
-}
-
-// Whether there is a link of this file.
-fn has_link(links: &[(u64, LinkRow)], file: u64) -> bool
-    ensures { result ≡ has_row (λ link. link.file == file) links.now }
-{
-    links.iter().any(|entry| is_link_of(&entry.1, file))
-}
-
-// Whether there is a link in this directory.
-fn has_child(links: &[(u64, LinkRow)], dir: u64) -> bool
-    ensures { result ≡ has_child links.now dir }
-{
-    links.iter().any(|entry| is_in(&entry.1, dir))
 }

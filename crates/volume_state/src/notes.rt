@@ -2,12 +2,12 @@
 
 ghost use Rattle.std.specs.Prelude.{ℕ, ◌≡◌, ◌≤◌, ◌+◌};
 ghost use Rattle.fsa_model.specs.Changes.{with_change_noted, units_noted, dirs_noted, stream_suffix};
-ghost use Rattle.volume_state.specs.Noting.{suffix_of};
-ghost use Rattle.volume_state.specs.Streams.{streams_in};
+ghost use Rattle.volume_rows.specs.Noting.{suffix_of};
+ghost use Rattle.volume_rows.specs.Streams.{streams_in};
 
-use crate::rows::StreamRow;
 use crate::volume::Volume;
 use object_tables::Table;
+use volume_rows::StreamRow;
 
 impl Volume {
     /// Notes a change of a link, of this stream of its file or else of the file, with this action and
@@ -19,6 +19,7 @@ impl Volume {
         requires units { units_noted self.old.content link stream ≤ self.old.spare.units }
         requires dirs { dirs_noted self.old.content link stream ≤ self.old.spare.dirs }
         ensures content { self.new.content ≡ with_change_noted self.old.content link action bits stream }
+        ensures rest { self.new.content ≡ record self.old.content { changes = self.new.content.changes } }
         ensures beside { self.new.beside ≡ self.old.beside }
         ensures others { self.new.spare ≡ record self.old.spare { changes = self.new.spare.changes; units = self.new.spare.units; dirs = self.new.spare.dirs } }
         ensures left { self.old.spare.changes ≤ self.new.spare.changes + 1 }

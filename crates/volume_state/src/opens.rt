@@ -1,16 +1,14 @@
 //! Handles of a stream, of a link, or below a directory.
 
-ghost use Rattle.std.specs.Prelude.{ℕ, ◌≡◌, ◌==◌, ◌&&◌, not, nat_lt, length, filter, find, option_map};
+ghost use Rattle.std.specs.Prelude.{ℕ, ◌≡◌, ◌==◌, ◌&&◌, not, nat_lt, length, filter, find, option_map, false, IsTrue, IfSome, IfNone};
 ghost use Rattle.std.specs.Option.{option_copied};
-ghost use Rattle.fsa_types.specs.Rows.{row_of};
+ghost use Rattle.fsa_types.specs.Rows.{row_of, lives, IsNumbered};
 ghost use Rattle.fsa_types.specs.Sharing.{clash};
 ghost use Rattle.fsa_model.specs.Lookups.{handles_on, has_row, is_after, is_below, is_on, is_one_of, clashes_on, leads_to, next_handle_of};
 
-use crate::noting::find_link_of;
-use crate::rows::{HandleRow, LinkRow};
-use crate::sharing::clash;
 use crate::volume::Volume;
 use fsa_types::HandleSet;
+use volume_rows::{count_on, find_next, some_clashes};
 
 impl Volume {
     /// How many handles of the set there are.
@@ -32,138 +30,14 @@ impl Volume {
 
     /// That client's handle with the least number above `after`; `None` exactly where there is none.
     pub fn next_handle_of(&self, client: u32, after: u32) -> Option<u64>
-        ensures { result ≡ next_handle_of self.now.content client after }
+        ensures found { result ≡ next_handle_of self.now.content client after }
+        ensures lives { IfSome result (λ id. IsTrue (lives self.now.content.handles id)) }
+        ensures after { IfSome result (λ id. IfSome (row_of self.now.content.handles id) (λ row. IsTrue (is_after client after row))) }
+        ensures none { IfNone result (has_row (is_after client after) self.now.content.handles ≡ false) }
+
+        // The numbers of handles rise, so a number has one row.
+        ensures numbers { IsNumbered self.now.content.handles self.now.content.last_handle }
     {
         find_next(self.handles.as_slice(), client, after)
     }
-}
-
-// Whether links lead from this directory up to that one.
-fn leads_to(links: &[(u64, LinkRow)], above: u64, dir: u64) -> bool
-    ensures { result ≡ leads_to (length links.now) links.now above dir }
-{
-    let mut at = dir;
-    let mut more = links.len();
-    'up: loop {
-        if at == above {
-            return true;
-        }
-        if more == 0 {
-            return false;
-        }
-        let Some(link) = find_link_of(links, at) else {
-            return false;
-        };
-        at = link.parent;
-        more -= 1;
-    }
-}
-
-// Whether this link lies below that directory.
-fn is_below(links: &[(u64, LinkRow)], above: u64, link: u64) -> bool
-    ensures { result ≡ is_below links.now above link }
-{
-    match find_row(links, link) {
-        None => false,
-        Some(row) => leads_to(links, above, row.parent),
-    }
-}
-
-// The link of this number.
-fn find_row(links: &[(u64, LinkRow)], link: u64) -> Option<&LinkRow>
-    ensures { option_copied result ≡ row_of links.now link }
-{
-    links
-        .iter()
-        .find(|entry| entry.0 == link)
-        .map(|entry| &entry.1)
-}
-
-// Whether a handle is one of the set.
-fn is_one_of(links: &[(u64, LinkRow)], on: HandleSet, handle: &HandleRow) -> bool
-    ensures { result ≡ is_one_of links.now on handle.now }
-{
-    match on {
-        HandleSet::Stream(stream) => handle.stream == Some(stream),
-        HandleSet::Link(link) => handle.link == link,
-        HandleSet::Below(dir) => is_below(links, dir, handle.link),
-    }
-}
-
-// How many handles are of the set.
-fn count_on(handles: &[(u64, HandleRow)], links: &[(u64, LinkRow)], on: HandleSet) -> usize
-    ensures { result ≡ length (filter (λ entry. is_one_of links.now on entry.1) handles.now) }
-{
-    handles
-        .iter()
-        .filter(|entry| is_one_of(links, on, &entry.1))
-        .count()
-}
-
-// Whether a handle is of the set and clashes.
-fn is_clashing(
-    links: &[(u64, LinkRow)],
-    on: HandleSet,
-    access: u32,
-    share: u32,
-    handle: &HandleRow,
-) -> bool
-    ensures { result ≡ (is_one_of links.now on handle.now && clash access share handle.now.access handle.now.share) }
-{
-    is_one_of(links, on, handle) && clash(access, share, handle.access, handle.share)
-}
-
-// Whether some handle is of the set and clashes.
-fn some_clashes(
-    handles: &[(u64, HandleRow)],
-    links: &[(u64, LinkRow)],
-    on: HandleSet,
-    access: u32,
-    share: u32,
-) -> bool
-    ensures { result ≡ has_row (λ handle. is_one_of links.now on handle && clash access share handle.access handle.share) handles.now }
-{
-    handles
-        .iter()
-        .any(|entry| is_clashing(links, on, access, share, &entry.1))
-}
-
-// Whether a handle is the client's, with a number above this one.
-fn is_after(client: u32, after: u32, handle: &HandleRow) -> bool
-    ensures { result ≡ is_after client after handle.now }
-{
-    handle.client == client && handle.number > after
-}
-
-// Whether a handle is the client's, with a number above `after` and below `before`.
-fn is_between(client: u32, after: u32, before: u32, handle: &HandleRow) -> bool
-    ensures { result ≡ (is_after client after handle.now && nat_lt handle.now.number before) }
-{
-    is_after(client, after, handle) && handle.number < before
-}
-
-// Whether there is such a handle.
-fn has_between(handles: &[(u64, HandleRow)], client: u32, after: u32, before: u32) -> bool
-    ensures { result ≡ has_row (λ other. is_after client after other && nat_lt other.number before) handles.now }
-{
-    handles
-        .iter()
-        .any(|entry| is_between(client, after, before, &entry.1))
-}
-
-// Whether a handle is the client's first above `after`.
-fn is_next(handles: &[(u64, HandleRow)], client: u32, after: u32, handle: &HandleRow) -> bool
-    ensures { result ≡ (is_after client after handle.now && not (has_row (λ other. is_after client after other && nat_lt other.number handle.now.number) handles.now)) }
-{
-    is_after(client, after, handle) && !has_between(handles, client, after, handle.number)
-}
-
-// The client's first handle above `after`.
-fn find_next(handles: &[(u64, HandleRow)], client: u32, after: u32) -> Option<u64>
-    ensures { result ≡ option_map (λ entry. entry.0) (find (λ entry. is_after client after entry.1 && not (has_row (λ other. is_after client after other && nat_lt other.number entry.1.number) handles.now)) handles.now) }
-{
-    handles
-        .iter()
-        .find(|entry| is_next(handles, client, after, &entry.1))
-        .map(|entry| entry.0)
 }

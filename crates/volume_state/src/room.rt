@@ -2,13 +2,12 @@
 
 ghost use Rattle.std.specs.Prelude.{ℕ, ◌≡◌, ◌≤◌, ◌<◌, ◌+◌, ◌-◌, ◌^◌, length, IfSome, IfNone};
 ghost use Rattle.fsa_model.specs.Changes.{units_noted, dirs_noted};
-ghost use Rattle.volume_state.specs.Noting.{suffix_of};
+ghost use Rattle.volume_rows.specs.Noting.{suffix_of};
 ghost use Rattle.volume_state.specs.Paths.{units_above, dirs_above, units_in, dirs_in};
 
 use crate::notes::name_of_stream;
-use crate::noting::find_link_of;
-use crate::rows::LinkRow;
 use crate::volume::Volume;
+use volume_rows::{LinkRow, find_link_of};
 
 /// The room that a note of one change takes.
 #[derive(Clone, Copy, Debug, PartialEq, Eq)]

@@ -7,9 +7,9 @@ ghost use Rattle.fsa_types.specs.Rows.{lives};
 ghost use Rattle.volume_state.specs.Paths.{units_in, dirs_in};
 ghost use Rattle.volume_state.specs.Steps.{with_file_made, with_file_opened};
 
-use crate::rows::{FileRow, HandleRow, Need};
 use crate::volume::Volume;
 use fsa_types::{Class, HandleSet, Name, NoMemory};
+use volume_rows::{FileRow, HandleRow, Need};
 
 // The room that a file with one stream takes, with its link, a handle, and a note of the link and
 // one of the stream.

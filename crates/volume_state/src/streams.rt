@@ -1,6 +1,6 @@
 //! Streams and their bytes.
 
-ghost use Rattle.std.specs.Prelude.{ℕ, ◌≡◌, ◌≤◌, ◌<◌, ◌+◌, ◌-◌, ◌^◌, ◌==◌, ◌⊎◌, not, List, IsTrue, IsSome, IfSome, Some, None, OnOk, true, false, ◌&&◌, filter, map, option_map, find, length};
+ghost use Rattle.std.specs.Prelude.{ℕ, ◌≡◌, ◌≤◌, ◌<◌, ◌+◌, ◌-◌, ◌^◌, ◌==◌, ◌⊎◌, not, List, Option, IsTrue, IsSome, IfSome, Some, None, OnOk, true, false, ◌&&◌, filter, map, option_map, find, length};
 ghost use Rattle.std.specs.Option.{option_copied, option_map_or};
 ghost use Rattle.fsa_types.specs.Rows.{row_of, lives, with_row_changed};
 ghost use Rattle.fsa_types.specs.CaseTable.{same_name};
@@ -8,22 +8,24 @@ ghost use Rattle.fsa_model.specs.Changes.{units_noted, dirs_noted};
 ghost use Rattle.fsa_model.specs.Edits.{with_stream, with_stream_marked, with_bytes, with_length, without_stream};
 ghost use Rattle.fsa_model.specs.Lookups.{stream_of, bytes_of, has_row, is_directory, is_open_on, is_stream_named};
 ghost use Rattle.fsa_model.specs.Sound.{is_stream_of_link};
-ghost use Rattle.volume_state.specs.Infos.{info_of};
+ghost use Rattle.volume_rows.specs.Infos.{info_of};
 ghost use Rattle.volume_state.specs.Living.{is_link_to};
 ghost use Rattle.volume_state.specs.Seen.{CanWrite, CanReach};
-ghost use Rattle.volume_state.specs.Streams.{KeepsStreams, ChangesStream};
+ghost use Rattle.volume_rows.specs.Streams.{KeepsStreams, ChangesStream};
 ghost use Rattle.fsa_types.specs.StreamBytes.{put, cut};
 
-use crate::rows::{StreamInfo, StreamRow};
 use crate::volume::Volume;
-use fsa_types::{Name, NoMemory, UpcaseTable};
+use fsa_types::{Name, NoMemory};
 use object_tables::Table;
+use volume_rows::{StreamInfo, StreamRow, find_stream, is_stream_of};
 
 impl Volume {
     /// The stream of this number, without its bytes; `None` exactly where there is none.
     pub fn stream(&self, id: u64) -> Option<&StreamInfo>
         ensures info { option_copied result ≡ option_map info_of (row_of self.now.content.streams id) }
         ensures lives { lives self.now.content.streams id ≡ true → IsSome result }
+        ensures file { IfSome result (λ info. IsTrue (lives self.now.content.files info.now.file)) }
+        ensures few { IfSome result (λ info. info.now.length ≤ 2 ^ 26) }
     {
         match self.streams.get(id) {
             None => None,
@@ -45,6 +47,7 @@ impl Volume {
     pub fn bytes_of(&self, stream: u64) -> &[u8]
         requires lives { IsTrue (lives self.now.content.streams stream) }
         ensures bytes { result.now ≡ bytes_of self.now.content stream }
+        ensures few { length result.now ≤ 2 ^ 26 }
     {
         match self.streams.get(stream) {
             None => unreachable!(),
@@ -92,6 +95,10 @@ impl Volume {
         ensures content { self.new.content ≡ with_stream_marked self.old.content stream deleted }
         ensures beside { self.new.beside ≡ self.old.beside }
         ensures room { self.new.spare ≡ self.old.spare }
+
+        // A note takes the room that it took.
+        ensures units { (link : ℕ) (of : Option ℕ) → units_noted self.new.content link of ≡ units_noted self.old.content link of }
+        ensures dirs { (link : ℕ) (of : Option ℕ) → dirs_noted self.new.content link of ≡ dirs_noted self.old.content link of }
     {
         mark_stream(&mut self.streams, stream, deleted);
     }
@@ -200,35 +207,6 @@ fn set_length_in(streams: &mut Table<StreamRow>, stream: u64, bytes: usize)
     if let Some(row) = streams.get_mut(stream) {
         row.set_length(bytes);
     }
-}
-
-// Whether a stream has this name in this file.
-fn is_stream_named(table: &UpcaseTable, file: u64, units: &[u16], stream: &StreamRow) -> bool
-    ensures { result ≡ is_stream_named table.now file units.now stream.now.stream }
-{
-    stream.info.file == file && table.same_name(stream.info.name.units(), units)
-}
-
-// The first stream of this name of this file.
-fn find_stream(
-    streams: &[(u64, StreamRow)],
-    table: &UpcaseTable,
-    file: u64,
-    units: &[u16],
-) -> Option<u64>
-    ensures { result ≡ option_map (λ entry. entry.0) (find (λ entry. is_stream_named table.now file units.now entry.1.stream) streams.now) }
-{
-    streams
-        .iter()
-        .find(|entry| is_stream_named(table, file, units, &entry.1))
-        .map(|entry| entry.0)
-}
-
-// Whether a stream is one of this file.
-fn is_stream_of(stream: &StreamRow, file: u64) -> bool
-    ensures { result ≡ (stream.now.stream.file == file) }
-{
-    stream.info.file == file
 }
 
 // Takes all streams of a file out.

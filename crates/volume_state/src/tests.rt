@@ -1,16 +1,17 @@
 //! Each call that takes memory, with ample memory; and what is noted, from each ancestor.
 
 ghost use Rattle.std.specs.Prelude.{ℕ, ◌≡◌, ◌≤◌, ◌<◌, ◌+◌, ◌-◌, ◌^◌, ◌==◌, ◌&&◌, IsTrue, IfOk, OnOk, All, None, true, false, length};
+ghost use Rattle.fsa_types.specs.Rows.{lives};
 ghost use Rattle.fsa_model.specs.Lookups.{child_of, is_directory, has_row};
 ghost use Rattle.fsa_model.specs.Sound.{LeadsUp};
 ghost use Rattle.volume_state.specs.Steps.{directory};
 
-use crate::rows::{FileRow, Need};
 use crate::steps::{make_file, nothing};
 use crate::volume::Volume;
 use fsa_types::{Bytes, Client, ClientList, Name, NoMemory, Setup, SidList, UpcaseTable};
 use std::alloc::Global;
 use std::test::Fail;
+use volume_rows::{FileRow, Need};
 
 // One client with one SID, and the default case table.
 fn setup(alloc: Global) -> Result<Setup, NoMemory>
@@ -216,5 +217,77 @@ fn a_note_of_the_root_notes_nothing(rt: HostRuntime) -> Result<(), Fail> {
     })?;
     volume.note(0, 1, 1, None);
     assert_eq!(rt; noted(&volume), (0, 0));
+    Ok(())
+}
+
+// A file of this owner, with no stream yet.
+fn file_of(volume: &mut Volume, owner: u32) -> Result<u64, NoMemory>
+    requires ids_left { volume.old.content.last_file < 2 ^ 32 - 4 }
+    ensures numbers { (volume.new.content.last_file ≤ volume.old.content.last_file + 1) × (volume.new.content.last_stream ≡ volume.old.content.last_stream) }
+    ensures lives { IfOk result (λ file. IsTrue (lives volume.new.content.files file)) }
+    ensures no_directory { IfOk result (λ file. is_directory volume.new.content.files file ≡ false) }
+{
+    volume.reserve(&Need {
+        files: 1,
+        owners: 1,
+        ..nothing()
+    })?;
+    Ok(volume.add_file(FileRow {
+        directory: false,
+        attributes: 0,
+        creation: 0,
+        access: 0,
+        write: 0,
+        change: 0,
+        owner,
+        dacl: None,
+        point: None,
+    }))
+}
+
+// A stream of this name of a file, so many bytes long.
+fn stream_in(
+    alloc: Global,
+    volume: &mut Volume,
+    file: u64,
+    units: &[u16],
+    bytes: u64,
+) -> Result<(), Fail>
+    requires ids_left { volume.old.content.last_stream < 2 ^ 32 - 4 }
+    requires few { bytes ≤ 2 ^ 26 }
+    requires file { IsTrue (lives volume.old.content.files file) }
+    requires no_directory { is_directory volume.old.content.files file ≡ false }
+    ensures numbers { (volume.new.content.last_stream ≤ volume.old.content.last_stream + 1) × (volume.new.content.last_file ≡ volume.old.content.last_file) }
+    ensures files { volume.new.content.files ≡ volume.old.content.files }
+{
+    let name = Name::copy_of(alloc, units)?;
+    if volume.stream_of(file, name.units()).is_some() {
+        return Err(Fail::from("the name is taken"));
+    }
+    volume.reserve(&Need {
+        streams: 1,
+        ..nothing()
+    })?;
+    let stream = volume.add_stream(file, name);
+    volume.reserve_bytes(stream, 0, bytes)?;
+    volume.set_length(stream, bytes);
+    Ok(())
+}
+
+#[test]
+fn an_owner_is_charged_whole_clusters(rt: HostRuntime) -> Result<(), Fail> {
+    let alloc = rt.alloc();
+    let mut volume = fresh_volume(alloc)?;
+    let first = file_of(&mut volume, 7)?;
+    stream_in(alloc, &mut volume, first, &[], 0)?;
+    stream_in(alloc, &mut volume, first, &[115], 4097)?;
+    let second = file_of(&mut volume, 9)?;
+    stream_in(alloc, &mut volume, second, &[], 1)?;
+    // none, 2 and 1
+    assert_eq!(rt; volume.clusters(), 3);
+    assert_eq!(rt; volume.charge(7), 8192);
+    assert_eq!(rt; volume.charge(9), 4096);
+    assert_eq!(rt; volume.charge(8), 0);
+    assert_eq!(rt; volume.limit(7), 18446744073709551615);
     Ok(())
 }

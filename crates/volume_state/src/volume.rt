@@ -9,12 +9,11 @@ ghost use Rattle.fsa_model.specs.Setup.{setup_of};
 ghost use Rattle.fsa_model.specs.Volume.{fresh, root};
 ghost use Rattle.volume_state.specs.Room.{HasRoom, IsNoLess};
 
-use crate::noting::Changes;
-use crate::rows::{FileRow, HandleRow, LinkRow, Need, StreamRow};
 use fsa_types::{Call, Client, ClientList, EndOf, NoMemory, Reply, Setup, UpcaseTable};
 use object_tables::{Series, Table};
 use std::alloc::{AllocError, Global};
 use std::marker::Model;
+use volume_rows::{Changes, FileRow, HandleRow, LinkRow, Need, StreamRow};
 
 /// A volume: its case table and clients, its files, links, streams and handles, its changes and the
 /// calls that have ended. It is always sound.

@@ -61,3 +61,8 @@ pub returns-clause-number : goal.returns-clause-number
 returns-clause-number c =
     let P : Link → Type 0 = λ row. (c.args.id == 0) ≡ false in
     lent-row P c.get.result _ c.get.ensures (found-number c.self.inside.links.rows c.args.id c.self.invariant.tree.numbers_are_not_0)
+
+pub returns-clause-empty : goal.returns-clause-empty
+returns-clause-empty c =
+    let P : Link → Type 0 = λ row. row.deleted ≡ true → has_child c.self.inside.links.rows row.file ≡ false in
+    rw (← c.self.view_is) (lent-row P c.get.result _ c.get.ensures (found-all P c.self.inside.links.rows c.args.id (λ k d within deleted. rw deleted at (c.self.invariant.tree.marked_are_empty k d within))))

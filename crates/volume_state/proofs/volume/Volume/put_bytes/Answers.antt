@@ -3,7 +3,7 @@ use Rattle.fsa_types.specs.Rows.{row_of}
 use Rattle.fsa_types.specs.StreamBytes.{put}
 use Rattle.fsa_model.proofs.SoundLaws.{IsSound-stream_changed}
 use Rattle.volume_state.specs.Inside.{content_of}
-use Rattle.volume_state.specs.Streams.{Kept}
+use Rattle.volume_rows.specs.Streams.{Kept}
 use Rattle.volume_state.proofs.StreamLemmas.{room-down, IfSome-weaker, length-put_le}
 use Rattle.volume_state.proofs.StreamLemmas.{rooms-same}
 use Rattle.volume_state.proofs.volume.Volume.put_bytes.Goals as goal

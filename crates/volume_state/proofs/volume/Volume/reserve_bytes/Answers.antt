@@ -1,6 +1,6 @@
 use Rattle.std.proofs.Common.{◌+◌, ◌≤◌, ◌≡◌, arith, sym, ◌∙◌}
 use Rattle.fsa_types.specs.Rows.{row_of}
-use Rattle.volume_state.specs.Streams.{Kept}
+use Rattle.volume_rows.specs.Streams.{Kept}
 use Rattle.fsa_types.proofs.RowLemmas.{lives-map}
 use Rattle.volume_state.proofs.StreamLemmas.{room-up, IfSome-weaker, OnOk-weaker}
 use Rattle.volume_state.proofs.StreamLemmas.{rooms-same}

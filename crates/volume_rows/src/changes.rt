@@ -1,0 +1,140 @@
+//! The log of changes.
+
+ghost use Rattle.std.specs.Prelude.{ℕ, ◌≡◌, ◌≤◌, ◌<◌, ◌+◌, ◌-◌, ◌++◌, ◌∷◌, [], length, reverse, OnOk};
+
+use fsa_types::NoMemory;
+use object_tables::Series;
+use std::alloc::Global;
+use std::marker::Model;
+
+/// Where the path of a change and its ancestors lie in the log.
+#[derive(Clone, Copy, Debug, PartialEq, Eq)]
+pub struct Entry {
+    /// The action.
+    pub action: u32,
+    /// The filter bits.
+    pub bits: u32,
+    /// Where its path begins.
+    pub first_unit: usize,
+    /// How many units its path has.
+    pub units: usize,
+    /// Where its ancestors begin.
+    pub first_dir: usize,
+    /// How many ancestors it has.
+    pub dirs: usize,
+}
+
+/// The changes in order, and a change begun. Paths are written from their last unit to their first,
+/// so that the name relative to an ancestor is the part that was written when the ancestor is reached.
+#[derive(Debug, Drop)]
+pub struct ChangeLog {
+    /// Where each change lies.
+    pub entries: Series<Entry>,
+    /// The units of all paths.
+    pub units: Series<u16>,
+    /// The ancestors of all changes, each with how many units of the path were written when it was
+    /// reached.
+    pub dirs: Series<(u64, usize)>,
+    first_unit: usize,
+    first_dir: usize,
+}
+
+impl Model for ChangeLog {
+    ghost use Rattle.std.specs.Prelude.{drop, map};
+    ghost use Rattle.volume_rows.specs.Changes.{Log, IsLog, changes_of, relative};
+
+    ghost Value = { Log };
+
+    ghost view = { λ l. record {
+      changes = changes_of l.units.items l.dirs.items l.entries.items;
+      path = drop l.first_unit l.units.items;
+      seen = map (relative (drop l.first_unit l.units.items)) (drop l.first_dir l.dirs.items);
+      room = l.entries.room;
+      units = l.units.room;
+      dirs = l.dirs.room;
+    } };
+
+    ghost invariant = { λ l. IsLog l.units.items l.dirs.items l.entries.items l.first_unit l.first_dir };
+}
+
+impl ChangeLog {
+    // No change, and none begun.
+    pub(crate) fn new(alloc: Global) -> ChangeLog
+        ensures changes { result.changes ≡ [] }
+        ensures path { result.path ≡ [] }
+        ensures seen { result.seen ≡ [] }
+    {
+        ChangeLog {
+            entries: Series::new(alloc),
+            units: Series::new(alloc),
+            dirs: Series::new(alloc),
+            first_unit: 0,
+            first_dir: 0,
+        }
+    }
+
+    // Takes room for so many changes, units and ancestors in all.
+    pub(crate) fn reserve(
+        &mut self,
+        changes: usize,
+        units: usize,
+        dirs: usize,
+    ) -> Result<(), NoMemory>
+        ensures same { (self.new.changes ≡ self.old.changes) × (self.new.path ≡ self.old.path) × (self.new.seen ≡ self.old.seen) }
+        ensures room { OnOk result ((changes ≤ self.new.room) × (units ≤ self.new.units) × (dirs ≤ self.new.dirs)) }
+        ensures kept { (self.old.room ≤ self.new.room) × (self.old.units ≤ self.new.units) × (self.old.dirs ≤ self.new.dirs) }
+    {
+        self.entries.reserve(changes)?;
+        self.units.reserve(units)?;
+        self.dirs.reserve(dirs)?;
+        Ok(())
+    }
+
+    // Puts a unit before the path begun.
+    pub(crate) fn add_unit(&mut self, unit: u16)
+        requires room { 1 ≤ self.old.units }
+        ensures path { self.new.path ≡ self.old.path ++ unit ∷ [] }
+        ensures seen { self.new.seen ≡ self.old.seen }
+        ensures changes { self.new.changes ≡ self.old.changes }
+        ensures others { (self.new.room ≡ self.old.room) × (self.new.dirs ≡ self.old.dirs) }
+        ensures left { self.old.units ≤ self.new.units + 1 }
+    {
+        self.units.push(unit);
+    }
+
+    // The change begun is seen from this ancestor, by the path begun.
+    pub(crate) fn add_dir(&mut self, dir: u64)
+        requires room { 1 ≤ self.old.dirs }
+        ensures path { self.new.path ≡ self.old.path }
+        ensures seen { self.new.seen ≡ self.old.seen ++ (dir, reverse self.old.path) ∷ [] }
+        ensures changes { self.new.changes ≡ self.old.changes }
+        ensures others { (self.new.room ≡ self.old.room) × (self.new.units ≡ self.old.units) }
+        ensures left { self.old.dirs ≤ self.new.dirs + 1 }
+    {
+        let written = self.units.len() - self.first_unit;
+        self.dirs.push((dir, written));
+    }
+
+    // Notes the change begun, and begins another.
+    pub(crate) fn finish(&mut self, action: u32, bits: u32)
+        requires room { 1 ≤ self.old.room }
+        ensures path { self.new.path ≡ [] }
+        ensures seen { self.new.seen ≡ [] }
+        ensures changes { self.new.changes ≡ self.old.changes ++ record { action = action; bits = bits; seen_from = self.old.seen } ∷ [] }
+        ensures others { (self.new.units ≡ self.old.units) × (self.new.dirs ≡ self.old.dirs) }
+        ensures left { self.old.room ≤ self.new.room + 1 }
+    {
+        let units = self.units.len() - self.first_unit;
+        let dirs = self.dirs.len() - self.first_dir;
+        self.entries.push(Entry {
+            action,
+            bits,
+            first_unit: self.first_unit,
+            units,
+            first_dir: self.first_dir,
+            dirs,
+        });
+        self.first_unit = self.units.len();
+        self.first_dir = self.dirs.len();
+    }
+}

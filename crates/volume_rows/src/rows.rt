@@ -1,0 +1,291 @@
+//! The rows of a volume: files, links, streams and handles.
+
+ghost use Rattle.std.specs.Prelude.{◌≡◌, ◌≤◌, ◌+◌, ◌⊎◌, length, OnOk};
+ghost use Rattle.fsa_types.specs.StreamBytes.{put, cut};
+
+use crate::bytes::put_at;
+use fsa_types::{Bytes, Dacl, Name, NoMemory};
+use std::marker::Model;
+
+/// A file or a directory, after [MS-FSA] 'Per File'. Times are ticks of the volume's clock.
+#[derive(Debug, Drop)]
+pub struct FileRow {
+    /// Whether it is a directory.
+    pub directory: bool,
+    /// READONLY, HIDDEN, SYSTEM and ARCHIVE, as kept.
+    pub attributes: u32,
+    /// When it was made.
+    pub creation: u64,
+    /// When it was last read; requests alone set it.
+    pub access: u64,
+    /// When its bytes were last changed.
+    pub write: u64,
+    /// When it was last changed.
+    pub change: u64,
+    /// The SID of its owner.
+    pub owner: u32,
+    /// Its access list; without one all access is granted.
+    pub dacl: Option<Dacl>,
+    /// The tag and the bytes of its reparse point, at most 16,376 bytes.
+    pub point: Option<(u32, Bytes)>,
+}
+
+impl Model for FileRow {
+    ghost use Rattle.std.specs.Prelude.{option_map};
+    ghost use Rattle.fsa_model.specs.Volume.{File};
+
+    ghost Value = { File };
+
+    ghost view = { λ r. record {
+      directory = r.directory;
+      attributes = r.attributes;
+      creation = r.creation;
+      access = r.access;
+      write = r.write;
+      change = r.change;
+      owner = r.owner;
+      dacl = option_map (λ dacl. dacl.items) r.dacl;
+      point = r.point;
+    } };
+}
+
+impl FileRow {
+    /// Sets the times and the attributes.
+    pub fn set_basic(
+        &mut self,
+        creation: u64,
+        access: u64,
+        write: u64,
+        change: u64,
+        attributes: u32,
+    )
+        ensures { self.new ≡ record self.old { creation = creation; access = access; write = write; change = change; attributes = attributes } }
+    {
+        self.creation = creation;
+        self.access = access;
+        self.write = write;
+        self.change = change;
+        self.attributes = attributes;
+    }
+}
+
+/// A name of a file in its parent directory, after [MS-FSA] 'Per Link'.
+#[derive(Debug, Drop)]
+pub struct LinkRow {
+    /// The file number of the parent directory.
+    pub parent: u64,
+    /// The name, as it was given.
+    pub name: Name,
+    /// The file that it names.
+    pub file: u64,
+    /// Whether it is marked for deletion.
+    pub deleted: bool,
+}
+
+impl Model for LinkRow {
+    ghost use Rattle.fsa_model.specs.Volume.{Link};
+
+    ghost Value = { Link };
+
+    ghost view = { λ r. record { parent = r.parent; name = r.name; file = r.file; deleted = r.deleted } };
+}
+
+/// Where an enumeration of a directory stands.
+#[derive(Debug, Drop)]
+pub enum Cursor {
+    /// At its start.
+    Start,
+    /// After `.`.
+    Dot,
+    /// After `..`.
+    DotDot,
+    /// After this name.
+    After(Name),
+}
+
+/// The enumeration of a directory through a handle.
+#[derive(Debug, Drop)]
+pub struct Enumeration {
+    /// The expression that names have to match.
+    pub expression: Name,
+    /// Where it stands.
+    pub cursor: Cursor,
+}
+
+/// An open, after [MS-FSA] 'Per Open'.
+#[derive(Debug, Drop)]
+pub struct HandleRow {
+    /// The client, by its place in the setup.
+    pub client: u32,
+    /// The number of the client's call that opened it.
+    pub number: u32,
+    /// The link by which it was opened; 0 for the root.
+    pub link: u64,
+    /// Its stream; `None` exactly for a directory.
+    pub stream: Option<u64>,
+    /// The rights that were granted, as an `AccessMask`.
+    pub access: u32,
+    /// What others may have, as a `ShareAccess`.
+    pub share: u32,
+    /// The oplock key; 0 is the key of no other handle.
+    pub key: u64,
+    /// Whether the link or stream is marked for deletion when it closes.
+    pub delete_on_close: bool,
+    /// Its enumeration; `None` before the first query.
+    pub enumeration: Option<Enumeration>,
+}
+
+impl Model for HandleRow {
+    ghost use Rattle.std.specs.Prelude.{option_map};
+    ghost use Rattle.fsa_model.specs.Volume.{Handle};
+
+    ghost Value = { Handle };
+
+    ghost use Rattle.volume_rows.specs.Cursors.{cursor_of};
+
+    ghost view = { λ r. record {
+      client = r.client;
+      number = r.number;
+      link = r.link;
+      stream = r.stream;
+      access = r.access;
+      share = r.share;
+      key = r.key;
+      delete_on_close = r.delete_on_close;
+      enumeration = option_map (λ e. (e.expression, cursor_of e.cursor)) r.enumeration;
+    } };
+}
+
+/// A stream of a file, after [MS-FSA] 'Per Stream', without its bytes.
+#[derive(Debug, Drop)]
+pub struct StreamInfo {
+    /// Its file.
+    pub file: u64,
+    /// Its name; that of the default stream is empty.
+    pub name: Name,
+    /// How many bytes it has.
+    pub length: u64,
+    /// Whether it is marked for deletion.
+    pub deleted: bool,
+}
+
+/// A stream with its bytes.
+#[derive(Debug, Drop)]
+pub struct StreamRow {
+    /// All but its bytes.
+    pub info: StreamInfo,
+    /// Its bytes.
+    pub bytes: Vec<u8>,
+}
+
+impl Model for StreamRow {
+    ghost use Rattle.std.specs.Prelude.{◌≡◌};
+    ghost use Rattle.std.specs.Vec.{vec_capacity, vec_len};
+    ghost use Rattle.volume_rows.specs.Streams.{Kept};
+
+    ghost Value = { Kept };
+
+    ghost view = { λ r. record {
+      stream = record { file = r.info.file; name = r.info.name; bytes = r.bytes.items; deleted = r.info.deleted };
+      room = record { from = 0; to = vec_capacity r.bytes };
+    } };
+
+    ghost invariant = { λ r. r.info.length ≡ vec_len r.bytes };
+}
+
+/// Room to be taken, for how many more of each kind.
+#[derive(Clone, Copy, Debug, PartialEq, Eq)]
+pub struct Need {
+    /// Files and directories.
+    pub files: u32,
+    /// Links of the directory `parent`.
+    pub links: u32,
+    /// Streams.
+    pub streams: u32,
+    /// Handles.
+    pub handles: u32,
+    /// Owners of files.
+    pub owners: u32,
+    /// Byte-range locks on the stream of `handle`.
+    pub locks: u32,
+    /// Oplocks on the stream of `handle`.
+    pub oplocks: u32,
+    /// Watches.
+    pub watches: u32,
+    /// Quota limits.
+    pub limits: u32,
+    /// Pending calls.
+    pub pending: u32,
+    /// Blockers of pending calls, in all.
+    pub blockers: u32,
+    /// Changes to be noted.
+    pub changes: u32,
+    /// Ends of calls.
+    pub ends: u32,
+    /// UTF-16 units of the paths of the changes, in all.
+    pub units: u64,
+    /// Ancestor directories of the changes, in all.
+    pub dirs: u64,
+    /// The file number of a directory, or 0 where `links` is 0.
+    pub parent: u64,
+    /// A handle, or 0 where `locks` and `oplocks` are 0.
+    pub handle: u64,
+}
+
+impl StreamRow {
+    ghost use Rattle.volume_rows.specs.Infos.{info_of};
+    ghost use Rattle.volume_rows.specs.Streams.{Kept};
+
+    /// All but the bytes.
+    pub fn info(&self) -> &StreamInfo
+        ensures { result.now ≡ info_of self.now.stream }
+    {
+        &self.info
+    }
+
+    /// The name.
+    pub fn name(&self) -> &[u16]
+        ensures { result.now ≡ self.now.stream.name }
+    {
+        self.info.name.units()
+    }
+
+    /// The bytes.
+    pub fn bytes(&self) -> &[u8]
+        ensures { result.now ≡ self.now.stream.bytes }
+    {
+        self.bytes.as_slice()
+    }
+
+    /// Takes room for bytes up to `end`. `NoMemory` where there is none.
+    pub fn reserve(&mut self, end: usize) -> Result<(), NoMemory>
+        ensures stream { self.new.stream ≡ self.old.stream }
+        ensures room { OnOk result ((self.new.room.from ≡ 0) × (end ≤ self.new.room.to)) }
+    {
+        let length = self.bytes.len();
+        if length < end {
+            self.bytes.reserve(end - length)?;
+        }
+        Ok(())
+    }
+
+    /// Puts the piece at this place, a gap before it filled with zeros.
+    pub fn put(&mut self, at: usize, piece: &[u8])
+        requires room { at + length piece.now ≤ self.old.room.to }
+        ensures stream { self.new.stream ≡ record self.old.stream { bytes = put self.old.stream.bytes at piece.now } }
+    {
+        put_at(&mut self.bytes, at, piece);
+        self.info.length = self.bytes.len() as u64;
+    }
+
+    /// Makes the stream so long.
+    pub fn set_length(&mut self, new_length: usize)
+        requires room { (new_length ≤ self.old.room.to) ⊎ (new_length ≤ length self.old.stream.bytes) }
+        ensures stream { self.new.stream ≡ record self.old.stream { bytes = cut self.old.stream.bytes new_length } }
+    {
+        let Ok(()) = self.bytes.resize(new_length, 0) else {
+            unreachable!()
+        };
+        self.info.length = new_length as u64;
+    }
+}
