@@ -1,5 +1,5 @@
 -- Names that aren't empty.
-use Rattle.std.proofs.Common.{◌≡◌, ℕ, Bool, true, false, List, [], ◌∷◌, length, refl}
+use Rattle.std.proofs.Common.{◌≡◌, ℕ, true, false, List, [], ◌∷◌, length, refl}
 use Rattle.std.specs.Prelude.{◌==◌}
 use Rattle.fsa_types.specs.CaseTable.{same_name}
 

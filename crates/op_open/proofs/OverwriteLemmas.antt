@@ -1,5 +1,5 @@
 -- An overwrite that waits for no break, step by step.
-use Rattle.std.proofs.Common.{◌≡◌, ℕ, Bool, false, Some, None, refl}
+use Rattle.std.proofs.Common.{◌≡◌, ℕ, false, Some, None, refl}
 use Rattle.fsa_types.specs.declared.oplock.Class.TheVariants.{Change}
 use Rattle.fsa_types.specs.declared.oplock.HandleSet.TheVariants.{Stream}
 use Rattle.fsa_types.specs.declared.status.Status.TheVariants.{Success}

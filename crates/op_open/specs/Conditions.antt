@@ -1,5 +1,5 @@
 -- What an open asks of the volume, and the room that it takes first.
-use Rattle.std.specs.Prelude.{◌≡◌, ℕ, ◌==◌, ◌||◌, ◌&&◌, ◌<◌, ◌≤◌, ◌-◌, ◌^◌, Bool, true, false, List, [], Option, Some, None, is_some, length, IsTrue, if◌then◌else◌}
+use Rattle.std.specs.Prelude.{◌≡◌, ℕ, ◌==◌, ◌||◌, ◌&&◌, ◌<◌, ◌≤◌, ◌-◌, ◌^◌, Bool, true, false, [], Option, Some, None, is_some, length, IsTrue, if◌then◌else◌}
 use Rattle.std.specs.Option.{option_map_or}
 use Rattle.fsa_types.specs.BoundedList.{Bounded}
 use Rattle.fsa_types.specs.Rows.{lives}
@@ -34,9 +34,10 @@ pub record IsOpenBy (v : Volume) (link : ℕ) (stream : Option ℕ) : Type 0 whe
   pub has_stream : IsTrue (is_some stream || is_link_of_directory v.files v.links link)
 
 -- there is room for a handle, for the ends of the calls that a break may tell, and for the open to be
--- pending with the breaks that it may wait for, in the list of blockers too
+-- pending with the breaks that it may wait for, in the list of blockers too; each oplock tells one call at most
 pub record HasOpenRoom (v : Volume) (spare : Spare) (list : Bounded Blocker) : Type 0 where
   pub handles : 1 ≤ spare.handles
+  pub few_told : (on : HandleSet) (class : Class) (handle : Option ℕ) (key : ℕ) → length (told v on class handle key) ≤ length v.oplocks
   pub told : (on : HandleSet) (class : Class) (handle : Option ℕ) (key : ℕ) → length (told v on class handle key) ≤ spare.ends
   pub empty : list.items ≡ []
   pub pending : 1 ≤ spare.pending

@@ -1,5 +1,5 @@
 -- What a walk answers, in the words of its definition, and what is true of a directory that it reaches.
-use Rattle.std.specs.Prelude.{◌≡◌, ◌≤◌, ℕ, Bool, false, ◌==◌, ◌&&◌, List, length, IsTrue}
+use Rattle.std.specs.Prelude.{◌≡◌, ◌≤◌, ℕ, false, ◌==◌, ◌&&◌, List, length, IsTrue}
 use Rattle.fsa_model.specs.Lookups.{has_row, is_directory}
 use Rattle.fsa_model.specs.Sound.{LeadsUp}
 use Rattle.fsa_model.specs.Volume.{Volume}

@@ -25,6 +25,7 @@ pub fn break_for(
     ensures content { volume.new.content ≡ with_breaks volume.old.content on class None key }
     ensures rest { volume.new.content ≡ record volume.old.content { oplocks = volume.new.content.oplocks; pending = volume.new.content.pending; ended = volume.new.content.ended; last_break = volume.new.content.last_break } }
     ensures spare { volume.new.spare ≡ record volume.old.spare { ends = volume.new.spare.ends } }
+    ensures ends { volume.old.spare.ends ≤ volume.new.spare.ends + length volume.old.content.oplocks }
     ensures waits { result ≡ waits volume.old.content on class key }
     ensures blockers { blockers.new.items ≡ map Break (awaited volume.old.content on class None key) }
 {
@@ -50,6 +51,7 @@ pub fn clashed(volume: &mut Volume, on: HandleSet, key: u64, blockers: BlockerLi
     requires numbers { volume.old.content.last_break < 2 ^ 63 }
     ensures gives { Gives (clashed volume.old.content on key) volume.old.content volume.new.content result }
     ensures room { HasHoldRoom result volume.new.spare }
+    ensures ends { volume.old.spare.ends ≤ volume.new.spare.ends + length volume.old.content.oplocks }
 {
     let mut blockers = blockers;
     if break_for(volume, on, Class::Clash, key, &mut blockers) {

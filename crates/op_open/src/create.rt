@@ -50,6 +50,7 @@ fn create_on_stream(
     requires living { IsOpenBy volume.old.content link (Some stream) }
     ensures gives { Gives (create_on_stream volume.old.content opening.now link file stream) volume.old.content volume.new.content result }
     ensures room { HasHoldRoom result volume.new.spare }
+    ensures ends { volume.old.spare.ends ≤ volume.new.spare.ends + length volume.old.content.oplocks }
 {
     let asked = opening.asked();
     if opening.names_stream() && is_marked(volume, stream) {
@@ -109,6 +110,7 @@ fn create_in_file(
     requires no_directory { is_directory volume.old.content.files file ≡ false }
     ensures gives { Gives (create_in_file volume.old.content opening.now link file) volume.old.content volume.new.content result }
     ensures room { HasHoldRoom result volume.new.spare }
+    ensures ends { volume.old.spare.ends ≤ volume.new.spare.ends + length volume.old.content.oplocks }
 {
     match volume.stream_of(file, opening.stream_name()) {
         Some(stream) => create_on_stream(alloc, volume, opening, link, file, stream),
@@ -136,6 +138,7 @@ fn create_there(
     requires there { IsThere volume.old.content link file }
     ensures gives { Gives (create_there volume.old.content opening.now link file) volume.old.content volume.new.content result }
     ensures room { HasHoldRoom result volume.new.spare }
+    ensures ends { volume.old.spare.ends ≤ volume.new.spare.ends + length volume.old.content.oplocks }
 {
     let asked = opening.asked();
     if only_makes(asked.disposition) && !opening.names_stream() {
@@ -167,6 +170,7 @@ fn create_found(
     requires there { IsThere volume.old.content link file }
     ensures gives { Gives (create_found volume.old.content opening.now link file) volume.old.content volume.new.content result }
     ensures room { HasHoldRoom result volume.new.spare }
+    ensures ends { volume.old.spare.ends ≤ volume.new.spare.ends + length volume.old.content.oplocks }
 {
     if has_point(volume, file) && !opening.asked().opens_point() {
         return stopped(alloc, volume, file, &[]);
@@ -181,6 +185,7 @@ fn create_by_link(alloc: Global, volume: &mut Volume, opening: &Opening, link: u
     requires lives { IsTrue (lives volume.old.content.links link) }
     ensures gives { Gives (create_by_link volume.old.content opening.now link) volume.old.content volume.new.content result }
     ensures room { HasHoldRoom result volume.new.spare }
+    ensures ends { volume.old.spare.ends ≤ volume.new.spare.ends + length volume.old.content.oplocks }
 {
     let Some(row) = volume.link(link) else {
         return refused(Status::ObjectNameNotFound);
@@ -205,6 +210,7 @@ fn create_named(
     requires holds { CanHold volume.old.content dir }
     ensures gives { Gives (create_named volume.old.content opening.now dir name.now) volume.old.content volume.new.content result }
     ensures room { HasHoldRoom result volume.new.spare }
+    ensures ends { volume.old.spare.ends ≤ volume.new.spare.ends + length volume.old.content.oplocks }
 {
     match volume.child(dir, name) {
         Some(link) => create_by_link(alloc, volume, opening, link),
@@ -227,6 +233,7 @@ fn create_walked(
     requires place { IsIn walked (components parts.now) }
     ensures gives { Gives (create_walked volume.old.content opening.now (walked_of walked)) volume.old.content volume.new.content result }
     ensures room { HasHoldRoom result volume.new.spare }
+    ensures ends { volume.old.spare.ends ≤ volume.new.spare.ends + length volume.old.content.oplocks }
 {
     match walked {
         Walked::Barred(status) => refused(status),
@@ -254,6 +261,7 @@ fn create_at(alloc: Global, volume: &mut Volume, asked: &Asked, parts: &PathPart
     requires path { parts.now ≡ asked.now.path }
     ensures gives { Gives (create_at volume.old.content asked.now) volume.old.content volume.new.content result }
     ensures room { HasHoldRoom result volume.new.spare }
+    ensures ends { volume.old.spare.ends ≤ volume.new.spare.ends + length volume.old.content.oplocks }
 {
     let opening = Opening::new(asked, parts);
     if opening.has_stream_part() && asked.wants_directory() {
@@ -269,6 +277,7 @@ fn create(alloc: Global, volume: &mut Volume, asked: &Asked) -> Tried
     requires may { MayOpen volume.old.content asked.now.client asked.now.number }
     ensures gives { Gives (try_create volume.old.content asked.now) volume.old.content volume.new.content result }
     ensures room { HasHoldRoom result volume.new.spare }
+    ensures ends { volume.old.spare.ends ≤ volume.new.spare.ends + length volume.old.content.oplocks }
 {
     if asked.is_invalid() {
         return refused(Status::InvalidParameter);
@@ -290,14 +299,15 @@ fn create(alloc: Global, volume: &mut Volume, asked: &Asked) -> Tried
 /// be left for a file, a link, two streams, a handle and breaks.
 ///
 /// `Done` with the reply, or `Hold` with the breaks of oplocks that it waits for, as the definition
-/// says; never `Stay`. Where it is held there is room to make it pending. `NoMemory` changes nothing, not
-/// even breaks. `_turn` is the number of the turn;
+/// says; never `Stay`. Where it is held there is room to make it pending, and of the room for ends it
+/// uses no more than one for each oplock that there was. `NoMemory` changes nothing, not even breaks. `_turn` is the number of the turn;
 /// no open needs it.
 pub fn try_create(alloc: Global, volume: &mut Volume, call: &Call, _turn: u64) -> Tried
     requires verb { IsCreate call.now.what }
     requires may { MayOpen volume.old.content call.now.client call.now.number }
     ensures gives { Gives (asked_try volume.old.content call.now.client call.now.number call.now.what) volume.old.content volume.new.content result }
     ensures room { HasHoldRoom result volume.new.spare }
+    ensures ends { volume.old.spare.ends ≤ volume.new.spare.ends + length volume.old.content.oplocks }
 {
     let What::Ask(
         Request::Create {

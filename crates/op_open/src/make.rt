@@ -115,6 +115,7 @@ fn put_directory(
     requires file { file ≡ new_file volume.old.content asked.now true (kept_attributes asked.now.attributes) }
     ensures done { OnOk result (volume.new.content ≡ with_new_directory volume.old.content asked.now dir name) }
     ensures refused { OnErr result (volume.new.content ≡ volume.old.content) }
+    ensures ends { volume.old.spare.ends ≤ volume.new.spare.ends }
 {
     let units = name.units().len() as u64;
     let Some(need) = need_to_make(volume, dir, units, 0) else {
@@ -141,6 +142,7 @@ fn make_directory(
     requires new { child_of volume.old.content dir name.now ≡ None }
     ensures gives { Gives (make_directory volume.old.content asked.now dir name.now) volume.old.content volume.new.content result }
     ensures room { HasHoldRoom result volume.new.spare }
+    ensures ends { volume.old.spare.ends ≤ volume.new.spare.ends + length volume.old.content.oplocks }
 {
     let Ok(name) = Name::copy_of(alloc, name) else {
         return Tried::NoMemory;
@@ -168,6 +170,7 @@ fn put_file(
     requires default { stream ≡ [] }
     ensures done { OnOk result (volume.new.content ≡ with_new_file volume.old.content asked.now dir name) }
     ensures refused { OnErr result (volume.new.content ≡ volume.old.content) }
+    ensures ends { volume.old.spare.ends ≤ volume.new.spare.ends }
 {
     let units = name.units().len() as u64;
     let Some(need) = need_to_make(volume, dir, units, 1) else {
@@ -195,6 +198,7 @@ fn make_plain_file(
     requires new { child_of volume.old.content dir name.now ≡ None }
     ensures gives { Gives (Opens (with_new_file volume.old.content asked.now dir name.now) status.Success action.Created) volume.old.content volume.new.content result }
     ensures room { HasHoldRoom result volume.new.spare }
+    ensures ends { volume.old.spare.ends ≤ volume.new.spare.ends + length volume.old.content.oplocks }
 {
     let Ok(name) = Name::copy_of(alloc, name) else {
         return Tried::NoMemory;
@@ -250,6 +254,7 @@ fn put_file_with_stream(
     requires named { same_name volume.old.content.table [] stream ≡ false }
     ensures done { OnOk result (volume.new.content ≡ with_new_file_and_stream volume.old.content asked.now dir name) }
     ensures refused { OnErr result (volume.new.content ≡ volume.old.content) }
+    ensures ends { volume.old.spare.ends ≤ volume.new.spare.ends }
 {
     let units = name.units().len() as u64;
     let Some(need) = need_with_stream(volume, dir, units, stream.units().len() as u64) else {
@@ -282,6 +287,7 @@ fn make_file_with_stream(
     requires named { same_name volume.old.content.table [] stream.now ≡ false }
     ensures gives { Gives (Opens (with_new_file_and_stream volume.old.content asked.now dir name.now) status.Success action.Created) volume.old.content volume.new.content result }
     ensures room { HasHoldRoom result volume.new.spare }
+    ensures ends { volume.old.spare.ends ≤ volume.new.spare.ends + length volume.old.content.oplocks }
 {
     let Ok(name) = Name::copy_of(alloc, name) else {
         return Tried::NoMemory;
@@ -316,6 +322,7 @@ fn make_file(
     requires differs { named ≡ true → same_name volume.old.content.table [] stream.now ≡ false }
     ensures gives { Gives (make_file volume.old.content asked.now dir name.now) volume.old.content volume.new.content result }
     ensures room { HasHoldRoom result volume.new.spare }
+    ensures ends { volume.old.spare.ends ≤ volume.new.spare.ends + length volume.old.content.oplocks }
 {
     if named {
         return make_file_with_stream(alloc, volume, asked, dir, name, stream);
@@ -344,6 +351,7 @@ pub fn create_missing(
     requires new { child_of volume.old.content dir name.now ≡ None }
     ensures gives { Gives (create_missing volume.old.content opening.now dir name.now) volume.old.content volume.new.content result }
     ensures room { HasHoldRoom result volume.new.spare }
+    ensures ends { volume.old.spare.ends ≤ volume.new.spare.ends + length volume.old.content.oplocks }
 {
     let asked = opening.asked();
     if only_opens(asked.disposition) {
@@ -387,6 +395,7 @@ pub fn create_stream(
     requires new { stream_of volume.old.content file (stream_name opening.now.path) ≡ None }
     ensures gives { Gives (create_stream volume.old.content opening.now link file) volume.old.content volume.new.content result }
     ensures room { HasHoldRoom result volume.new.spare }
+    ensures ends { volume.old.spare.ends ≤ volume.new.spare.ends + length volume.old.content.oplocks }
 {
     let asked = opening.asked();
     if only_opens(asked.disposition) {
@@ -436,6 +445,7 @@ fn put_stream(
     requires new { stream_of volume.old.content file name ≡ None }
     ensures done { OnOk result (volume.new.content ≡ with_new_stream volume.old.content asked.now link file) }
     ensures refused { OnErr result (volume.new.content ≡ volume.old.content) }
+    ensures ends { volume.old.spare.ends ≤ volume.new.spare.ends }
 {
     let Some(need) = need_for_stream(volume, link, name.units().len() as u64) else {
         return Err(NoMemory);
@@ -465,6 +475,7 @@ fn make_stream(
     requires new { stream_of volume.old.content file name.now ≡ None }
     ensures gives { Gives (Opens (with_new_stream volume.old.content asked.now link file) status.Success action.Created) volume.old.content volume.new.content result }
     ensures room { HasHoldRoom result volume.new.spare }
+    ensures ends { volume.old.spare.ends ≤ volume.new.spare.ends + length volume.old.content.oplocks }
 {
     let Ok(name) = Name::copy_of(alloc, name) else {
         return Tried::NoMemory;

@@ -49,6 +49,7 @@ fn open_existing(
     requires room { HasOpenRoom volume.old.content volume.old.spare blockers }
     ensures gives { Gives (open_existing volume.old.content asked.now link stream on) volume.old.content volume.new.content result }
     ensures room { HasHoldRoom result volume.new.spare }
+    ensures ends { volume.old.spare.ends ≤ volume.new.spare.ends + length volume.old.content.oplocks }
 {
     if !asked.wants_more() {
         open_handle(volume, asked, link, stream);
@@ -131,6 +132,7 @@ fn noted_stream(stream: u64, named: bool) -> Option<u64>
 fn note_overwrite(volume: &mut Volume, link: u64, stream: u64, named: bool)
     requires room { HasNoteRoom volume.old.content volume.old.spare link (noted_stream stream named) }
     ensures content { volume.new.content ≡ with_overwrite_noted volume.old.content link stream named }
+    ensures ends { volume.old.spare.ends ≤ volume.new.spare.ends }
 {
     if named {
         volume.note(link, MODIFIED_STREAM, STREAM_OVERWRITTEN, Some(stream));
@@ -144,6 +146,7 @@ fn overwrite(volume: &mut Volume, asked: &Asked, link: u64, file: u64, stream: u
     requires named { named ≡ names_stream asked.now.path }
     requires room { HasNoteRoom volume.old.content volume.old.spare link (noted_stream stream named) }
     ensures content { volume.new.content ≡ with_overwritten volume.old.content asked.now link file stream }
+    ensures ends { volume.old.spare.ends ≤ volume.new.spare.ends }
 {
     note_overwrite(volume, link, stream, named);
     volume.set_length(stream, 0);
@@ -167,6 +170,7 @@ fn open_overwritten(
     requires room { 1 ≤ volume.old.spare.handles }
     requires note { HasNoteRoom volume.old.content volume.old.spare link (noted_stream stream named) }
     ensures content { volume.new.content ≡ with_overwritten (with_open volume.old.content asked.now link (Some stream)) asked.now link file stream }
+    ensures ends { volume.old.spare.ends ≤ volume.new.spare.ends }
 {
     open_handle(volume, asked, link, Some(stream));
     overwrite(volume, asked, link, file, stream, named);
@@ -190,6 +194,7 @@ fn overwrite_existing(
     requires note { HasNoteRoom volume.old.content volume.old.spare link (noted_stream stream named) }
     ensures gives { Gives (overwrite_existing volume.old.content asked.now link file stream) volume.old.content volume.new.content result }
     ensures room { HasHoldRoom result volume.new.spare }
+    ensures ends { volume.old.spare.ends ≤ volume.new.spare.ends + length volume.old.content.oplocks }
 {
     let mut blockers = blockers;
     let on = HandleSet::Stream(stream);
@@ -208,6 +213,7 @@ fn open_in_room(volume: &mut Volume, asked: &Asked, link: u64, blockers: Blocker
     requires room { HasOpenRoom volume.old.content volume.old.spare blockers }
     ensures gives { Gives (open_granted volume.old.content asked.now link) volume.old.content volume.new.content result }
     ensures room { HasHoldRoom result volume.new.spare }
+    ensures ends { volume.old.spare.ends ≤ volume.new.spare.ends + length volume.old.content.oplocks }
 {
     let on = HandleSet::Link(link);
     if volume.clashes(on, asked.access(), asked.share) {
@@ -222,6 +228,7 @@ fn open_granted(alloc: Global, volume: &mut Volume, asked: &Asked, link: u64) ->
     requires living { IsOpenBy volume.old.content link None }
     ensures gives { Gives (open_granted volume.old.content asked.now link) volume.old.content volume.new.content result }
     ensures room { HasHoldRoom result volume.new.spare }
+    ensures ends { volume.old.spare.ends ≤ volume.new.spare.ends + length volume.old.content.oplocks }
 {
     let Ok(blockers) = room_to_open(alloc, volume) else {
         return Tried::NoMemory;
@@ -242,6 +249,7 @@ pub fn open_directory(
     requires living { IsOpenBy volume.old.content link None }
     ensures gives { Gives (open_directory volume.old.content asked.now link file) volume.old.content volume.new.content result }
     ensures room { HasHoldRoom result volume.new.spare }
+    ensures ends { volume.old.spare.ends ≤ volume.new.spare.ends + length volume.old.content.oplocks }
 {
     if !grants(volume, file, asked.client, asked.access()) {
         return refused(Status::AccessDenied);
@@ -268,6 +276,7 @@ pub fn open_stream(
     requires named { named ≡ names_stream asked.now.path }
     ensures gives { Gives (open_stream volume.old.content asked.now link file stream) volume.old.content volume.new.content result }
     ensures room { HasHoldRoom result volume.new.spare }
+    ensures ends { volume.old.spare.ends ≤ volume.new.spare.ends + length volume.old.content.oplocks }
 {
     let noted = noted_stream(stream, named);
     let Ok(blockers) = room_to_overwrite(alloc, volume, link, noted) else {

@@ -1,6 +1,6 @@
 //! The room that an open takes before it changes anything.
 
-ghost use Rattle.std.specs.Prelude.{◌≡◌, ◌<◌, ◌≤◌, ◌^◌, IfOk, OnOk};
+ghost use Rattle.std.specs.Prelude.{◌≡◌, ◌<◌, ◌≤◌, ◌^◌, IfOk, OnOk, ◌+◌, length};
 ghost use Rattle.op_open.specs.Conditions.{HasNoteRoom, HasOpenRoom};
 
 use fsa_types::{BlockerList, NoMemory};
@@ -36,6 +36,7 @@ pub fn nothing() -> Need
 /// `NoMemory` where there is none.
 pub fn room_to_open(alloc: Global, volume: &mut Volume) -> Result<BlockerList, NoMemory>
     ensures content { volume.new.content ≡ volume.old.content }
+    ensures ends { volume.old.spare.ends ≤ volume.new.spare.ends }
     ensures room { IfOk result (λ blockers. HasOpenRoom volume.new.content volume.new.spare blockers) }
 {
     let oplocks = volume.oplocks();
@@ -58,6 +59,7 @@ pub fn room_to_overwrite(
     stream: Option<u64>,
 ) -> Result<BlockerList, NoMemory>
     ensures content { volume.new.content ≡ volume.old.content }
+    ensures ends { volume.old.spare.ends ≤ volume.new.spare.ends }
     ensures room { IfOk result (λ blockers. HasOpenRoom volume.new.content volume.new.spare blockers) }
     ensures note { OnOk result (HasNoteRoom volume.new.content volume.new.spare link stream) }
 {

@@ -1,4 +1,4 @@
-use Rattle.std.proofs.Common.{◌≡◌, ◌+◌, ◌≤◌, length}
+use Rattle.std.proofs.Common.{◌≡◌, ◌+◌, length}
 use Rattle.fsa_types.specs.Paths.{components}
 use Rattle.fsa_model.specs.Walk.{walk_from}
 use Rattle.op_open.specs.Walks.{CanHold}
