@@ -1,31 +1,40 @@
 -- Verbs and their fields that are written are read again.
-use Rattle.std.proofs.Common.{◌≡◌, ℕ, ◌≤◌, true, ◌&&◌, ◌||◌, not, List, [], ◌∷◌, ◌++◌, Some, length, refl, arith}
-use Rattle.std.specs.Prelude.{Ok, nat_le, ◌==◌}
-use Rattle.std.specs.List.{list_all, list_any}
-use Rattle.std.proofs.lemmas.Bool.Decides.{nat_tests}
+use Rattle.std.proofs.Common.{◌≡◌, ℕ, ◌≤◌, true, ◌&&◌, List, [], ◌∷◌, ◌++◌, Some, length, refl}
+use Rattle.std.specs.Prelude.{Ok, nat_le}
+use Rattle.std.specs.List.{list_all}
 use Rattle.fsa_types.specs.declared.request.What.{What}
 use Rattle.fsa_types.specs.declared.request.What.TheVariants.{Ask, Tick}
 use Rattle.fsa_types.specs.declared.request.Request.TheVariants.{Create, Close, Read, Write}
 use Rattle.fsa_types.specs.declared.request.Disposition.{Disposition}
-use Rattle.fsa_types.specs.declared.request.Disposition.TheVariants.{OpenExisting, CreateNew}
-use Rattle.fsa_model.specs.Requests.{most_id, most_place, is_built_create, disposition_at, create_at, close_at, read_at, write_at, tick_at, what_of, is_root_path}
-use Rattle.fsa_model.specs.Spelling.{number_text, mask_text, string_text, disposition_text, is_built_disposition, verb_text, fields_text, is_built}
+use Rattle.fsa_types.specs.declared.request.Disposition.TheVariants.{Supersede, OpenExisting, CreateNew, OpenIf, Overwrite, OverwriteIf}
+use Rattle.fsa_model.specs.Requests.{most_id, most_key, most_place, is_built_create, disposition_at, create_at, close_at, read_at, write_at, tick_at, what_of}
+use Rattle.fsa_model.specs.Spelling.{number_text, mask_text, string_text, disposition_text, verb_text, fields_text, is_built}
 use Rattle.script_read.proofs.SpellLemmas.{both, at_most, NoSpace, EndsWord, field_at-again, number_at-again, number_at-last, mask_at-again}
 use Rattle.script_read.proofs.TextLemmas.{text_at-again, string_at-last}
 
-disposition_at-again : (disposition : Disposition) (rest : List ℕ) → is_built_disposition disposition ≡ true → EndsWord rest
+disposition_at-again : (disposition : Disposition) (rest : List ℕ) → EndsWord rest
     → disposition_at (disposition_text disposition ++ rest) ≡ Ok (disposition, rest)
 unfolding disposition_at
-disposition_at-again OpenExisting rest built ends =
+disposition_at-again Supersede rest ends =
+    rw (field_at-again (115 ∷ 117 ∷ 112 ∷ 101 ∷ 114 ∷ 115 ∷ 101 ∷ 100 ∷ 101 ∷ []) rest (refl, (refl, (refl, (refl, (refl, (refl, (refl, (refl, (refl, tt))))))))) ends) refl
+disposition_at-again OpenExisting rest ends =
     rw (field_at-again (111 ∷ 112 ∷ 101 ∷ 110 ∷ []) rest (refl, (refl, (refl, (refl, tt)))) ends) refl
-disposition_at-again CreateNew rest built ends =
+disposition_at-again CreateNew rest ends =
     rw (field_at-again (99 ∷ 114 ∷ 101 ∷ 97 ∷ 116 ∷ 101 ∷ []) rest (refl, (refl, (refl, (refl, (refl, (refl, tt)))))) ends) refl
-disposition_at-again _ rest built ends = cc
+disposition_at-again OpenIf rest ends =
+    rw (field_at-again (111 ∷ 112 ∷ 101 ∷ 110 ∷ 95 ∷ 105 ∷ 102 ∷ []) rest (refl, (refl, (refl, (refl, (refl, (refl, (refl, tt))))))) ends) refl
+disposition_at-again Overwrite rest ends =
+    rw (field_at-again (111 ∷ 118 ∷ 101 ∷ 114 ∷ 119 ∷ 114 ∷ 105 ∷ 116 ∷ 101 ∷ []) rest (refl, (refl, (refl, (refl, (refl, (refl, (refl, (refl, (refl, tt))))))))) ends) refl
+disposition_at-again OverwriteIf rest ends =
+    rw (field_at-again (111 ∷ 118 ∷ 101 ∷ 114 ∷ 119 ∷ 114 ∷ 105 ∷ 116 ∷ 101 ∷ 95 ∷ 105 ∷ 102 ∷ []) rest (refl, (refl, (refl, (refl, (refl, (refl, (refl, (refl, (refl, (refl, (refl, (refl, tt)))))))))))) ends) refl
 
-EndsWord-disposition : (disposition : Disposition) (rest : List ℕ) → is_built_disposition disposition ≡ true → EndsWord (disposition_text disposition ++ rest)
-EndsWord-disposition OpenExisting rest built = refl
-EndsWord-disposition CreateNew rest built = refl
-EndsWord-disposition _ rest built = cc
+EndsWord-disposition : (disposition : Disposition) (rest : List ℕ) → EndsWord (disposition_text disposition ++ rest)
+EndsWord-disposition Supersede rest = refl
+EndsWord-disposition OpenExisting rest = refl
+EndsWord-disposition CreateNew rest = refl
+EndsWord-disposition OpenIf rest = refl
+EndsWord-disposition Overwrite rest = refl
+EndsWord-disposition OverwriteIf rest = refl
 
 create_at-again : (path : List ℕ) (wanted share : ℕ) (disposition : Disposition) (options attributes key : ℕ)
     → is_built (Ask (Create path wanted share disposition options attributes key)) ≡ true
@@ -33,33 +42,26 @@ create_at-again : (path : List ℕ) (wanted share : ℕ) (disposition : Disposit
 unfolding create_at
 create_at-again path wanted share disposition options attributes key built =
     let units = list_all (λ unit. nat_le unit 65535) path in
-    let form = is_built_create path wanted share options attributes key in
-    let outer = both (units && is_built_disposition disposition) form built in
-    let inner = both units (is_built_disposition disposition) outer.0 in
-    let k = both _ (key == 0) outer.1 in
-    let a = both _ (attributes == 0) k.0 in
-    let o = both _ (options == 0) a.0 in
-    let s = both _ (nat_le share 7) o.0 in
-    let w = both (is_root_path path) (wanted == 1 || wanted == 3) s.0 in
-    let wanted_small : wanted ≤ 4294967295 = grind (arith, nat_tests, w.1) in
-    let share_small : share ≤ 4294967295 = grind (arith, nat_tests, s.1) in
-    let options_small : options ≤ 4294967295 = grind (arith, nat_tests, o.1) in
-    let attributes_small : attributes ≤ 4294967295 = grind (arith, nat_tests, a.1) in
-    let key_small : key ≤ 0 = grind (arith, nat_tests, k.1) in
+    let form = both _ (is_built_create options) built in
+    let k = both _ (nat_le key most_key) form.0 in
+    let a = both _ (nat_le attributes 4294967295) k.0 in
+    let o = both _ (nat_le options 4294967295) a.0 in
+    let s = both _ (nat_le share 4294967295) o.0 in
+    let w = both units (nat_le wanted 4294967295) s.0 in
     let from_key = number_text key in
     let from_attributes = mask_text attributes ++ from_key in
     let from_options = mask_text options ++ from_attributes in
     let from_disposition = disposition_text disposition ++ from_options in
     let from_share = mask_text share ++ from_disposition in
     rw (
-      text_at-again path (mask_text wanted ++ from_share) inner.0 refl,
-      mask_at-again wanted from_share wanted_small refl,
-      mask_at-again share from_disposition share_small (EndsWord-disposition disposition from_options inner.1),
-      disposition_at-again disposition from_options inner.1 refl,
-      mask_at-again options from_attributes options_small refl,
-      mask_at-again attributes from_key attributes_small refl,
-      number_at-last 0 key key_small,
-      outer.1,
+      text_at-again path (mask_text wanted ++ from_share) w.0 refl,
+      mask_at-again wanted from_share (at_most wanted 4294967295 w.1) refl,
+      mask_at-again share from_disposition (at_most share 4294967295 s.1) (EndsWord-disposition disposition from_options),
+      disposition_at-again disposition from_options refl,
+      mask_at-again options from_attributes (at_most options 4294967295 o.1) refl,
+      mask_at-again attributes from_key (at_most attributes 4294967295 a.1) refl,
+      number_at-last most_key key (at_most key most_key k.1),
+      form.1,
     ) refl
 
 close_at-again : (handle : ℕ) → handle ≤ most_id → close_at (number_text handle) ≡ Ok (Ask (Close handle))

@@ -1,14 +1,14 @@
 //! The requests: a verb, and a function that reads its fields.
 
-ghost use Rattle.std.specs.Prelude.{◌≡◌, ◌==◌};
-ghost use Rattle.std.specs.List.{list_all};
-ghost use Rattle.fsa_model.specs.Requests.{is_built_create, is_dots, is_plain_unit, is_root_path, disposition_of, disposition_at, create_at, close_at, read_at, write_at, tick_at, what_of};
+ghost use Rattle.std.specs.Prelude.{◌≡◌};
+ghost use Rattle.fsa_model.specs.Requests.{is_built_create, disposition_of, disposition_at, create_at, close_at, read_at, write_at, tick_at, what_of};
 ghost use Rattle.script_read.specs.Gives.{Gives};
 
 use crate::fault::{LineFault, SYNTAX};
 use crate::text::{string_at, text_at};
 use crate::word::{ended, field_at, id_at, mask_at, number_at};
-use fsa_types::{Disposition, MOST_BYTES, Name, Request, What};
+use bitflags::Flags;
+use fsa_types::{CreateOptions, Disposition, MOST_BYTES, Request, What};
 use std::alloc::Global;
 
 // The greatest place of a read or a write, in bytes.
@@ -18,10 +18,18 @@ const MOST_PLACE: u64 = 65_535;
 fn disposition_of(word: &[u8]) -> Result<Disposition, LineFault>
     ensures { Gives (λ disposition. disposition) result (disposition_of word.now) }
 {
-    if word == b"open".as_slice() {
+    if word == b"supersede".as_slice() {
+        Ok(Disposition::Supersede)
+    } else if word == b"open".as_slice() {
         Ok(Disposition::OpenExisting)
     } else if word == b"create".as_slice() {
         Ok(Disposition::CreateNew)
+    } else if word == b"open_if".as_slice() {
+        Ok(Disposition::OpenIf)
+    } else if word == b"overwrite".as_slice() {
+        Ok(Disposition::Overwrite)
+    } else if word == b"overwrite_if".as_slice() {
+        Ok(Disposition::OverwriteIf)
     } else {
         Err(SYNTAX)
     }
@@ -37,60 +45,11 @@ fn disposition_at(bytes: &[u8]) -> Result<(Disposition, &[u8]), LineFault>
     Ok((disposition, rest))
 }
 
-// A letter, a digit, `_` or `.`.
-fn is_plain_unit(unit: u16) -> bool
-    ensures { result ≡ is_plain_unit unit }
+// Whether a create with these options is built: one without DELETE_ON_CLOSE.
+fn is_built_create(options: u32) -> bool
+    ensures { result ≡ is_built_create options }
 {
-    97 <= unit && unit <= 122
-        || 65 <= unit && unit <= 90
-        || 48 <= unit && unit <= 57
-        || unit == 95
-        || unit == 46
-}
-
-// `.` or `..`.
-fn is_dots(name: &[u16]) -> bool
-    ensures { result ≡ is_dots name.now }
-{
-    name.len() <= 2 && name.iter().all(|unit| *unit == 46)
-}
-
-// Whether all units are plain.
-fn are_plain(name: &[u16]) -> bool
-    ensures { result ≡ list_all is_plain_unit name.now }
-{
-    name.iter().all(|unit| is_plain_unit(*unit))
-}
-
-// Whether a path is that of a file in the root.
-fn is_root_path(units: &[u16]) -> bool
-    ensures { result ≡ is_root_path units.now }
-{
-    match units {
-        [] => false,
-        [first, name @ ..] => {
-            *first == 92 && 1 <= name.len() && name.len() <= 32 && are_plain(name) && !is_dots(name)
-        }
-    }
-}
-
-// Whether a create of this form is built.
-fn is_built_create(
-    path: &Name,
-    wanted: u32,
-    share: u32,
-    options: u32,
-    attributes: u32,
-    key: u64,
-) -> bool
-    ensures { result ≡ is_built_create path.now wanted share options attributes key }
-{
-    is_root_path(path.units())
-        && (wanted == 1 || wanted == 3)
-        && share <= 7
-        && options == 0
-        && attributes == 0
-        && key == 0
+    !CreateOptions::from_bits_retain(options).intersects(CreateOptions::DELETE_ON_CLOSE)
 }
 
 // The fields of `create`.
@@ -104,8 +63,8 @@ fn create_at(alloc: Global, fields: &[u8]) -> Result<What, LineFault>
     let (disposition, rest) = disposition_at(rest)?;
     let (options, rest) = mask_at(rest)?;
     let (attributes, rest) = mask_at(rest)?;
-    let (key, rest) = number_at(0, rest)?;
-    if !is_built_create(&path, wanted, share, options, attributes, key) || !rest.is_empty() {
+    let (key, rest) = number_at(u64::MAX, rest)?;
+    if !is_built_create(options) || !rest.is_empty() {
         return Err(SYNTAX);
     }
     Ok(What::Ask(Request::Create {
