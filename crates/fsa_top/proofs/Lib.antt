@@ -1,4 +1,7 @@
-pub mod RowChanges
-pub mod TurnFollows
-pub mod RunLaws
+pub mod BytesLaws
+pub mod CloseLaws
+pub mod GrowthLaws
 pub mod LimitLaws
+pub mod MayLaws
+pub mod OpenQuiet
+pub mod RunLaws

@@ -1,5 +1,5 @@
 -- Laws on the limits of a script.
-use Rattle.std.proofs.Common.{◌≡◌, ℕ, ◌<◌, List, length, Option, Some, None, ap, ◌∙◌, arith}
+use Rattle.std.proofs.Common.{◌≡◌, ℕ, List, Option, Some, None, ap, ◌∙◌, arith}
 use Rattle.std.proofs.lemmas.Bool.Decides.{nat_tests}
 use Rattle.wire_io.specs.Source.{HasMoreThan, ReadsWhole}
 use Rattle.fsa_top.specs.Limits.{PassesLimit, limit_of, most_bytes}

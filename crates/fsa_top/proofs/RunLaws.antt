@@ -1,27 +1,29 @@
 -- Laws of a run: one more turn, and its end.
-use Rattle.std.proofs.Common.{◌≡◌, ℕ, zero, suc, ◌+◌, ◌*◌, ◌≤◌, ◌<◌, get_or, drop-cons, add-one, Result, Ok, Err, OnErr, List, [], ◌∷◌, ◌++◌, length, Option, Some, None, IsTrue, refl, ap, sym, subst, ◌∙◌, append_assoc, append-nil, arith, length-append}
-use Rattle.std.specs.Prelude.{map, false, drop}
-use Rattle.std.specs.List.{list_all, enumerate_from}
+use Rattle.std.proofs.Common.{◌≡◌, ℕ, zero, suc, ◌+◌, ◌<◌, get_or, drop-cons, add-one, Result, Ok, Err, OnErr, List, [], ◌∷◌, ◌++◌, length, Option, Some, IsTrue, All, refl, ap, sym, subst, ◌∙◌, append_assoc, append-nil, arith, length-append}
+use Rattle.std.specs.Prelude.{map, drop}
 use Rattle.fsa_types.specs.declared.request.Call.{Call}
 use Rattle.std.proofs.lemmas.List.{length-map}
+use Rattle.std.proofs.lemmas.List.Elements.{All-cons, All-nil}
 use Rattle.fsa_types.specs.declared.setup.Client.{Client as GivenClient}
 use Rattle.fsa_model.specs.Setup.{Client, Script, client_of}
-use Rattle.fsa_model.specs.Volume.{Volume, fresh}
+use Rattle.fsa_model.specs.Volume.{Handle, Volume, fresh}
 use Rattle.fsa_model.specs.Turn.{Turned, turn}
-use Rattle.fsa_model.specs.History.{HistoryEntry, Run, run, begun, with_turn}
-use Rattle.fsa_model.specs.Schedule.{AreNumbered, HasAllCalls, Scheduled, all_calls, is_made, leave_after, next_in, plain, plain_entry}
-use Rattle.fsa_types.specs.Request.{what_fits}
-use Rattle.fsa_model.proofs.ScriptLaws.{AllFit}
-use Rattle.fsa_model.specs.Text.{last_line, shown_turns, shows_no_memory, text, turn_text}
+use Rattle.fsa_model.specs.History.{Run, run, begun, with_turn}
+use Rattle.fsa_model.specs.Schedule.{AreNumbered, Scheduled, all_calls, leave_after, next_in, plain_entry}
+use Rattle.fsa_model.proofs.Quiet.{GivesUpTo, IsQuiet}
+use Rattle.fsa_model.proofs.QuietLaws.{GivesUpTo-fresh, IsQuiet-fresh}
+use Rattle.fsa_model.proofs.ScriptLaws.{AreLineCalls, HaveSids, IsLineCall}
+use Rattle.fsa_model.specs.Text.{last_line, shown_turns, text, turn_text}
 use Rattle.fsa_model.proofs.HistoryLaws.{run-push, shown_turns-push}
 use Rattle.fsa_model.proofs.ScheduleLaws.{Scheduled-none, Scheduled-push, entries-make_all, entries-push, length-entries, next_in-first, plain-scheduled}
 use Rattle.wire_io.specs.Sink.{Appends, AppendsFront}
 use Rattle.wire_io.proofs.SinkLaws.{Appends-append, Appends-none, AppendsFront-append, AppendsFront-longer, AppendsFront-whole}
 use Rattle.fsa_top.specs.Runs.{IsHistory, WritesPart}
-use Rattle.fsa_top.specs.Stands.{MakesTurn, Shows, Stands, Turns, TurnsInPart, leaves_from, turns_of}
+use Rattle.fsa_top.specs.Stands.{MakesTurn, Shows, Stands, Turns, is_of_made, leaves_from, turns_of}
 use Rattle.fsa_top.specs.declared.run.RunFault.{RunFault}
 use Rattle.fsa_top.specs.declared.run.RunFault.TheVariants.{Failed, NoMemory}
-use Rattle.fsa_top.specs.Try.{GivesUpTo, Goes}
+use Rattle.fsa_top.specs.Try.{Goes, MayTurn, most_turns}
+use Rattle.fsa_top.proofs.MayLaws.{MayTurn-next, handles-turn}
 
 -- before the first turn
 pub Shows-begun : (script : Script) (v : Volume) (written : Option (List ℕ)) → v ≡ fresh script.setup → AreNumbered [] (all_calls script) → Shows script (all_calls script) v written written
@@ -33,9 +35,11 @@ Shows-begun script v written is_fresh numbered = (
     numbered = numbered;
     runs = refl;
     volume = sym is_fresh;
-    idle = ap (λ (w : Volume). w.pending) is_fresh;
+    quiet = subst IsQuiet (sym is_fresh) (IsQuiet-fresh script.setup);
     scheduled = Scheduled-none script;
-    few = subst (λ (w : Volume). GivesUpTo w 1) (sym is_fresh) (record { files = omega arith; links = omega arith; streams = omega arith; handles = omega arith; clock = omega arith });
+    few = subst (λ (w : Volume). GivesUpTo w 1) (sym is_fresh) (GivesUpTo-fresh script.setup);
+    clients = ap (λ (w : Volume). w.clients) is_fresh;
+    handles = subst (λ (w : Volume). All (λ (entry : ℕ × Handle). IsTrue (is_of_made [] entry.1)) w.handles) (sym is_fresh) (All-nil _);
   },
   Appends-none written,
 )
@@ -48,7 +52,7 @@ pushed made call = entries-push made call
 is_next : (script : Script) (made : List Call) (call : Call) (left : List Call) (v : Volume) (before : Run) → Stands script made (call ∷ left) v before → next_in (all_calls script) (turns_of made) before.volume ≡ Some call
 is_next script made call left v before stands =
     subst (λ (calls : List Call). next_in calls (turns_of made) before.volume ≡ Some call) (sym stands.all)
-    (next_in-first made call left before.volume (subst (AreNumbered []) stands.all stands.numbered) (ap (λ (w : Volume). w.pending) stands.volume ∙ stands.idle))
+    (next_in-first made call left before.volume (subst (AreNumbered []) stands.all stands.numbered) (ap (λ (w : Volume). w.pending) stands.volume ∙ stands.quiet.pending))
 
 -- the turn of the next call, on the volume of the run
 turns_there : (script : Script) (made left : List Call) (v : Volume) (before : Run) (call : Call) (turned : Turned) → Stands script made left v before → turn v call [] ≡ Some turned → turn before.volume call [] ≡ Some turned
@@ -56,7 +60,7 @@ turns_there script made left v before call turned stands turns = ap (λ (w : Vol
 
 -- one more turn of the next call
 Stands-turn : (script : Script) (made : List Call) (call : Call) (left : List Call) (v new : Volume) (before : Run) (turned : Turned) → Stands script made (call ∷ left) v before
-    → turn v call [] ≡ Some turned → new ≡ turned.volume → Goes v new → Stands script (made ++ call ∷ []) left new (with_turn before turned)
+    → turn v call [] ≡ Some turned → new ≡ turned.volume → Goes v call.client call.number new → Stands script (made ++ call ∷ []) left new (with_turn before turned)
 Stands-turn script made call left v new before turned stands turns is_new goes =
     let there = turns_there script made (call ∷ left) v before call turned stands turns in
     record {
@@ -64,9 +68,11 @@ Stands-turn script made call left v new before turned stands turns is_new goes =
       numbered = stands.numbered;
       runs = ap (run script.setup) (pushed made call) ∙ run-push script.setup (turns_of made) (plain_entry call) before turned stands.runs there;
       volume = sym is_new;
-      idle = goes.idle stands.idle;
+      quiet = goes.quiet;
       scheduled = subst (Scheduled script) (sym (pushed made call)) (Scheduled-push script (turns_of made) (plain_entry call) before turned stands.scheduled stands.runs (is_next script made call left v before stands) there);
       few = subst (GivesUpTo new) (ap (λ n. n + 1) (sym (length-append made (call ∷ [])))) (goes.gives (length made + 1) stands.few);
+      clients = goes.clients ∙ stands.clients;
+      handles = handles-turn script made call left v new before stands goes;
     }
 
 -- what is shown after one more turn
@@ -92,7 +98,7 @@ Shows-part script left v old now shows = (turns_of shows.0, shows.2.scheduled, A
 
 -- what was shown so far, and a front of the lines of the next turn, is a part of a text
 pub Shows-front : (script : Script) (call : Call) (left : List Call) (v new : Volume) (old mid now : Option (List ℕ)) (turned : Turned) → Shows script (call ∷ left) v old mid
-    → turn v call [] ≡ Some turned → new ≡ turned.volume → Goes v new → AppendsFront mid now (turn_text script.setup.clients call turned.out) → WritesPart script old now
+    → turn v call [] ≡ Some turned → new ≡ turned.volume → Goes v call.client call.number new → AppendsFront mid now (turn_text script.setup.clients call turned.out) → WritesPart script old now
 Shows-front script call left v new old mid now turned shows turns is_new goes front = (
   turns_of (shows.0 ++ call ∷ []),
   (Stands-turn script shows.0 call left v new shows.1 turned shows.2 turns is_new goes).scheduled,
@@ -129,11 +135,20 @@ Shows-last_front script v old mid now shows last = (
       (AppendsFront-append old mid now _ _ (subst (λ (calls : List Call). Appends old mid (shown_turns script (turns_of calls))) (all_made script v old mid shows) shows.3) last),
 )
 
--- a call of the script that fits
-pub AllFit-at : (calls : List Call) (i : ℕ) (call : Call) → AllFit calls → i < length calls → call ≡ get_or calls i call → IsTrue (what_fits call.what)
-AllFit-at [] i call fit within is = absurd (omega arith)
-AllFit-at (first ∷ more) zero call fit within is = subst (λ (c : Call). IsTrue (what_fits c.what)) (sym is) fit.0
-AllFit-at (first ∷ more) (suc i) call fit within is = AllFit-at more i call fit.1 (omega arith) is
+-- a call of the script
+pub AreLineCalls-at : (clients : ℕ) (calls : List Call) (i : ℕ) (call : Call) → AreLineCalls clients calls → i < length calls → call ≡ get_or calls i call → IsLineCall clients call
+AreLineCalls-at clients [] i call fit within is = absurd (omega arith)
+AreLineCalls-at clients (first ∷ more) zero call fit within is = subst (IsLineCall clients) (sym is) fit.0
+AreLineCalls-at clients (first ∷ more) (suc i) call fit within is = AreLineCalls-at clients more i call fit.1 (omega arith) is
+
+-- a client's leaving
+pub IsLineCall-leave : (lines : List Call) (client clients : ℕ) → client < clients → IsLineCall clients (leave_after lines client)
+IsLineCall-leave lines client clients within = record { fits = refl; marks_nothing = refl; ticks = refl; client = within }
+
+-- the turn of the next call may be made
+pub Shows-may : (script : Script) (call : Call) (left : List Call) (v : Volume) (old now : Option (List ℕ)) → Shows script (call ∷ left) v old now
+    → IsLineCall (length script.setup.clients) call → length (all_calls script) < most_turns → MayTurn v call
+Shows-may script call left v old now shows asked few = MayTurn-next script shows.0 call left v shows.1 shows.2 asked few
 
 -- the calls from a place on
 drop-next : (calls : List Call) (i : ℕ) (call : Call) → i < length calls → call ≡ get_or calls i call → drop i calls ≡ call ∷ drop (i + 1) calls
@@ -195,3 +210,8 @@ length-counted script lines clients same_lines same_clients =
     let clients_counted : length (map client_of clients) ≡ length script.setup.clients = ap length same_clients in
     let calls : length (all_calls script) ≡ length script.lines + length script.setup.clients = length-all_calls script in
     omega arith
+
+-- clients that have SIDs, as they are given
+pub HaveSids-given : (clients : List GivenClient) → HaveSids (map client_of clients) → All (λ client. 0 < length client.sids.items) clients
+HaveSids-given [] have = All-nil (λ (client : GivenClient). 0 < length client.sids.items)
+HaveSids-given (client ∷ clients) have = All-cons (λ (client : GivenClient). 0 < length client.sids.items) client clients have.0 (HaveSids-given clients have.1)

@@ -1,7 +1,5 @@
 pub mod Limits
 pub mod Runs
-pub mod Seen
 pub mod Stands
-pub mod Store
 pub mod Try
 pub mod Words

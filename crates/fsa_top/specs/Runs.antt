@@ -1,16 +1,12 @@
 -- What a run reads and writes: the bytes of a script, and the text of the one history that is
 -- scheduled for it.
-use Rattle.std.specs.Prelude.{◌≡◌, ℕ, ◌+◌, ◌==◌, Bool, false, List, [], ◌∷◌, ◌++◌, Option, Some, None, Result, Ok, Err, map, codes, decimal, length}
-use Rattle.std.specs.List.{enumerate_from}
-use Rattle.fsa_types.specs.declared.request.Call.{Call}
+use Rattle.std.specs.Prelude.{◌≡◌, ℕ, false, List, [], ◌∷◌, ◌++◌, Option, Some, None, Ok, Err, codes, decimal}
 use Rattle.fsa_model.specs.Fault.{Fault}
-use Rattle.fsa_model.specs.Setup.{Client, Script}
-use Rattle.fsa_model.specs.Volume.{Volume}
-use Rattle.fsa_model.specs.Turn.{Turned, turn}
-use Rattle.fsa_model.specs.History.{HistoryEntry, Run, run}
-use Rattle.fsa_model.specs.Schedule.{AreNumbered, HasAllCalls, Scheduled, all_calls, leave_after, plain, plain_entry}
+use Rattle.fsa_model.specs.Setup.{Script}
+use Rattle.fsa_model.specs.History.{HistoryEntry}
+use Rattle.fsa_model.specs.Schedule.{HasAllCalls, Scheduled, plain}
 use Rattle.fsa_model.specs.Script.{script_of}
-use Rattle.fsa_model.specs.Text.{shown_turns, shows_no_memory, text, turn_text}
+use Rattle.fsa_model.specs.Text.{shows_no_memory, text}
 use Rattle.wire_io.specs.Source.{ReadsWhole}
 use Rattle.wire_io.specs.Sink.{Appends, AppendsFront}
 use Rattle.fsa_top.specs.declared.limits.Limit.{Limit}

@@ -1,15 +1,16 @@
 -- How far a run has come: the calls that were made, those that are left, and the volume.
-use Rattle.std.specs.Prelude.{◌≡◌, Result, Ok, Err, ℕ, ◌+◌, List, [], ◌∷◌, ◌++◌, Option, Some, map, length}
+use Rattle.std.specs.Prelude.{◌≡◌, Result, Ok, Err, ℕ, ◌+◌, List, [], ◌++◌, Option, Some, map, length, Bool, ◌&&◌, nat_lt, nat_le, All, IsTrue}
 use Rattle.std.specs.List.{enumerate_from}
 use Rattle.fsa_types.specs.declared.request.Call.{Call}
 use Rattle.fsa_model.specs.Setup.{Client, Script}
-use Rattle.fsa_model.specs.Volume.{Volume}
+use Rattle.fsa_model.proofs.Quiet.{GivesUpTo, IsQuiet}
+use Rattle.fsa_model.specs.Volume.{Handle, Volume}
 use Rattle.fsa_model.specs.Turn.{Turned, turn}
 use Rattle.fsa_model.specs.History.{HistoryEntry, Run, run}
-use Rattle.fsa_model.specs.Schedule.{AreNumbered, Scheduled, all_calls, leave_after, plain_entry}
+use Rattle.fsa_model.specs.Schedule.{AreNumbered, Scheduled, all_calls, calls_of, leave_after, plain_entry}
 use Rattle.fsa_model.specs.Text.{shown_turns, turn_text}
 use Rattle.wire_io.specs.Sink.{Appends, AppendsFront}
-use Rattle.fsa_top.specs.Try.{Goes, GivesUpTo}
+use Rattle.fsa_top.specs.Try.{Goes}
 use Rattle.fsa_top.specs.declared.run.RunFault.{RunFault}
 use Rattle.fsa_top.specs.declared.run.RunFault.TheVariants.{Failed, NoMemory}
 
@@ -17,15 +18,22 @@ use Rattle.fsa_top.specs.declared.run.RunFault.TheVariants.{Failed, NoMemory}
 abbrev pub turns_of : List Call → List HistoryEntry
 turns_of calls = map plain_entry calls
 
+-- a handle was opened by one of these calls, which are numbered from 1 for each client
+abbrev pub is_of_made : List Call → Handle → Bool
+is_of_made made handle = nat_lt 0 handle.number && nat_le handle.number (calls_of handle.client made)
+
 -- these calls were made and those are left, and the volume is as they left it
 pub record Stands (script : Script) (made left : List Call) (v : Volume) (before : Run) : Type 0 where
   pub all : all_calls script ≡ made ++ left
   pub numbered : AreNumbered [] (all_calls script)
   pub runs : run script.setup (turns_of made) ≡ Some before
   pub volume : before.volume ≡ v
-  pub idle : v.pending ≡ []
+  pub quiet : IsQuiet v
   pub scheduled : Scheduled script (turns_of made)
   pub few : GivesUpTo v (length made + 1)
+  pub clients : v.clients ≡ script.setup.clients
+  -- each handle was opened by one of its client's calls
+  pub handles : All (λ entry. IsTrue (is_of_made made entry.1)) v.handles
 
 -- the lines of the calls that were made were written, and those calls are left
 abbrev pub Shows : Script → List Call → Volume → Option (List ℕ) → Option (List ℕ) → Type 0
@@ -40,14 +48,14 @@ leaves_from lines first clients = map (λ numbered. leave_after lines numbered.0
 pub record Turns (old new : Volume) (clients : List Client) (call : Call) (written written_now : Option (List ℕ)) (turned : Turned) : Type 0 where
   pub turns : turn old call [] ≡ Some turned
   pub volume : new ≡ turned.volume
-  pub goes : Goes old new
+  pub goes : Goes old call.client call.number new
   pub wrote : Appends written written_now (turn_text clients call turned.out)
 
 -- a front of the lines of a turn of this call was written
 pub record TurnsInPart (old new : Volume) (clients : List Client) (call : Call) (written written_now : Option (List ℕ)) (turned : Turned) : Type 0 where
   pub turns : turn old call [] ≡ Some turned
   pub volume : new ≡ turned.volume
-  pub goes : Goes old new
+  pub goes : Goes old call.client call.number new
   pub wrote : AppendsFront written written_now (turn_text clients call turned.out)
 
 -- the turn was made and its lines were written; where the sink failed, a front of them was; where

@@ -1,13 +1,14 @@
--- What a try of a call gave, against what it is defined to come to.
-use Rattle.std.specs.Prelude.{◌≡◌, ℕ, ◌≤◌, ◌+◌, ◌*◌, Result, Ok, Err, []}
+-- What a try of a call gave, against what it is defined to come to; what a turn asks of the volume, and
+-- what it leaves.
+use Rattle.std.specs.Prelude.{◌≡◌, ℕ, ◌+◌, Bool, Result, Ok, Err, None, All, IsTrue, length, ◌<◌}
 use Rattle.fsa_types.specs.declared.memory.NoMemory.{NoMemory}
-use Rattle.fsa_types.specs.declared.request.Request.TheVariants.{Read}
-use Rattle.fsa_types.specs.declared.request.What.{What}
-use Rattle.fsa_types.specs.declared.request.What.TheVariants.{Ask}
 use Rattle.fsa_types.specs.declared.reply.Reply.{Reply}
-use Rattle.fsa_model.specs.Volume.{Volume}
+use Rattle.fsa_types.specs.declared.request.Call.{Call}
+use Rattle.fsa_model.proofs.Quiet.{GivesUpTo, IsQuiet}
+use Rattle.fsa_model.proofs.ScriptLaws.{IsLineCall}
+use Rattle.fsa_model.specs.Lookups.{handle_of}
 use Rattle.fsa_model.specs.Outcome.{Outcome, Done}
-use Rattle.fsa_top.specs.Seen.{Spare}
+use Rattle.fsa_model.specs.Volume.{Handle, Volume}
 
 -- a try that answered this, and left the volume new, did what the definition says; where there was
 -- no memory, nothing has changed
@@ -15,34 +16,24 @@ abbrev pub Gives : Outcome → Volume → Volume → Result Reply NoMemory → T
 Gives outcome old new (Ok reply) = outcome ≡ Done new reply
 Gives outcome old new (Err e) = new ≡ old
 
--- how many bytes the reply to a call may hold
-abbrev pub reply_bytes : What → ℕ
-reply_bytes (Ask (Read handle at count)) = count
-reply_bytes _ = 0
+-- the most turns before one: numbers are left then for all that a turn gives
+abbrev pub most_turns : ℕ
+most_turns = 0x7FFFFFF0
 
--- no number that was given is above this one, and the clock went on by less than 2 ^ 32 for each
-pub record GivesUpTo (v : Volume) (most : ℕ) : Type 0 where
-  pub files : v.last_file ≤ most
-  pub links : v.last_link ≤ most
-  pub streams : v.last_stream ≤ most
-  pub handles : v.last_handle ≤ most
-  pub clock : v.clock ≤ most * 4294967296
+-- a turn of this call may be made: the volume is quiet, the call is one of a script's, of a client of the
+-- volume, no handle has its client and number, handles were opened by calls, and numbers are left
+pub record MayTurn (v : Volume) (call : Call) : Type 0 where
+  pub quiet : IsQuiet v
+  pub asked : IsLineCall (length v.clients) call
+  pub new : handle_of v call.client call.number ≡ None
+  pub opened : All (λ entry. 0 < entry.1.number) v.handles
+  pub gives : GivesUpTo v most_turns
 
--- no call ended and none became pending, and each last number rose by one at most
-pub record Grows (old new : Volume) : Type 0 where
-  pub ended : new.ended ≡ old.ended
-  pub pending : new.pending ≡ old.pending
-  pub gives : (most : ℕ) → GivesUpTo old most → GivesUpTo new (most + 1)
-
--- no call is pending, one more has ended, and each last number rose by one at most
-pub record Goes (old new : Volume) : Type 0 where
-  pub idle : old.pending ≡ [] → new.pending ≡ []
-  pub gives : (most : ℕ) → GivesUpTo old most → GivesUpTo new (most + 1)
-
--- there is room for a file with its link and its stream, a handle and an end
-pub record HasRoom (spare : Spare) : Type 0 where
-  pub files : 1 ≤ spare.files
-  pub links : 1 ≤ spare.links
-  pub streams : 1 ≤ spare.streams
-  pub handles : 1 ≤ spare.handles
-  pub ended : 1 ≤ spare.ended
+-- what a turn of this client's call of this number leaves: the clients stay, the volume is quiet, few
+-- numbers were given, and each handle was there before or is this call's
+pub record Goes (old : Volume) (client number : ℕ) (new : Volume) : Type 0 where
+  pub clients : new.clients ≡ old.clients
+  pub quiet : IsQuiet new
+  pub gives : (turns : ℕ) → GivesUpTo old turns → GivesUpTo new (turns + 1)
+  pub handles : (test : Handle → Bool) → All (λ entry. IsTrue (test entry.1)) old.handles
+      → ((handle : Handle) → handle.client ≡ client → handle.number ≡ number → IsTrue (test handle)) → All (λ entry. IsTrue (test entry.1)) new.handles

@@ -10,15 +10,17 @@
 //! the bytes, the source or the sink. The script is held in memory whole, and so are all replies.
 #![tactic(auto)]
 
+mod bytes;
+mod closes;
+mod ends;
+mod growth;
 mod limits;
 mod lines;
 mod machine;
-mod rows;
 mod run;
-mod store;
 mod text;
 mod top;
-mod verbs;
+mod written;
 
 pub use limits::{MOST_CLIENT_LINES, MOST_LINE_FEEDS, MOST_SCRIPT_BYTES};
 pub use top::{fsa_main, fsa_single};

@@ -1,24 +1,28 @@
 //! One turn of the volume that runs a script.
 
-ghost use Rattle.std.specs.Prelude.{◌≡◌, ◌≤◌, ℕ, [], IfOk, OnOk, OnErr, Some, IsTrue};
+ghost use Rattle.std.specs.Prelude.{◌≡◌, ◌≤◌, ◌<◌, ◌+◌, ◌*◌, ◌-◌, ◌^◌, ℕ, [], IfOk, OnOk, OnErr, Some, None, IsTrue, length};
 ghost use Rattle.fsa_types.specs.Reply.{bytes_of_body, units_of_body};
-ghost use Rattle.fsa_types.specs.Request.{request_fits, what_fits};
-ghost use Rattle.fsa_model.specs.VerbEdits.{with_end};
+ghost use Rattle.fsa_model.proofs.Quiet.{most_reply};
+ghost use Rattle.fsa_model.specs.Edits.{with_end};
 ghost use Rattle.fsa_model.specs.Outcome.{out_of};
 ghost use Rattle.fsa_model.specs.Turn.{try, try_request, try_what, turn, turn_number};
-ghost use Rattle.fsa_top.specs.Try.{Gives, GivesUpTo, Goes, Grows, HasRoom, reply_bytes};
+ghost use Rattle.op_open.specs.Calls.{IsCreate, asked_try};
+ghost use Rattle.fsa_top.specs.Try.{Gives, Goes, MayTurn};
+ghost use Rattle.fsa_types.specs.declared.request.What.TheVariants.{Ask};
 
-use crate::store::Store;
-use crate::verbs::{Asked, bare, try_close, try_create, try_leave, try_read, try_tick, try_write};
+use crate::bytes::{try_read, try_write};
+use crate::closes::{try_close, try_leave, try_tick};
+use crate::ends::bare;
 use fsa_types::{
-    Answer, Call, CallIdList, EndList, EndOf, NoMemory, Out, Reply, ReplyRoom, Request, Status,
-    What,
+    Answer, Call, CallIdList, EndList, NoMemory, Out, Reply, ReplyRoom, Request, Status, What,
 };
+use op_open::try_create;
 use std::alloc::Global;
+use volume_state::{Need, Tried, Volume};
 
 // The most bytes that the reply to a call holds.
 fn reply_bytes(what: &What) -> usize
-    ensures { result ≡ reply_bytes what.now }
+    ensures { result ≡ most_reply what.now }
 {
     match what {
         What::Ask(Request::Read { count, .. }) => *count as usize,
@@ -26,126 +30,128 @@ fn reply_bytes(what: &What) -> usize
     }
 }
 
+// One try of a Create. On a quiet volume it is never held.
+fn try_open(alloc: Global, volume: &mut Volume, call: &Call) -> Result<Reply, NoMemory>
+    requires verb { IsCreate call.now.what }
+    requires may { MayTurn volume.old.content call.now }
+    ensures gives { Gives (asked_try volume.old.content call.now.client call.now.number call.now.what) volume.old.content volume.new.content result }
+    ensures ends { volume.old.spare.ends ≤ volume.new.spare.ends }
+{
+    match try_create(alloc, volume, call, 0) {
+        Tried::Done(reply) => Ok(reply),
+        Tried::NoMemory => Err(NoMemory),
+        Tried::Stay(_) | Tried::Hold { .. } => unreachable!(),
+    }
+}
+
 // One try of a request.
 fn try_request(
     alloc: Global,
-    store: &mut Store,
-    client: u32,
-    number: u32,
+    volume: &mut Volume,
+    call: &Call,
     request: &Request,
 ) -> Result<Reply, NoMemory>
-    requires fits { IsTrue (request_fits request.now) }
-    requires room { HasRoom store.old.spare }
-    requires ids { GivesUpTo store.old.content 0xFFFFFFFF }
-    ensures gives { Gives (try_request store.old.content client number request.now) store.old.content store.new.content result }
-    ensures ended { store.old.spare.ended ≤ store.new.spare.ended }
-    ensures grows { Grows store.old.content store.new.content }
-    ensures small { IfOk result (λ reply. bytes_of_body reply.body ≤ reply_bytes (What.Ask request.now)) }
-    ensures no_path { IfOk result (λ reply. units_of_body reply.body ≡ 0) }
+    requires is { call.now.what ≡ Ask request.now }
+    requires may { MayTurn volume.old.content call.now }
+    ensures gives { Gives (try_request volume.old.content call.now.client call.now.number request.now) volume.old.content volume.new.content result }
+    ensures ends { volume.old.spare.ends ≤ volume.new.spare.ends }
 {
+    let client = call.client;
     match request {
-        Request::Create {
-            path,
-            wanted,
-            share,
-            disposition,
-            ..
-        } => {
-            let asked = Asked {
-                client,
-                number,
-                access: *wanted,
-                share: *share,
-            };
-            try_create(alloc, store, &asked, *disposition, path.units())
+        Request::Create { .. } => try_open(alloc, volume, call),
+        Request::Close { handle } => Ok(try_close(volume, client, *handle)),
+        Request::Read { handle, at, count } => {
+            try_read(alloc, volume, client, *handle, *at, *count)
         }
-        Request::Close { handle } => Ok(try_close(store, client, *handle)),
-        Request::Read { handle, at, count } => try_read(alloc, store, client, *handle, *at, *count),
-        Request::Write { handle, at, bytes } => try_write(
-            store,
-            client,
-            *handle,
-            *at,
-            bytes.bytes(),
-        ),
+        Request::Write { handle, at, bytes } => {
+            try_write(volume, client, *handle, *at, bytes.bytes())
+        }
         _ => Ok(bare(Status::InvalidDeviceRequest)),
     }
 }
 
 // One try of what a call does.
-fn try_what(
-    alloc: Global,
-    store: &mut Store,
-    client: u32,
-    number: u32,
-    what: &What,
-) -> Result<Reply, NoMemory>
-    requires fits { IsTrue (what_fits what.now) }
-    requires room { HasRoom store.old.spare }
-    requires ids { GivesUpTo store.old.content 0xFFFFFFFF }
-    ensures gives { Gives (try_what store.old.content client number what.now) store.old.content store.new.content result }
-    ensures ended { store.old.spare.ended ≤ store.new.spare.ended }
-    ensures grows { Grows store.old.content store.new.content }
-    ensures small { IfOk result (λ reply. bytes_of_body reply.body ≤ reply_bytes what.now) }
-    ensures no_path { IfOk result (λ reply. units_of_body reply.body ≡ 0) }
+fn try_what(alloc: Global, volume: &mut Volume, call: &Call) -> Result<Reply, NoMemory>
+    requires may { MayTurn volume.old.content call.now }
+    ensures gives { Gives (try_what volume.old.content call.now.client call.now.number call.now.what) volume.old.content volume.new.content result }
+    ensures ends { volume.old.spare.ends ≤ volume.new.spare.ends }
 {
-    match what {
-        What::Ask(request) => try_request(alloc, store, client, number, request),
-        What::Tick(ticks) => Ok(try_tick(store, *ticks)),
-        What::Leave => Ok(try_leave(store, client)),
+    match &call.what {
+        What::Ask(request) => try_request(alloc, volume, call, request),
+        What::Tick(ticks) => Ok(try_tick(volume, *ticks)),
+        What::Leave => Ok(try_leave(volume, call.client)),
         What::WaitFor(_) => Ok(bare(Status::InvalidDeviceRequest)),
     }
 }
 
 // One try of a call; a client that has left has no handle.
-fn try_call(alloc: Global, store: &mut Store, call: &Call) -> Result<Reply, NoMemory>
-    requires fits { IsTrue (what_fits call.now.what) }
-    requires room { HasRoom store.old.spare }
-    requires ids { GivesUpTo store.old.content 0xFFFFFFFF }
-    ensures gives { Gives (try store.old.content call.now (turn_number store.old.content)) store.old.content store.new.content result }
-    ensures ended { store.old.spare.ended ≤ store.new.spare.ended }
-    ensures grows { Grows store.old.content store.new.content }
-    ensures small { IfOk result (λ reply. bytes_of_body reply.body ≤ reply_bytes call.now.what) }
-    ensures no_path { IfOk result (λ reply. units_of_body reply.body ≡ 0) }
+fn try_call(alloc: Global, volume: &mut Volume, call: &Call) -> Result<Reply, NoMemory>
+    requires may { MayTurn volume.old.content call.now }
+    ensures gives { Gives (try volume.old.content call.now (turn_number volume.old.content)) volume.old.content volume.new.content result }
+    ensures ends { volume.old.spare.ends ≤ volume.new.spare.ends }
 {
-    if store.has_left(call.client) {
+    if volume.has_left(call.client) {
         return Ok(bare(Status::InvalidHandle));
     }
-    try_what(alloc, store, call.client, call.number, &call.what)
+    try_what(alloc, volume, call)
+}
+
+// Room for one end.
+fn room_to_end(volume: &mut Volume) -> Result<(), NoMemory>
+    ensures content { volume.new.content ≡ volume.old.content }
+    ensures room { OnOk result (1 ≤ volume.new.spare.ends) }
+{
+    volume.reserve(&Need {
+        files: 0,
+        links: 0,
+        streams: 0,
+        handles: 0,
+        owners: 0,
+        locks: 0,
+        oplocks: 0,
+        watches: 0,
+        limits: 0,
+        pending: 0,
+        blockers: 0,
+        changes: 0,
+        ends: 1,
+        units: 0,
+        dirs: 0,
+        parent: 0,
+        handle: 0,
+    })
 }
 
 /// Makes a turn: tries the call, and keeps how it ended. `NoMemory` changes nothing.
-pub fn turn(alloc: Global, store: &mut Store, call: &Call) -> Result<Out, NoMemory>
-    requires fits { IsTrue (what_fits call.now.what) }
-    requires ids { GivesUpTo store.old.content 0xFFFFFFFF }
-    ensures ok { IfOk result (λ out. turn store.old.content call.now [] ≡ Some (record { volume = store.new.content; out = out_of out })) }
-    ensures err { OnErr result (store.new.content ≡ store.old.content) }
-    ensures goes { OnOk result (Goes store.old.content store.new.content) }
+pub fn turn(alloc: Global, volume: &mut Volume, call: &Call) -> Result<Out, NoMemory>
+    requires may { MayTurn volume.old.content call.now }
+    ensures ok { IfOk result (λ out. turn volume.old.content call.now [] ≡ Some (record { volume = volume.new.content; out = out_of out })) }
+    ensures err { OnErr result (volume.new.content ≡ volume.old.content) }
+    ensures goes { OnOk result (Goes volume.old.content call.now.client call.now.number volume.new.content) }
 {
-    store.reserve()?;
+    room_to_end(volume)?;
     let room = ReplyRoom::new(alloc, reply_bytes(&call.what), 0)?;
-    turn_in_room(alloc, store, call, room)
+    turn_in_room(alloc, volume, call, room)
 }
 
 // Makes a turn, with room for its reply.
 fn turn_in_room(
     alloc: Global,
-    store: &mut Store,
+    volume: &mut Volume,
     call: &Call,
     room: ReplyRoom,
 ) -> Result<Out, NoMemory>
-    requires fits { IsTrue (what_fits call.now.what) }
-    requires room { HasRoom store.old.spare }
-    requires reply { reply_bytes call.now.what ≤ room.bytes }
-    requires ids { GivesUpTo store.old.content 0xFFFFFFFF }
-    ensures ok { IfOk result (λ out. turn store.old.content call.now [] ≡ Some (record { volume = store.new.content; out = out_of out })) }
-    ensures err { OnErr result (store.new.content ≡ store.old.content) }
-    ensures goes { OnOk result (Goes store.old.content store.new.content) }
+    requires may { MayTurn volume.old.content call.now }
+    requires ends { 1 ≤ volume.old.spare.ends }
+    requires reply { most_reply call.now.what ≤ room.bytes }
+    ensures ok { IfOk result (λ out. turn volume.old.content call.now [] ≡ Some (record { volume = volume.new.content; out = out_of out })) }
+    ensures err { OnErr result (volume.new.content ≡ volume.old.content) }
+    ensures goes { OnOk result (Goes volume.old.content call.now.client call.now.number volume.new.content) }
 {
     let ended = EndList::with_room(alloc, 0)?;
     let starved = CallIdList::with_room(alloc, 0)?;
-    let reply = try_call(alloc, store, call)?;
-    keep_end(store, call, &reply, room);
+    let reply = try_call(alloc, volume, call)?;
+    keep_end(volume, call, &reply, room);
     Ok(Out {
         answer: Answer::Ended(reply),
         ended,
@@ -154,15 +160,11 @@ fn turn_in_room(
 }
 
 // Keeps how the call ended.
-fn keep_end(store: &mut Store, call: &Call, reply: &Reply, room: ReplyRoom)
-    requires room { 1 ≤ store.old.spare.ended }
+fn keep_end(volume: &mut Volume, call: &Call, reply: &Reply, room: ReplyRoom)
+    requires room { 1 ≤ volume.old.spare.ends }
     requires bytes { bytes_of_body reply.now.body ≤ room.bytes }
     requires units { units_of_body reply.now.body ≤ room.units }
-    ensures { store.new.content ≡ with_end store.old.content (record { client = call.now.client; number = call.now.number; reply = reply.now }) }
+    ensures { volume.new.content ≡ with_end volume.old.content call.now.client call.now.number reply.now }
 {
-    store.end(EndOf {
-        client: call.client,
-        number: call.number,
-        reply: reply.copy_into(room),
-    });
+    volume.end(call.client, call.number, reply.copy_into(room));
 }

@@ -1,26 +1,25 @@
 //! The run of a script: each call in its turn, and the text of each turn to the sink.
 
 ghost use Rattle.std.specs.Prelude.{◌≡◌, ◌≤◌, ◌<◌, ◌+◌, ◌-◌, ◌^◌, ◌∷◌, ◌++◌, [], ℕ, List, length, map, drop, IfOk, OnOk, IsErrOf, IsTrue, OnErr};
-ghost use Rattle.fsa_types.specs.Request.{what_fits};
 ghost use Rattle.fsa_model.specs.Setup.{client_of};
 ghost use Rattle.fsa_model.specs.Schedule.{AreNumbered, all_calls, calls_of, leave_after};
 ghost use Rattle.fsa_model.specs.Volume.{fresh};
 ghost use Rattle.fsa_model.specs.Text.{last_line};
-ghost use Rattle.fsa_model.proofs.ScriptLaws.{AllFit};
+ghost use Rattle.fsa_model.proofs.ScriptLaws.{AreLineCalls, HaveSids};
 ghost use Rattle.wire_io.specs.Faults.{HasCause, Rose};
 ghost use Rattle.wire_io.specs.Sink.{Appends, AppendsFront};
 ghost use Rattle.script_read.specs.ScriptView.{contents};
 ghost use Rattle.fsa_top.specs.Runs.{WritesPart, WritesText};
 ghost use Rattle.fsa_top.specs.Stands.{Shows, leaves_from, MakesTurn};
-ghost use Rattle.fsa_top.specs.Try.{GivesUpTo, Goes};
+ghost use Rattle.fsa_top.specs.Try.{Goes, MayTurn, most_turns};
 ghost use Rattle.fsa_top.specs.declared.run.RunFault.TheVariants.{Failed, NoMemory};
 
 use crate::machine::turn;
-use crate::store::Store;
 use crate::text::{push_last, push_turn};
-use fsa_types::{Call, ClientList, TryCopy, What};
+use fsa_types::{Call, ClientList, Setup, TryCopy, What};
 use script_read::Script;
 use std::alloc::Global;
+use volume_state::Volume;
 use wire_io::{Sink, put_all};
 
 /// Why a run stopped.
@@ -57,18 +56,17 @@ impl From<fsa_types::NoMemory> for RunFault {
 // Makes one turn and writes its lines.
 fn make_turn<K: Sink>(
     alloc: Global,
-    store: &mut Store,
+    volume: &mut Volume,
     clients: &ClientList,
     call: &Call,
     sink: &mut K,
 ) -> Result<(), RunFault>
-    requires fits { IsTrue (what_fits call.now.what) }
-    requires ids { GivesUpTo store.old.content 0xFFFFFFFF }
-    ensures made { MakesTurn store.old.content store.new.content (map client_of clients.now.items) call.now (K.written sink.old) (K.written sink.new) result }
+    requires may { MayTurn volume.old.content call.now }
+    ensures made { MakesTurn volume.old.content volume.new.content (map client_of clients.now.items) call.now (K.written sink.old) (K.written sink.new) result }
     ensures later { K.faults sink.old ≤ K.faults sink.new }
     ensures failed { IsErrOf result RunFault.Failed → Rose (K.faults sink.old) (K.faults sink.new) }
 {
-    let out = turn(alloc, store, call)?;
+    let out = turn(alloc, volume, call)?;
     let mut lines = Vec::new(alloc);
     push_turn(&mut lines, clients, call, &out)?;
     put_all(sink, &lines)?;
@@ -105,15 +103,15 @@ fn leave_after(lines: &[Call], client: u32) -> Call
 // Makes the turns of the lines, and then those in which the clients leave.
 fn run_calls<K: Sink>(
     alloc: Global,
-    store: &mut Store,
+    volume: &mut Volume,
     script: &Script,
     sink: &mut K,
 ) -> Result<(), RunFault>
-    requires fit { AllFit (contents script.now).lines }
-    requires few { length (all_calls (contents script.now)) < 0xFFFFFFFF }
+    requires fit { AreLineCalls (length (contents script.now).setup.clients) (contents script.now).lines }
+    requires few { length (all_calls (contents script.now)) < most_turns }
     requires few_lines { length (contents script.now).lines < 0xFFFFFFFF }
-    requires shows { Shows (contents script.now) (all_calls (contents script.now)) store.old.content (K.written sink.old) (K.written sink.old) }
-    ensures ok { OnOk result (Shows (contents script.now) [] store.new.content (K.written sink.old) (K.written sink.new)) }
+    requires shows { Shows (contents script.now) (all_calls (contents script.now)) volume.old.content (K.written sink.old) (K.written sink.old) }
+    ensures ok { OnOk result (Shows (contents script.now) [] volume.new.content (K.written sink.old) (K.written sink.new)) }
     ensures part { OnErr result (WritesPart (contents script.now) (K.written sink.old) (K.written sink.new)) }
     ensures later { K.faults sink.old ≤ K.faults sink.new }
     ensures failed { IsErrOf result RunFault.Failed → Rose (K.faults sink.old) (K.faults sink.new) }
@@ -121,25 +119,26 @@ fn run_calls<K: Sink>(
     let clients = script.clients();
     let lines = script.lines().as_slice();
     for call in lines {
-        make_turn(alloc, store, clients, call, sink)?;
+        make_turn(alloc, volume, clients, call, sink)?;
     }
     for client in 0..clients.len() {
         let call = leave_after(lines, client as u32);
-        make_turn(alloc, store, clients, &call, sink)?;
+        make_turn(alloc, volume, clients, &call, sink)?;
     }
     Ok(())
 }
 
 // The most clients that a run has numbers for.
-const MOST_CLIENTS: usize = 0xFFFF_0000;
+const MOST_CLIENTS: usize = 0x7FFF_0000;
 
 // The volume with which a script begins.
-fn begin(alloc: Global, script: &Script) -> Result<Store, fsa_types::NoMemory>
-    ensures { IfOk result (λ store. store.content ≡ fresh (contents script.now).setup) }
+fn begin(alloc: Global, script: &Script) -> Result<Volume, fsa_types::NoMemory>
+    requires sids { HaveSids (contents script.now).setup.clients }
+    ensures { IfOk result (λ volume. volume.content ≡ fresh (contents script.now).setup) }
 {
     let table = script.table().copy(alloc)?;
     let clients = script.clients().copy(alloc)?;
-    Store::new(alloc, table, clients)
+    Volume::new(alloc, Setup { table, clients })
 }
 
 // Writes the last line.
@@ -157,7 +156,7 @@ fn write_last<K: Sink>(alloc: Global, turns: u32, sink: &mut K) -> Result<(), Ru
 
 // How many calls a script makes, the clients' leavings among them.
 fn turn_count(script: &Script) -> u32
-    requires few { length (all_calls (contents script.now)) < 0xFFFFFFFF }
+    requires few { length (all_calls (contents script.now)) < most_turns }
     ensures { result ≡ length (all_calls (contents script.now)) }
 {
     (script.lines().len() + script.clients().len()) as u32
@@ -166,20 +165,20 @@ fn turn_count(script: &Script) -> u32
 // Makes all calls of a script on this volume, and writes the text of the history.
 fn run_on<K: Sink>(
     alloc: Global,
-    store: &mut Store,
+    volume: &mut Volume,
     script: &Script,
     sink: &mut K,
 ) -> Result<(), RunFault>
-    requires fit { AllFit (contents script.now).lines }
-    requires few { length (all_calls (contents script.now)) < 0xFFFFFFFF }
+    requires fit { AreLineCalls (length (contents script.now).setup.clients) (contents script.now).lines }
+    requires few { length (all_calls (contents script.now)) < most_turns }
     requires few_lines { length (contents script.now).lines < 0xFFFFFFFF }
-    requires shows { Shows (contents script.now) (all_calls (contents script.now)) store.old.content (K.written sink.old) (K.written sink.old) }
+    requires shows { Shows (contents script.now) (all_calls (contents script.now)) volume.old.content (K.written sink.old) (K.written sink.old) }
     ensures ok { OnOk result (WritesText (contents script.now) (K.written sink.old) (K.written sink.new)) }
     ensures part { OnErr result (WritesPart (contents script.now) (K.written sink.old) (K.written sink.new)) }
     ensures later { K.faults sink.old ≤ K.faults sink.new }
     ensures failed { IsErrOf result RunFault.Failed → Rose (K.faults sink.old) (K.faults sink.new) }
 {
-    run_calls(alloc, store, script, sink)?;
+    run_calls(alloc, volume, script, sink)?;
     write_last(alloc, turn_count(script), sink)?;
     Ok(())
 }
@@ -187,7 +186,7 @@ fn run_on<K: Sink>(
 // Whether a script makes few enough calls for a run's numbers.
 fn is_short(script: &Script) -> bool
     requires few { length (contents script.now).lines ≤ 64 }
-    ensures { IsTrue result → length (all_calls (contents script.now)) < 0xFFFFFFFF }
+    ensures { IsTrue result → length (all_calls (contents script.now)) < most_turns }
 {
     script.clients().len() <= MOST_CLIENTS
 }
@@ -196,8 +195,9 @@ fn is_short(script: &Script) -> bool
 /// `Failed` where the sink failed, `NoMemory` where there was no memory; a prefix of the text of
 /// the history so far is written then.
 pub fn run_script<K: Sink>(alloc: Global, script: &Script, sink: &mut K) -> Result<(), RunFault>
-    requires fit { AllFit (contents script.now).lines }
+    requires fit { AreLineCalls (length (contents script.now).setup.clients) (contents script.now).lines }
     requires numbered { AreNumbered [] (all_calls (contents script.now)) }
+    requires sids { HaveSids (contents script.now).setup.clients }
     requires few { length (contents script.now).lines ≤ 64 }
     ensures ok { OnOk result (WritesText (contents script.now) (K.written sink.old) (K.written sink.new)) }
     ensures part { OnErr result (WritesPart (contents script.now) (K.written sink.old) (K.written sink.new)) }
@@ -207,6 +207,6 @@ pub fn run_script<K: Sink>(alloc: Global, script: &Script, sink: &mut K) -> Resu
     if !is_short(script) {
         return Err(RunFault::NoMemory);
     }
-    let mut store = begin(alloc, script)?;
-    run_on(alloc, &mut store, script, sink)
+    let mut volume = begin(alloc, script)?;
+    run_on(alloc, &mut volume, script, sink)
 }

@@ -3,9 +3,13 @@
 #![tactic(auto)]
 
 #[cfg(test)]
+mod dispositions;
+#[cfg(test)]
 mod limits;
 #[cfg(test)]
 mod program;
+#[cfg(test)]
+mod streams;
 #[cfg(test)]
 mod tests;
 #[cfg(test)]

@@ -1,4 +1,4 @@
-use Rattle.std.proofs.Common.{List, ℕ, [], ◌∷◌, ◌++◌, ◌∙◌, ◌≡◌, subst}
+use Rattle.std.proofs.Common.{[], ◌∷◌, ◌++◌, ◌∙◌, ◌≡◌, subst}
 use Rattle.std.specs.Prelude.{codes, decimal}
 use Rattle.wire_io.specs.Sink.{Appends, AppendsFront}
 use Rattle.wire_io.specs.declared.faults.Failed.{Failed}

@@ -1,4 +1,4 @@
-use Rattle.std.proofs.Common.{List, ℕ, ap, subst}
+use Rattle.std.proofs.Common.{ℕ, subst}
 use Rattle.fsa_model.specs.Schedule.{all_calls}
 use Rattle.fsa_model.specs.Text.{last_line}
 use Rattle.script_read.specs.ScriptView.{contents}
