@@ -1,19 +1,23 @@
--- What breaks of oplocks leave as it was, and how many numbers they take.
-use Rattle.std.proofs.Common.{◌≡◌, ℕ, Bool, true, false, ◌+◌, ◌≤◌, ◌==◌, not, List, [], ◌∷◌, length, refl, ap, ◌∙◌, arith, Option, Some, None, inl, inr}
-use Rattle.std.specs.Prelude.{filter, fold, if◌then◌else◌}
+-- What breaks of oplocks leave as it was, how many numbers they take, and that they leave a volume sound.
+use Rattle.std.proofs.Common.{◌≡◌, ℕ, Bool, true, false, ◌+◌, ◌^◌, ◌<◌, ◌≤◌, ◌==◌, ◌&&◌, not, List, [], ◌∷◌, length, refl, ap, ◌∙◌, arith, Option, Some, None, inl, inr}
+use Rattle.std.specs.Prelude.{filter, fold, map, is_some, All, if◌then◌else◌}
 use Rattle.std.proofs.lemmas.Bool.{cases_Bool}
 use Rattle.std.proofs.lemmas.List.{length-map}
+use Rattle.std.proofs.lemmas.List.Elements.{All-map, All-filter, All-weaker}
+use Rattle.std.proofs.lemmas.List.Kept.{AllPairs-filter}
 use Rattle.fsa_types.proofs.RowLemmas.{length-filter_le}
-use Rattle.fsa_types.specs.Oplocks.{Effect, Stays, Ends, Begins, Lowers, effect}
-use Rattle.fsa_types.specs.Rows.{row_of}
+use Rattle.fsa_types.specs.Oplocks.{Effect, Stays, Ends, Begins, Lowers, effect, is_awaited}
+use Rattle.fsa_types.specs.Rows.{row_of, lives}
 use Rattle.fsa_types.specs.Sorting.{put_in_order, in_order}
 use Rattle.fsa_types.specs.declared.oplock.Class.{Class}
 use Rattle.fsa_types.specs.declared.oplock.HandleSet.{HandleSet}
 use Rattle.fsa_types.specs.declared.request.Level.{Level}
 use Rattle.fsa_types.specs.declared.request.Level.TheVariants.{Nil}
-use Rattle.fsa_model.specs.Breaks.{with_told, with_break_begun, with_effect, with_breaks, is_broken_before, is_chosen, chosen}
-use Rattle.fsa_model.specs.Edits.{without_oplock}
-use Rattle.fsa_model.specs.Volume.{Oplock, Volume}
+use Rattle.fsa_types.specs.declared.reply.Reply.{Reply}
+use Rattle.fsa_model.specs.Breaks.{with_told, with_break_begun, with_effect, with_breaks, is_broken_before, is_chosen, is_told, chosen, told, awaited, break_of}
+use Rattle.fsa_model.specs.Edits.{is_call, with_end, without_oplock}
+use Rattle.fsa_model.specs.Sound.{ArePending, IsSound}
+use Rattle.fsa_model.specs.Volume.{Handle, Oplock, Pending, Volume}
 use Rattle.fsa_model.proofs.RowLaws.{option_cases}
 
 -- one volume, with the parts of another that breaks change
@@ -118,3 +122,102 @@ with_breaks-numbers v on kind acting key =
     let ordered = length-in_order (is_broken_before v) (filter (is_chosen v on acting key) v.oplocks) in
     let kept = length-filter_le (is_chosen v on acting key) v.oplocks in
     omega arith
+
+-- at most as many oplocks are chosen as there are, and so calls told and breaks awaited
+pub chosen-few : (v : Volume) (on : HandleSet) (acting : Option ℕ) (key : ℕ) → length (chosen v on acting key) ≤ length v.oplocks
+chosen-few v on acting key =
+    let ordered = length-in_order (is_broken_before v) (filter (is_chosen v on acting key) v.oplocks) in
+    let kept = length-filter_le (is_chosen v on acting key) v.oplocks in
+    omega arith
+
+pub told-few : (v : Volume) (on : HandleSet) (kind : Class) (acting : Option ℕ) (key : ℕ) → length (told v on kind acting key) ≤ length v.oplocks
+told-few v on kind acting key =
+    let few = chosen-few v on acting key in
+    let kept = length-filter_le (λ (oplock : Oplock). is_told (effect kind oplock.level oplock.target) && is_some oplock.call) (chosen v on acting key) in
+    omega arith
+
+pub awaited-few : (v : Volume) (on : HandleSet) (kind : Class) (acting : Option ℕ) (key : ℕ) → length (awaited v on kind acting key) ≤ length v.oplocks
+awaited-few v on kind acting key =
+    let waits : Oplock → Bool = λ oplock. is_awaited kind oplock.level oplock.target in
+    let few = chosen-few v on acting key in
+    let kept = length-filter_le waits (chosen v on acting key) in
+    let as_many = length-map (filter waits (chosen v on acting key)) (λ oplock. break_of (with_breaks v on kind acting key) oplock.handle) in
+    omega arith
+
+-- a volume stays sound with other oplocks of living handles and other pending calls of clients
+IsSound-touched : (v w : Volume) → IsSound v → ArePending v.clients w.pending → All (λ oplock. lives v.handles oplock.handle ≡ true) w.oplocks → w.last_break < 2 ^ 64 → IsSound (touched v w)
+IsSound-touched v w sound pending live below = record {
+  tree = sound.tree;
+  opens = sound.opens;
+  pending = pending;
+  clients = sound.clients;
+  of_handles = record {
+    locks_live = sound.of_handles.locks_live;
+    oplocks_live = live;
+    watches_live = sound.of_handles.watches_live;
+    watches_differ = sound.of_handles.watches_differ;
+  };
+  files_numbered = sound.files_numbered;
+  links_numbered = sound.links_numbered;
+  streams_numbered = sound.streams_numbered;
+  handles_numbered = sound.handles_numbered;
+  streams_fit = sound.streams_fit;
+  points_fit = sound.points_fit;
+  bounded = record { files = sound.bounded.files; links = sound.bounded.links; streams = sound.bounded.streams; handles = sound.bounded.handles; clock = sound.bounded.clock; locks = sound.bounded.locks; breaks = below };
+}
+
+-- a call that ends is pending no more
+pub IsSound-with_end : (v : Volume) (client number : ℕ) (reply : Reply) → IsSound v → IsSound (with_end v client number reply)
+IsSound-with_end v client number reply sound =
+    let stays : ℕ × Pending → Bool = λ entry. not (is_call client number entry.1) in
+    IsSound-touched v (with_end v client number reply) sound
+    (record {
+      differ = AllPairs-filter (λ a b. is_call b.1.call.client b.1.call.number a.1 ≡ false) stays v.pending sound.pending.differ;
+      turns_differ = AllPairs-filter (λ a b. (a.0 == b.0) ≡ false) stays v.pending sound.pending.turns_differ;
+      have_clients = All-filter stays (λ entry. entry.1.call.client < length v.clients) v.pending sound.pending.have_clients;
+    })
+    sound.of_handles.oplocks_live sound.bounded.breaks
+
+IsSound-with_told : (v : Volume) (turn : Option ℕ) (level : Level) (ack : Bool) → IsSound v → IsSound (with_told v turn level ack)
+IsSound-with_told v None level ack sound = sound
+IsSound-with_told v (Some turn) level ack sound =
+    elim (option_cases (row_of v.pending turn)) [
+      | inl none ↦ rw none sound
+      | inr some ↦ rw some.1 (IsSound-with_end v _ _ _ sound)
+    ]
+
+-- oplocks that are changed are of the handles that they were of
+live-changed : (handles : List (ℕ × Handle)) (oplocks : List Oplock) (change : Oplock → Oplock) (handle : ℕ) → ((oplock : Oplock) → (change oplock).handle ≡ oplock.handle)
+    → All (λ oplock. lives handles oplock.handle ≡ true) oplocks
+    → All (λ oplock. lives handles oplock.handle ≡ true) (map (λ oplock. if oplock.handle == handle then change oplock else oplock) oplocks)
+live-changed handles oplocks change handle same live =
+    All-map (λ oplock. lives handles oplock.handle ≡ true) (λ oplock. if oplock.handle == handle then change oplock else oplock) oplocks
+    (All-weaker (λ oplock. lives handles oplock.handle ≡ true) (λ oplock. lives handles (if oplock.handle == handle then change oplock else oplock).handle ≡ true)
+    (λ oplock living. elim (cases_Bool (oplock.handle == handle)) [ inl here ↦ rw (here, same oplock) living | inr other ↦ rw other living ]) oplocks live)
+
+IsSound-with_effect : (v : Volume) (oplock : Oplock) (done : Effect) → v.last_break + 1 < 2 ^ 64 → IsSound v → IsSound (with_effect v oplock done)
+IsSound-with_effect v oplock Stays below sound = sound
+IsSound-with_effect v oplock Ends below sound =
+    IsSound-with_told (without_oplock v oplock.handle) oplock.call Nil false
+    (IsSound-touched v (without_oplock v oplock.handle) sound sound.pending
+    (All-filter (λ (o : Oplock). not (o.handle == oplock.handle)) (λ o. lives v.handles o.handle ≡ true) v.oplocks sound.of_handles.oplocks_live) sound.bounded.breaks)
+IsSound-with_effect v oplock (Begins level) below sound =
+    IsSound-with_told (with_break_begun v oplock.handle level) oplock.call level true
+    (IsSound-touched v (with_break_begun v oplock.handle level) sound sound.pending
+    (live-changed v.handles v.oplocks (λ o. record o { target = Some level; number = v.last_break + 1; call = None }) oplock.handle (λ o. refl) sound.of_handles.oplocks_live) below)
+IsSound-with_effect v oplock (Lowers level) below sound =
+    IsSound-touched v (with_effect v oplock (Lowers level)) sound sound.pending
+    (live-changed v.handles v.oplocks (λ o. record o { target = Some level }) oplock.handle (λ o. refl) sound.of_handles.oplocks_live) sound.bounded.breaks
+
+IsSound-broken : (kind : Class) (v : Volume) (oplocks : List Oplock) → v.last_break + length oplocks < 2 ^ 64 → IsSound v → IsSound (broken kind v oplocks)
+IsSound-broken kind v [] below sound = sound
+IsSound-broken kind v (oplock ∷ oplocks) below sound =
+    let one = numbers-effect v oplock (effect kind oplock.level oplock.target) in
+    IsSound-broken kind (with_effect v oplock (effect kind oplock.level oplock.target)) oplocks (omega arith)
+    (IsSound-with_effect v oplock (effect kind oplock.level oplock.target) (omega arith) sound)
+
+-- breaks leave a volume sound where numbers for them are left
+pub IsSound-with_breaks : (v : Volume) (on : HandleSet) (kind : Class) (acting : Option ℕ) (key : ℕ) → v.last_break + length v.oplocks < 2 ^ 64 → IsSound v → IsSound (with_breaks v on kind acting key)
+IsSound-with_breaks v on kind acting key below sound =
+    let few = chosen-few v on acting key in
+    IsSound-broken kind v (chosen v on acting key) (omega arith) sound

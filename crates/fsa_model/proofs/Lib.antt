@@ -16,5 +16,6 @@ pub mod QuietTry
 pub mod RowLaws
 pub mod ScheduleLaws
 pub mod ScriptLaws
+pub mod SecurityExamples
 pub mod SoundLaws
 pub mod TurnLaws

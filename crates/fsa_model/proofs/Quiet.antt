@@ -44,7 +44,7 @@ Settles v client number bytes (Done after reply) = Grows v client number after �
 Settles v client number bytes (Stay after interim) = ⊥
 Settles v client number bytes (Hold after blockers interim) = ⊥
 
--- the most bytes that a reply to this has
+-- the most bytes that a reply to this has on a quiet volume
 abbrev pub most_reply : What → ℕ
 most_reply (Ask (Read handle at count)) = count
 most_reply _ = 0

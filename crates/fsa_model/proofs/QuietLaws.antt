@@ -11,11 +11,12 @@ use Rattle.fsa_types.specs.StreamBytes.{put, cut}
 use Rattle.fsa_types.specs.declared.oplock.Class.{Class}
 use Rattle.fsa_types.specs.declared.oplock.HandleSet.{HandleSet}
 use Rattle.fsa_types.specs.Reply.{bytes_of_body, units_of_body}
+use Rattle.fsa_types.specs.declared.request.Ace.{Ace}
 use Rattle.fsa_types.specs.declared.reply.Reply.{Reply}
 use Rattle.fsa_types.specs.declared.status.Status.{Status}
 use Rattle.fsa_model.specs.Breaks.{chosen, is_chosen, is_broken_before, with_breaks, awaited}
 use Rattle.fsa_model.specs.Changes.{with_change_noted}
-use Rattle.fsa_model.specs.Edits.{with_bytes, with_length, with_basic, with_ticks, with_end, without_handle}
+use Rattle.fsa_model.specs.Edits.{with_bytes, with_length, with_basic, with_owner, with_dacl, with_ticks, with_end, without_handle}
 use Rattle.fsa_model.specs.Locked.{locks_on, read_is_locked, write_is_locked}
 use Rattle.fsa_model.specs.Outcome.{Outcome, Done, refused}
 use Rattle.fsa_model.specs.Setup.{Setup}
@@ -149,10 +150,10 @@ Grows-bytes stream at bytes grows = Grows-streams (λ row. record row { bytes = 
 pub Grows-length : {v w : Volume} {client number : ℕ} (stream length : ℕ) → Grows v client number w → Grows v client number (with_length w stream length)
 Grows-length stream length grows = Grows-streams (λ row. record row { bytes = cut row.bytes length }) stream (λ row. refl) grows
 
--- times and attributes changed
-pub Grows-basic : {v : Volume} {client number : ℕ} (w : Volume) (file creation access write change attributes : ℕ) → Grows v client number w
-    → Grows v client number (with_basic w file creation access write change attributes)
-Grows-basic w file creation access write change attributes grows = record {
+-- files changed, but not their reparse points
+pub Grows-files : {v w : Volume} {client number : ℕ} (change : File → File) (file : ℕ) → ((row : File) → (change row).point ≡ row.point)
+    → Grows v client number w → Grows v client number (record w { files = with_row_changed change w.files file })
+Grows-files {w = w} change file same grows = record {
   ended = grows.ended;
   clients = grows.clients;
   quiet = record {
@@ -161,8 +162,8 @@ Grows-basic w file creation access write change attributes grows = record {
     pending = grows.quiet.pending;
     watches = grows.quiet.watches;
     breaks = grows.quiet.breaks;
-    points = All-map (λ entry. entry.1.point ≡ None) (change_at basic file) w.files
-        (λ k d within. change_at-same basic file (λ row. row.point) (λ row. refl) (get_or w.files k d) ∙ grows.quiet.points k d within);
+    points = All-map (λ entry. entry.1.point ≡ None) (change_at change file) w.files
+        (λ k d within. change_at-same change file (λ row. row.point) same (get_or w.files k d) ∙ grows.quiet.points k d within);
     links = grows.quiet.links;
     streams = grows.quiet.streams;
     handles = grows.quiet.handles;
@@ -176,9 +177,19 @@ Grows-basic w file creation access write change attributes grows = record {
   };
   handles = grows.handles;
 }
-  where
-    basic : File → File
-    basic row = record row { creation = creation; access = access; write = write; change = change; attributes = attributes }
+
+-- times and attributes changed
+pub Grows-basic : {v : Volume} {client number : ℕ} (w : Volume) (file creation access write change attributes : ℕ) → Grows v client number w
+    → Grows v client number (with_basic w file creation access write change attributes)
+Grows-basic w file creation access write change attributes grows =
+    Grows-files (λ row. record row { creation = creation; access = access; write = write; change = change; attributes = attributes }) file (λ row. refl) grows
+
+-- an owner, and an access list set
+pub Grows-owner : {v w : Volume} {client number : ℕ} (file owner : ℕ) → Grows v client number w → Grows v client number (with_owner w file owner)
+Grows-owner file owner grows = Grows-files (λ row. record row { owner = owner }) file (λ row. refl) grows
+
+pub Grows-dacl : {v w : Volume} {client number : ℕ} (file : ℕ) (dacl : Option (List Ace)) → Grows v client number w → Grows v client number (with_dacl w file dacl)
+Grows-dacl file dacl grows = Grows-files (λ row. record row { dacl = dacl }) file (λ row. refl) grows
 
 -- handles closed
 pub Grows-handles : {v : Volume} {client number : ℕ} (w : Volume) (keep : ℕ × Handle → Bool) (left : List Bool) → Grows v client number w

@@ -12,23 +12,26 @@ use Rattle.fsa_types.specs.declared.oplock.Class.TheVariants.{Change, ReadOpen}
 use Rattle.fsa_types.specs.declared.oplock.HandleSet.TheVariants as set
 use Rattle.fsa_types.specs.declared.request.Call.{Call}
 use Rattle.fsa_types.specs.declared.request.Request.{Request}
-use Rattle.fsa_types.specs.declared.request.Request.TheVariants.{Create, Close, Read, Write}
+use Rattle.fsa_types.specs.declared.request.Request.TheVariants.{Create, Close, Read, Write, SetSecurity}
+use Rattle.fsa_types.specs.declared.request.DaclChange.{DaclChange}
+use Rattle.fsa_types.specs.declared.request.DaclChange.TheVariants.{Keep, Remove, Put}
 use Rattle.fsa_types.specs.declared.request.What.{What}
 use Rattle.fsa_types.specs.declared.request.What.TheVariants.{Ask, Tick, Leave}
 use Rattle.fsa_types.specs.declared.status.Status.TheVariants as status
 use Rattle.fsa_model.specs.Close.{with_closed, close_at, try_close, try_leave, handles_of_client}
 use Rattle.fsa_model.specs.Growth.{growth_fault}
 use Rattle.fsa_model.specs.Locked.{read_is_locked, write_is_locked}
-use Rattle.fsa_model.specs.Lookups.{handle_of, bytes_of, has_left}
+use Rattle.fsa_model.specs.Lookups.{file_of_link, handle_of, bytes_of, has_left}
 use Rattle.fsa_model.specs.Outcome.{refused, ends_with}
 use Rattle.fsa_model.specs.Read.{largest_end, read_bytes, read_unlocked, read_range, read_stream, read_by, read_at, try_read}
 use Rattle.fsa_model.specs.Requests.{marks_nothing}
+use Rattle.fsa_model.specs.Security.{asks_something, lacks_right, is_foreign, passes_limit, mapped, with_owner_asked, with_dacl_asked, with_change_time, with_security_noted, with_security, set_security_of, set_security_by, set_security_at, try_set_security}
 use Rattle.fsa_model.specs.Turn.{try_request, try_what, try}
 use Rattle.fsa_model.specs.Volume.{Handle, Volume}
 use Rattle.fsa_model.specs.Write.{file_of_stream, is_named_stream, with_file_write_noted, with_stream_write_noted, lengthens, with_written, write_bytes, write_grown, write_unlocked, write_range, write_at_place, can_write, write_stream, write_by, write_at, try_write}
 use Rattle.fsa_model.proofs.Quiet.{IsQuiet, Grows, Settles, most_reply, ticks_fit}
 use Rattle.fsa_model.proofs.QuietClose.{with_closed-quiet, with_client_gone-some}
-use Rattle.fsa_model.proofs.QuietLaws.{with_breaks-quiet, waits_for-quiet, Grows-same, Grows-noted, Grows-bytes, Grows-basic, Grows-handles, Grows-without_handle, Grows-ticks, Ends, Ends-done, Ends-refused, Ends-if, Ends-option}
+use Rattle.fsa_model.proofs.QuietLaws.{with_breaks-quiet, waits_for-quiet, Grows-same, Grows-noted, Grows-bytes, Grows-basic, Grows-owner, Grows-dacl, Grows-handles, Grows-without_handle, Grows-ticks, Ends, Ends-done, Ends-refused, Ends-if, Ends-option}
 use Rattle.fsa_model.proofs.QuietOpen.{try_create-settles}
 
 -- ---- reads
@@ -168,6 +171,56 @@ try_leave-settles v client number of quiet =
     rw (with_client_gone-some v of quiet)
     (Ends-done _ _ (Grows-handles v (λ entry. not (list_any (λ other. other.0 == entry.0) (handles_of_client v of))) (slice_set v.left of true) (Grows-same v client number quiet)) (omega arith) refl)
 
+-- ---- owners and access lists
+
+Grows-owner_asked : (v : Volume) (client number file : ℕ) (owner : Option ℕ) → IsQuiet v → Grows v client number (with_owner_asked v file owner)
+Grows-owner_asked v client number file None quiet = Grows-same v client number quiet
+Grows-owner_asked v client number file (Some sid) quiet = Grows-owner file sid (Grows-same v client number quiet)
+
+Grows-dacl_asked : {v : Volume} {client number : ℕ} (w : Volume) (file : ℕ) (dacl : DaclChange) → Grows v client number w → Grows v client number (with_dacl_asked w file dacl)
+Grows-dacl_asked w file Keep grows = grows
+Grows-dacl_asked w file Remove grows = Grows-dacl file None grows
+Grows-dacl_asked w file (Put dacl) grows = Grows-dacl file (Some (mapped dacl.items)) grows
+
+Grows-security_noted : {v : Volume} {client number : ℕ} (w : Volume) (link : ℕ) (asks : Bool) → Grows v client number w → Grows v client number (with_security_noted w link asks)
+Grows-security_noted w link true grows = Grows-noted w link 3 0x100 None grows
+Grows-security_noted w link false grows = grows
+
+Grows-security : (v : Volume) (client number link file : ℕ) (owner : Option ℕ) (dacl : DaclChange) → IsQuiet v → Grows v client number (with_security v link file owner dacl)
+Grows-security v client number link file owner dacl quiet =
+    let own = with_owner_asked v file owner in
+    let listed = with_dacl_asked own file dacl in
+    Grows-security_noted (with_change_time listed file) link (asks_something owner dacl)
+    (Grows-basic listed file _ _ _ _ _ (Grows-dacl_asked own file dacl (Grows-owner_asked v client number file owner quiet)))
+
+set_security_of-ends : (v : Volume) (client number of link file : ℕ) (owner : Option ℕ) (dacl : DaclChange) → IsQuiet v → Ends v client number 0 (set_security_of v of link file owner dacl)
+unfolding set_security_of
+set_security_of-ends v client number of link file owner dacl quiet =
+    Ends-if (is_foreign v of owner) _ _ (λ is. Ends-refused v _ quiet)
+    (λ no. Ends-if (passes_limit v file owner) _ _ (λ is. Ends-refused v _ quiet)
+    (λ no. Ends-done _ _ (Grows-security v client number link file owner dacl quiet) (omega arith) refl))
+
+set_security_by-ends : (v : Volume) (client number of : ℕ) (handle : Handle) (owner : Option ℕ) (dacl : DaclChange) → IsQuiet v
+    → Ends v client number 0 (set_security_by v of handle owner dacl)
+unfolding set_security_by
+set_security_by-ends v client number of handle owner dacl quiet =
+    Ends-if (lacks_right handle.access owner dacl) _ _ (λ is. Ends-refused v _ quiet)
+    (λ no. Ends-option (file_of_link v.links handle.link) (λ file. set_security_of v of handle.link file owner dacl) _
+    (λ file found. set_security_of-ends v client number of handle.link file owner dacl quiet) (Ends-refused v _ quiet))
+
+set_security_at-ends : (v : Volume) (client number of id : ℕ) (owner : Option ℕ) (dacl : DaclChange) → IsQuiet v → Ends v client number 0 (set_security_at v of id owner dacl)
+unfolding set_security_at
+set_security_at-ends v client number of id owner dacl quiet =
+    Ends-option (row_of v.handles id) (λ handle. set_security_by v of handle owner dacl) _
+    (λ handle found. set_security_by-ends v client number of handle owner dacl quiet) (Ends-refused v _ quiet)
+
+pub try_set_security-settles : (v : Volume) (client number of handle : ℕ) (owner : Option ℕ) (dacl : DaclChange) → IsQuiet v
+    → Ends v client number 0 (try_set_security v of handle owner dacl)
+unfolding try_set_security
+try_set_security-settles v client number of handle owner dacl quiet =
+    Ends-option (handle_of v of handle) (λ id. set_security_at v of id owner dacl) _
+    (λ id found. set_security_at-ends v client number of id owner dacl quiet) (Ends-refused v _ quiet)
+
 -- ---- any call
 
 try_request-settles : (v : Volume) (client number : ℕ) (request : Request) → IsQuiet v → IsTrue (marks_nothing (Ask request))
@@ -181,6 +234,7 @@ try_request-settles v client number (Create path wanted share disposition option
 try_request-settles v client number (Close handle) quiet marks = try_close-settles v client number client handle quiet
 try_request-settles v client number (Read handle at count) quiet marks = try_read-settles v client number client handle at count quiet
 try_request-settles v client number (Write handle at bytes) quiet marks = try_write-settles v client number client handle at bytes quiet
+try_request-settles v client number (SetSecurity handle owner dacl) quiet marks = try_set_security-settles v client number client handle owner dacl quiet
 try_request-settles v client number _ quiet marks = Ends-refused v _ quiet
 
 try_what-settles : (v : Volume) (client number : ℕ) (what : What) → IsQuiet v → IsTrue (marks_nothing what) → IsTrue (ticks_fit what)

@@ -1,20 +1,24 @@
 -- Laws of scripts: their calls are numbered in turn, few, and within the bounds of requests.
-use Rattle.std.proofs.Common.{◌≡◌, ℕ, ◌+◌, ◌*◌, ◌<◌, ◌≤◌, suc, List, [], ◌∷◌, ◌++◌, length, map, Bool, true, false, cond, if◌then◌else◌, Option, Some, None, Result, Ok, Err, refl, ap, sym, subst, ◌∙◌, append_assoc, append-nil, arith, length-append, ne_eqb, eqb-true, leb-true, le-leb, ltb-true}
+use Rattle.std.proofs.Common.{◌≡◌, ℕ, ◌+◌, ◌*◌, ◌<◌, ◌≤◌, zero, suc, List, [], ◌∷◌, ◌++◌, length, map, Bool, true, false, cond, if◌then◌else◌, Option, Some, None, Result, Ok, Err, refl, ap, sym, subst, ◌∙◌, append_assoc, append-nil, arith, length-append, ne_eqb, eqb-true, leb-true, le-leb, ltb-true}
 use Rattle.std.proofs.lemmas.Bool.{and_parts}
 use Rattle.std.proofs.lemmas.List.Quantifiers.{position-Some}
 use Rattle.std.specs.Prelude.{◌==◌, ◌&&◌, not, nat_le, nat_lt, IsTrue, filter, is_some, codes, nat_eq, drop}
 use Rattle.std.specs.List.{enumerate_from, starts_with}
 use Rattle.fsa_types.specs.declared.request.Call.{Call}
+use Rattle.fsa_types.specs.declared.request.Ace.{Ace}
+use Rattle.fsa_types.specs.declared.request.DaclChange.{DaclChange}
+use Rattle.fsa_types.specs.declared.request.DaclChange.TheVariants.{Keep, Remove, Put}
+use Rattle.fsa_types.specs.BoundedList.{full}
 use Rattle.fsa_types.specs.declared.request.What.{What}
 use Rattle.fsa_types.specs.declared.request.What.TheVariants.{Ask, Tick}
-use Rattle.fsa_types.specs.declared.request.Request.TheVariants.{Create, Close, Read, Write}
-use Rattle.fsa_types.specs.Request.{what_fits}
+use Rattle.fsa_types.specs.declared.request.Request.TheVariants.{Create, Close, Read, Write, SetSecurity}
+use Rattle.fsa_types.specs.Request.{dacl_fits, what_fits}
 use Rattle.fsa_types.specs.CaseTable.{is_at_fault}
 use Rattle.fsa_model.specs.Setup.{Client, Script}
 use Rattle.fsa_model.specs.Fault.{Kind, BadSyntax, Fault, ◌>>=◌, only_if, read_as}
 use Rattle.fsa_model.specs.Numbers.{digit_of, number_after, number_of}
 use Rattle.fsa_model.specs.Words.{same, word_of, after_word, field_at, number_at, mask_at, text_at, onto, bytes_of, string_of, string_at, ended, is_name}
-use Rattle.fsa_model.specs.Requests.{marks_nothing, most_id, most_key, most_place, most_bytes, disposition_at, is_built_create, create_at, close_at, read_at, write_at, tick_at, what_of}
+use Rattle.fsa_model.specs.Requests.{marks_nothing, most_id, most_key, most_place, most_bytes, disposition_at, is_built_create, create_at, close_at, read_at, write_at, tick_at, owner_at, ace_of, entry_of, after_entry, ace_onto, aces_of, most_aces, dacl_of, dacl_at, set_security_at, what_of}
 use Rattle.fsa_model.specs.Lines.{Line, Version, DefaultTable, PairTable, Pair, ClientLine, RequestLine, pair_at, sids_at, client_at, request_of, line_of}
 use Rattle.fsa_model.specs.Script.{Reading, nothing_read, takes_version, takes_table, takes_pairs, takes_clients, takes_requests, place_of, next_number, with_call, with_client, take_client, take_call, take_request_of, take_request, take_line, line_after, end_after, at_line, lines_from, pieces, script_of}
 use Rattle.fsa_model.specs.Schedule.{calls_of, leave_after, AreNumbered, all_calls}
@@ -200,6 +204,51 @@ tick_at-fits bytes =
     bind-gives (IsAtMost most_id) Fits (number_at most_id bytes) _ (number_at-bound most_id bytes) (λ ticks below.
     ended-gives Fits ticks.1 (Tick ticks.0) (refl, refl, le-leb ticks.0 4294967295 below))
 
+-- at most so many entries
+abbrev AreFew : ℕ → List Ace → Type 0
+AreFew most aces = length aces ≤ most
+
+ace_onto-few : (most : ℕ) (ace : Ace) (read : Result (List Ace) Kind) → Gives (AreFew most) read → Gives (AreFew (suc most)) (ace_onto ace read)
+ace_onto-few most ace (Ok aces) few = ok-gives (AreFew (suc most)) (ace ∷ aces) (let at_most : length aces ≤ most = few.given aces refl in omega arith)
+ace_onto-few most ace (Err kind) few = err-gives (AreFew (suc most)) kind
+
+aces_of-few : (most : ℕ) (bytes : List ℕ) → Gives (AreFew most) (aces_of most bytes)
+unfolding aces_of
+aces_of-few zero bytes = only_if-gives (AreFew 0) (length bytes == 0) [] (omega arith)
+aces_of-few (suc most) [] = ok-gives (AreFew (suc most)) [] (omega arith)
+aces_of-few (suc most) (comma ∷ bytes) =
+    if-gives (AreFew (suc most)) (comma == 44) _ _
+    (λ is. then-gives (AreFew (suc most)) (ace_of (entry_of bytes)) _ (λ ace. ace_onto-few most ace (aces_of most (after_entry bytes)) (aces_of-few most (after_entry bytes))))
+    (λ no. err-gives (AreFew (suc most)) _)
+
+abbrev DaclFits : DaclChange → Type 0
+DaclFits dacl = IsTrue (dacl_fits dacl)
+
+dacl_of-fits : (word : List ℕ) → Gives DaclFits (dacl_of word)
+unfolding dacl_of
+dacl_of-fits word =
+    if-gives DaclFits (same word (codes "keep")) _ _ (λ is. ok-gives DaclFits Keep refl)
+    (λ no. if-gives DaclFits (same word (codes "null")) _ _ (λ is. ok-gives DaclFits Remove refl)
+    (λ no. if-gives DaclFits (starts_with nat_eq word (codes "acl")) _ _
+    (λ is. bind-gives (AreFew most_aces) DaclFits (aces_of most_aces (drop 3 word)) _ (aces_of-few most_aces (drop 3 word)) (λ aces few. ok-gives DaclFits (Put (full aces)) (le-leb (length aces) 32 few)))
+    (λ no. err-gives DaclFits _)))
+
+abbrev DaclFitsAt : DaclChange × List ℕ → Type 0
+DaclFitsAt read = DaclFits read.0
+
+dacl_at-fits : (bytes : List ℕ) → Gives DaclFitsAt (dacl_at bytes)
+unfolding dacl_at
+dacl_at-fits bytes =
+    then-gives DaclFitsAt (field_at bytes) _ (λ word.
+    bind-gives DaclFits DaclFitsAt (dacl_of word.0) _ (dacl_of-fits word.0) (λ dacl fits. ok-gives DaclFitsAt (dacl, word.1) fits))
+
+set_security_at-fits : (bytes : List ℕ) → Gives Fits (set_security_at bytes)
+unfolding set_security_at
+set_security_at-fits bytes =
+    then-gives Fits (number_at most_id bytes) _ (λ handle. then-gives Fits (owner_at handle.1) _ (λ owner.
+    bind-gives DaclFitsAt Fits (dacl_at owner.1) _ (dacl_at-fits owner.1) (λ dacl fits.
+    ended-gives Fits dacl.1 (Ask (SetSecurity handle.0 owner.0 dacl.0)) (fits, refl, refl))))
+
 what_of-fits : (verb fields : List ℕ) → Gives Fits (what_of verb fields)
 unfolding what_of
 what_of-fits verb fields =
@@ -208,7 +257,8 @@ what_of-fits verb fields =
     (λ no. if-gives Fits (same verb (codes "read")) _ _ (λ is. read_at-fits fields)
     (λ no. if-gives Fits (same verb (codes "write")) _ _ (λ is. write_at-fits fields)
     (λ no. if-gives Fits (same verb (codes "tick")) _ _ (λ is. tick_at-fits fields)
-    (λ no. err-gives Fits _)))))
+    (λ no. if-gives Fits (same verb (codes "setsecurity")) _ _ (λ is. set_security_at-fits fields)
+    (λ no. err-gives Fits _))))))
 
 -- a line that is a request is within the bounds, and one of a client has a SID
 abbrev LineFits : Line → Type 0

@@ -16,6 +16,7 @@ pub mod Read
 pub mod Requests
 pub mod Schedule
 pub mod Script
+pub mod Security
 pub mod Setup
 pub mod Sound
 pub mod Soundness

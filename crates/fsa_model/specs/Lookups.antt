@@ -123,3 +123,9 @@ clashes_on v on access share =
 -- a client has left
 abbrev pub has_left : Volume → ℕ → Bool
 has_left v client = slice_index_or v.left client false
+
+-- the least turn above `after` under which a call is pending: no other stands between
+abbrev pub next_pending : Volume → ℕ → Option ℕ
+next_pending v after =
+    option_map (λ entry. entry.0)
+    (find (λ entry. nat_lt after entry.0 && not (list_any (λ other. nat_lt after other.0 && nat_lt other.0 entry.0) v.pending)) v.pending)

@@ -1,14 +1,18 @@
 -- The text of a line: how a script writes what its lines say.
-use Rattle.std.specs.Prelude.{ℕ, ◌+◌, ◌/◌, ◌%◌, ◌&&◌, true, false, nat_le, nat_lt, Bool, List, [], ◌∷◌, ◌++◌, Some, if◌then◌else◌, length, codes}
+use Rattle.std.specs.Prelude.{ℕ, ◌+◌, ◌/◌, ◌%◌, ◌&&◌, ◌==◌, true, false, nat_le, nat_lt, Bool, List, [], ◌∷◌, ◌++◌, Option, Some, if◌then◌else◌, length, codes}
+use Rattle.std.specs.Option.{option_map_or}
 use Rattle.std.specs.List.{flat_map, list_all}
+use Rattle.fsa_types.specs.declared.request.Ace.{Ace}
+use Rattle.fsa_types.specs.declared.request.DaclChange.{DaclChange}
+use Rattle.fsa_types.specs.declared.request.DaclChange.TheVariants.{Keep, Remove, Put}
 use Rattle.fsa_types.specs.declared.request.What.{What}
 use Rattle.fsa_types.specs.declared.request.What.TheVariants.{Ask, Tick}
-use Rattle.fsa_types.specs.declared.request.Request.TheVariants.{Create, Close, Read, Write}
+use Rattle.fsa_types.specs.declared.request.Request.TheVariants.{Create, Close, Read, Write, SetSecurity}
 use Rattle.fsa_types.specs.declared.request.Disposition.{Disposition}
 use Rattle.fsa_types.specs.declared.request.Disposition.TheVariants.{Supersede, OpenExisting, CreateNew, OpenIf, Overwrite, OverwriteIf}
 use Rattle.fsa_model.specs.Numbers.{glyph, spelled}
 use Rattle.fsa_model.specs.Words.{is_plain, is_name}
-use Rattle.fsa_model.specs.Requests.{most_id, most_key, most_place, is_built_create}
+use Rattle.fsa_model.specs.Requests.{most_id, most_key, most_place, most_aces, is_built_create}
 use Rattle.fsa_model.specs.Lines.{Line, Version, DefaultTable, PairTable, Pair, ClientLine, RequestLine}
 
 -- a decimal number, and a mask, as fields
@@ -46,12 +50,26 @@ disposition_text OpenIf = 32 ∷ codes "open_if"
 disposition_text Overwrite = 32 ∷ codes "overwrite"
 disposition_text OverwriteIf = 32 ∷ codes "overwrite_if"
 
+-- an owner, where one is asked for
+abbrev pub owner_text : Option ℕ → List ℕ
+owner_text owner = option_map_or number_text owner (32 ∷ codes "keep")
+
+-- an entry of an access list behind its comma, and an access list
+abbrev pub ace_text : Ace → List ℕ
+ace_text ace = 44 ∷ (if ace.allow then 43 else 45) ∷ (spelled 10 ace.sid ++ 58 ∷ 48 ∷ 120 ∷ spelled 16 ace.mask)
+
+abbrev pub dacl_text : DaclChange → List ℕ
+dacl_text Keep = 32 ∷ codes "keep"
+dacl_text Remove = 32 ∷ codes "null"
+dacl_text (Put dacl) = 32 ∷ (codes "acl" ++ flat_map ace_text dacl.items)
+
 -- a verb and its fields
 abbrev pub verb_text : What → List ℕ
 verb_text (Ask (Create path wanted share disposition options attributes key)) = codes "create"
 verb_text (Ask (Close handle)) = codes "close"
 verb_text (Ask (Read handle place count)) = codes "read"
 verb_text (Ask (Write handle place bytes)) = codes "write"
+verb_text (Ask (SetSecurity handle owner dacl)) = codes "setsecurity"
 verb_text (Tick ticks) = codes "tick"
 verb_text _ = []
 
@@ -61,8 +79,18 @@ fields_text (Ask (Create path wanted share disposition options attributes key)) 
 fields_text (Ask (Close handle)) = number_text handle
 fields_text (Ask (Read handle place count)) = number_text handle ++ (number_text place ++ number_text count)
 fields_text (Ask (Write handle (Some place) bytes)) = number_text handle ++ (number_text place ++ string_text bytes)
+fields_text (Ask (SetSecurity handle owner dacl)) = number_text handle ++ (owner_text owner ++ dacl_text dacl)
 fields_text (Tick ticks) = number_text ticks
 fields_text _ = []
+
+-- an entry that a line can say
+abbrev pub is_ace : Ace → Bool
+is_ace ace = nat_le ace.sid most_id && nat_le ace.mask 4294967295
+
+-- what a line can say of an access list: at most so many entries, in a list with no more room
+abbrev pub is_dacl : DaclChange → Bool
+is_dacl (Put dacl) = list_all is_ace dacl.items && nat_le (length dacl.items) most_aces && dacl.room == length dacl.items
+is_dacl _ = true
 
 -- which calls a script can make at this time
 abbrev pub is_built : What → Bool
@@ -78,6 +106,7 @@ is_built (Ask (Close handle)) = nat_le handle most_id
 is_built (Ask (Read handle place count)) = nat_le handle most_id && nat_le place most_place && nat_le count 16384
 is_built (Ask (Write handle (Some place) bytes)) =
     nat_le handle most_id && nat_le place most_place && list_all (λ byte. nat_le byte 255) bytes && nat_le (length bytes) 16384
+is_built (Ask (SetSecurity handle owner dacl)) = nat_le handle most_id && option_map_or (λ sid. nat_le sid most_id) owner true && is_dacl dacl
 is_built (Tick ticks) = nat_le ticks most_id
 is_built _ = false
 

@@ -2,7 +2,7 @@
 use Rattle.std.specs.Prelude.{ℕ, ◌+◌, List, [], ◌∷◌, ◌++◌, Option, Some, None, drop, length, option_map, if◌then◌else◌}
 use Rattle.fsa_types.specs.declared.status.Status.TheVariants.{Success, InvalidHandle, InvalidDeviceRequest}
 use Rattle.fsa_types.specs.declared.request.Request.{Request}
-use Rattle.fsa_types.specs.declared.request.Request.TheVariants.{Create, Close, Read, Write}
+use Rattle.fsa_types.specs.declared.request.Request.TheVariants.{Create, Close, Read, Write, SetSecurity}
 use Rattle.fsa_types.specs.declared.request.What.{What}
 use Rattle.fsa_types.specs.declared.request.What.TheVariants.{Ask, Tick, Leave}
 use Rattle.fsa_types.specs.declared.request.Call.{Call}
@@ -16,6 +16,7 @@ use Rattle.fsa_model.specs.Edits.{with_end, with_pending, with_ticks}
 use Rattle.fsa_model.specs.Outcome.{Outcome, Done, Stay, Hold, ends_with, refused, TurnOut}
 use Rattle.fsa_model.specs.Open.{try_create}
 use Rattle.fsa_model.specs.Read.{try_read}
+use Rattle.fsa_model.specs.Security.{try_set_security}
 use Rattle.fsa_model.specs.Write.{try_write}
 use Rattle.fsa_model.specs.Close.{try_close, try_leave}
 
@@ -36,6 +37,7 @@ try_request v client number (Create path wanted share disposition options attrib
 try_request v client number (Close handle) = try_close v client handle
 try_request v client number (Read handle at count) = try_read v client handle at count
 try_request v client number (Write handle at bytes) = try_write v client handle at bytes
+try_request v client number (SetSecurity handle owner dacl) = try_set_security v client handle owner dacl
 try_request v client number _ = refused v InvalidDeviceRequest
 
 abbrev pub try_what : Volume → ℕ → ℕ → What → Outcome
