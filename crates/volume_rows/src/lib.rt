@@ -1,6 +1,7 @@
-//! What the tables of a volume hold, and scans over it: the rows of files, links, streams and handles,
-//! the bytes of one stream, the log of changes, and look-ups over slices of rows. It knows no volume;
-//! `volume_state` keeps its tables of these rows, and answers by these scans.
+//! What the tables of a volume hold, and scans over it: the rows of files, links, streams, handles,
+//! oplocks, pending calls and watches, the bytes of one stream, the log of changes, and look-ups over
+//! slices of rows. It knows no volume; `volume_state` keeps its tables of these rows, and answers by
+//! these scans.
 //!
 //! ```text
 //! find_child(links, &table, 1, units)     // the first link of this name in the root
@@ -12,10 +13,14 @@
 //! changes.note(links, 1, name, None, action, bits);   // takes no memory
 //! ```
 //!
-//! The calls group so: links (`find_child`, `find_link_of`, `find_link_number`, `has_link`,
-//! `has_child`); files (`has_directory`, `FileRow::set_basic`); handles (`find_handle`, `find_next`,
-//! `count_on`, `some_clashes`); streams (`find_stream`, `is_stream_of`, and `StreamRow` with its bytes);
-//! the space that streams take (`charge_for`, `sum_of_clusters`); and changes noted (`Changes`).
+//! The calls group so: links (`LinkTable`, with the room for more in each directory, and `find_child`,
+//! `find_link_of`, `find_link_number`, `has_link`, `has_child`); files (`has_directory`, `FileRow::set_basic`,
+//! `set_owner`, `set_dacl`); handles (`find_handle`, `find_next`,
+//! `count_on`, `is_one_of`, `some_clashes`); streams (`find_stream`, `is_stream_of`, and `StreamRow` with
+//! its bytes); the space that streams take (`charge_for`, `sum_of_clusters`) and what an owner may be
+//! charged (`find_limit`); oplocks (`effect`, `is_awaited`, `is_same_key`, `is_oplock_of`, `find_break`);
+//! pending calls (`find_pending`, `find_next_pending`, `is_call`) and watches (`is_watch_of`); and
+//! changes noted (`Changes`).
 //!
 //! Contracts see a row as the row of `fsa_model`'s record, a stream beside the room that was taken for
 //! its bytes, and the changes that were noted beside the room for more.
@@ -23,28 +28,37 @@
 //! - Nothing is asked of the rows: not that their numbers rise, nor that what they name is there. What
 //!   is found is the first row that passes.
 //! - Room for bytes and changes has to be reserved, and a sum of clusters has to fit 64 bits.
-//! - A scan takes time linear in the rows; one of handles below a directory, or the next handle of a
-//!   client, takes that for each row.
+//! - A scan takes time linear in the rows; one of handles below a directory, the next handle of a
+//!   client, or the next pending call, takes that for each row.
 #![tactic(auto)]
 
 mod bytes;
 mod changes;
+mod effects;
 mod growth;
 mod handles;
 mod kinds;
+mod link_table;
 mod links;
 mod noting;
 mod opens;
 mod rows;
 mod sharing;
 mod streams;
+mod waiting;
 
 pub use changes::{ChangeLog, Entry};
+pub use effects::{BreakEffect, effect, is_awaited, is_same_key};
 pub use growth::{charge_for, sum_of_clusters};
 pub use handles::find_handle;
 pub use kinds::has_directory;
+pub use link_table::LinkTable;
 pub use links::{find_child, find_link_number, find_link_of, has_child, has_link};
 pub use noting::Changes;
-pub use opens::{count_on, find_next, some_clashes};
+pub use opens::{count_on, find_next, is_one_of, some_clashes};
 pub use rows::{Cursor, Enumeration, FileRow, HandleRow, LinkRow, Need, StreamInfo, StreamRow};
 pub use streams::{find_stream, is_stream_of};
+pub use waiting::{
+    OplockRow, PendingRow, WatchRow, find_break, find_limit, find_next_pending, find_pending,
+    is_call, is_oplock_of, is_watch_of,
+};

@@ -52,8 +52,8 @@ fn find_row(links: &[(u64, LinkRow)], link: u64) -> Option<&LinkRow>
         .map(|entry| &entry.1)
 }
 
-// Whether a handle is one of the set.
-fn is_one_of(links: &[(u64, LinkRow)], on: HandleSet, handle: &HandleRow) -> bool
+/// Whether a handle is one of the set.
+pub fn is_one_of(links: &[(u64, LinkRow)], on: HandleSet, handle: &HandleRow) -> bool
     ensures { result ≡ is_one_of links.now on handle.now }
 {
     match on {

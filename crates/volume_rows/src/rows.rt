@@ -1,6 +1,6 @@
 //! The rows of a volume: files, links, streams and handles.
 
-ghost use Rattle.std.specs.Prelude.{◌≡◌, ◌≤◌, ◌+◌, ◌⊎◌, length, OnOk};
+ghost use Rattle.std.specs.Prelude.{◌≡◌, ◌≤◌, ◌+◌, ◌⊎◌, length, option_map, OnOk};
 ghost use Rattle.fsa_types.specs.StreamBytes.{put, cut};
 
 use crate::bytes::put_at;
@@ -66,6 +66,20 @@ impl FileRow {
         self.write = write;
         self.change = change;
         self.attributes = attributes;
+    }
+
+    /// Sets the owner.
+    pub fn set_owner(&mut self, owner: u32)
+        ensures { self.new ≡ record self.old { owner = owner } }
+    {
+        self.owner = owner;
+    }
+
+    /// Sets the access list.
+    pub fn set_dacl(&mut self, dacl: Option<Dacl>)
+        ensures { self.new ≡ record self.old { dacl = option_map (λ list. list.items) dacl } }
+    {
+        self.dacl = dacl;
     }
 }
 
@@ -230,6 +244,33 @@ pub struct Need {
     pub parent: u64,
     /// A handle, or 0 where `locks` and `oplocks` are 0.
     pub handle: u64,
+}
+
+impl Need {
+    /// No room at all.
+    pub fn nothing() -> Need
+        ensures { result ≡ record { files = 0; links = 0; streams = 0; handles = 0; owners = 0; locks = 0; oplocks = 0; watches = 0; limits = 0; pending = 0; blockers = 0; changes = 0; ends = 0; units = 0; dirs = 0; parent = 0; handle = 0 } }
+    {
+        Need {
+            files: 0,
+            links: 0,
+            streams: 0,
+            handles: 0,
+            owners: 0,
+            locks: 0,
+            oplocks: 0,
+            watches: 0,
+            limits: 0,
+            pending: 0,
+            blockers: 0,
+            changes: 0,
+            ends: 0,
+            units: 0,
+            dirs: 0,
+            parent: 0,
+            handle: 0,
+        }
+    }
 }
 
 impl StreamRow {
