@@ -1,0 +1,160 @@
+//! What a break does to oplocks that were chosen, and which calls it tells, after [MS-FSA] 'Algorithm
+//! to Check for an Oplock Break'.
+
+ghost use Rattle.std.specs.Prelude.{ℕ, ◌≡◌, ◌≤◌, ◌<◌, ◌+◌, ◌++◌, ◌∷◌, ◌^◌, ◌&&◌, [], not, true, length, filter, fold, is_some, option_map, option_and_then, if◌then◌else◌};
+ghost use Rattle.fsa_types.specs.Oplocks.{effect};
+ghost use Rattle.fsa_types.specs.Rows.{row_of};
+ghost use Rattle.fsa_types.specs.declared.reply.Body.TheVariants.{Broken};
+ghost use Rattle.fsa_types.specs.declared.status.Status.TheVariants.{Success};
+ghost use Rattle.fsa_model.specs.Breaks.{is_told, with_effect, with_told};
+ghost use Rattle.fsa_model.specs.Edits.{is_call};
+ghost use Rattle.fsa_model.specs.Volume.{Volume};
+ghost use Rattle.volume_rows.specs.Effects.{effect_of};
+ghost use Rattle.volume_breaks.specs.Breaks.{with_calls, with_held};
+
+use crate::oplock_list::Oplocks;
+use crate::spare_list::SpareList;
+use fsa_types::{Body, Class, EndOf, Level, Reply, Status};
+use object_tables::Series;
+use volume_rows::{BreakEffect, OplockRow, PendingRow, effect, find_pending, is_call};
+
+/// A call has ended with this reply; where it was pending it is so no more.
+pub fn end_call(
+    pending: &mut SpareList<(u64, PendingRow)>,
+    ended: &mut Series<EndOf>,
+    client: u32,
+    number: u32,
+    reply: Reply,
+)
+    requires room { 1 ≤ ended.old.room }
+    ensures pending { pending.new ≡ record pending.old { items = filter (λ entry. not (is_call client number entry.1)) pending.old.items } }
+    ensures ended { ended.new.items ≡ ended.old.items ++ record { client = client; number = number; reply = reply } ∷ [] }
+    ensures left { ended.old.room ≤ ended.new.room + 1 }
+{
+    drop_call(pending, client, number);
+    ended.push(EndOf {
+        client,
+        number,
+        reply,
+    });
+}
+
+// Takes this call of this client out of those that are pending.
+fn drop_call(pending: &mut SpareList<(u64, PendingRow)>, client: u32, number: u32)
+    ensures pending { pending.new.items ≡ filter (λ entry. not (is_call client number entry.1)) pending.old.items }
+    ensures room { pending.new.room ≡ pending.old.room }
+{
+    pending.retain(|entry| !is_call(&entry.1, client, number));
+}
+
+// The client and the number of the call that is pending under this turn.
+fn pending_call(pending: &[(u64, PendingRow)], turn: Option<u64>) -> Option<(u32, u32)>
+    ensures { result ≡ option_map (λ row. (row.call.client, row.call.number)) (option_and_then (row_of pending.now) turn) }
+{
+    match turn {
+        None => None,
+        Some(turn) => match find_pending(pending, turn) {
+            None => None,
+            Some(call) => Some((call.client, call.number)),
+        },
+    }
+}
+
+// The call that is pending under this turn as granted ends, where there is one: it is told the level
+// that may stay, and whether that has to be acknowledged.
+fn tell(
+    pending: &mut SpareList<(u64, PendingRow)>,
+    ended: &mut Series<EndOf>,
+    turn: Option<u64>,
+    level: Level,
+    ack: bool,
+)
+    requires room { is_some turn ≡ true → 1 ≤ ended.old.room }
+    ensures told { (v : Volume) → with_calls v pending.new.items ended.new.items ≡ with_told (with_calls v pending.old.items ended.old.items) turn level ack }
+    ensures room { pending.new.room ≡ pending.old.room }
+    ensures left { ended.old.room ≤ ended.new.room + (if is_some turn then 1 else 0) }
+{
+    let Some((client, number)) = pending_call(pending.as_slice(), turn) else {
+        return;
+    };
+    end_call(
+        pending,
+        ended,
+        client,
+        number,
+        Reply {
+            status: Status::Success,
+            body: Body::Broken { level, ack },
+        },
+    );
+}
+
+// What the effect on an oplock does.
+fn apply(
+    oplocks: &mut Oplocks,
+    pending: &mut SpareList<(u64, PendingRow)>,
+    ended: &mut Series<EndOf>,
+    oplock: OplockRow,
+    done: BreakEffect,
+)
+    requires room { (is_told (effect_of done) && is_some oplock.call) ≡ true → 1 ≤ ended.old.room }
+    requires numbers { oplocks.old.last + 1 < 2 ^ 64 }
+    ensures done { (v : Volume) → with_held v oplocks.new.rows oplocks.new.last pending.new.items ended.new.items ≡ with_effect (with_held v oplocks.old.rows oplocks.old.last pending.old.items ended.old.items) oplock (effect_of done) }
+    ensures others { oplocks.new ≡ record oplocks.old { rows = oplocks.new.rows; last = oplocks.new.last } }
+    ensures numbers { oplocks.new.last ≤ oplocks.old.last + 1 }
+    ensures room { pending.new.room ≡ pending.old.room }
+    ensures left { ended.old.room ≤ ended.new.room + (if is_told (effect_of done) && is_some oplock.call then 1 else 0) }
+{
+    match done {
+        BreakEffect::Stays => {}
+        BreakEffect::Ends => {
+            oplocks.drop_of(oplock.handle);
+            tell(pending, ended, oplock.call, Level::Nil, false);
+        }
+        BreakEffect::Begins(level) => {
+            oplocks.begin_break(oplock.handle, level);
+            tell(pending, ended, oplock.call, level, true);
+        }
+        BreakEffect::Lowers(level) => oplocks.lower(oplock.handle, level),
+    }
+}
+
+// Breaks an oplock, as a request of this class does.
+fn break_one(
+    oplocks: &mut Oplocks,
+    pending: &mut SpareList<(u64, PendingRow)>,
+    ended: &mut Series<EndOf>,
+    class: Class,
+    oplock: OplockRow,
+)
+    requires room { (is_told (effect class oplock.level oplock.target) && is_some oplock.call) ≡ true → 1 ≤ ended.old.room }
+    requires numbers { oplocks.old.last + 1 < 2 ^ 64 }
+    ensures done { (v : Volume) → with_held v oplocks.new.rows oplocks.new.last pending.new.items ended.new.items ≡ with_effect (with_held v oplocks.old.rows oplocks.old.last pending.old.items ended.old.items) oplock (effect class oplock.level oplock.target) }
+    ensures others { oplocks.new ≡ record oplocks.old { rows = oplocks.new.rows; last = oplocks.new.last } }
+    ensures numbers { oplocks.new.last ≤ oplocks.old.last + 1 }
+    ensures room { pending.new.room ≡ pending.old.room }
+    ensures left { ended.old.room ≤ ended.new.room + (if is_told (effect class oplock.level oplock.target) && is_some oplock.call then 1 else 0) }
+{
+    let done = effect(class, oplock.level, oplock.target);
+    apply(oplocks, pending, ended, oplock, done);
+}
+
+/// Breaks the oplocks that were chosen, one after the other, as a request of this class does.
+pub fn break_chosen(
+    oplocks: &mut Oplocks,
+    pending: &mut SpareList<(u64, PendingRow)>,
+    ended: &mut Series<EndOf>,
+    class: Class,
+)
+    requires room { length (filter (λ oplock. is_told (effect class oplock.level oplock.target) && is_some oplock.call) oplocks.old.chosen) ≤ ended.old.room }
+    requires numbers { oplocks.old.last + length oplocks.old.chosen < 2 ^ 64 }
+    ensures done { (v : Volume) → with_held v oplocks.new.rows oplocks.new.last pending.new.items ended.new.items ≡ fold (λ w oplock. with_effect w oplock (effect class oplock.level oplock.target)) (with_held v oplocks.old.rows oplocks.old.last pending.old.items ended.old.items) oplocks.old.chosen }
+    ensures others { oplocks.new ≡ record oplocks.old { rows = oplocks.new.rows; last = oplocks.new.last } }
+    ensures room { pending.new.room ≡ pending.old.room }
+    ensures left { ended.old.room ≤ ended.new.room + length (filter (λ oplock. is_told (effect class oplock.level oplock.target) && is_some oplock.call) oplocks.old.chosen) }
+{
+    for place in 0..oplocks.chosen_len() {
+        let oplock = oplocks.chosen_at(place);
+        break_one(oplocks, pending, ended, class, oplock);
+    }
+}

@@ -1,0 +1,229 @@
+//! The oplocks of a volume, with room for what a break of them sets aside.
+
+ghost use Rattle.std.specs.Prelude.{ℕ, ◌≡◌, ◌≤◌, ◌<◌, ◌+◌, ◌^◌, ◌==◌, not, [], List, Some, None, length, map, filter, OnOk, if◌then◌else◌, slice_index_or};
+ghost use Rattle.fsa_types.specs.Sorting.{in_order};
+ghost use Rattle.fsa_types.specs.Oplocks.{is_awaited};
+ghost use Rattle.fsa_model.specs.Breaks.{is_broken_before, is_chosen};
+ghost use Rattle.fsa_model.specs.Volume.{Oplock};
+ghost use Rattle.volume_breaks.specs.Oplocks.{Held};
+ghost use Rattle.volume_breaks.specs.Breaks.{begun, lowered, number_of_break};
+ghost use Rattle.std.specs.Vec.{vec_capacity};
+
+use crate::awaiting::await_breaks;
+use crate::choosing::{Tree, choose};
+use fsa_types::{Class, HandleSet, Level, NoMemory};
+use std::alloc::Global;
+use std::marker::Model;
+use volume_rows::{OplockRow, is_oplock_of};
+
+/// The oplocks of a volume, in the order in which they were granted. A break of them takes no memory:
+/// there is room for copies of all of them, and for the numbers of as many breaks. There are fewer
+/// than 2^32.
+#[derive(Drop)]
+pub struct Oplocks {
+    rows: Vec<OplockRow>,
+    // Copies of those that the last break chose, in the order in which it broke them.
+    chosen: Vec<OplockRow>,
+    // The numbers of the breaks that it waits for.
+    waited: Vec<u64>,
+    // The number of the last break that began.
+    last: u64,
+    // For how many more oplocks there is room.
+    room: u32,
+}
+
+impl Model for Oplocks {
+    ghost use Rattle.std.specs.Prelude.{◌+◌};
+    ghost use Rattle.std.specs.Vec.{vec_capacity, vec_len};
+    ghost use Rattle.volume_breaks.specs.Oplocks.{Held, IsRoomy};
+
+    ghost Value = { Held };
+
+    ghost view = { λ o. record { rows = o.rows.items; chosen = o.chosen.items; waited = o.waited.items; last = o.last; room = o.room } };
+
+    ghost invariant = { λ o. IsRoomy (vec_len o.rows + o.room) (vec_capacity o.rows) (vec_capacity o.chosen) (vec_capacity o.waited) (vec_len o.chosen) };
+}
+
+impl Oplocks {
+    /// None. It takes no memory.
+    pub fn new(alloc: Global) -> Oplocks
+        ensures rows { result.rows ≡ [] }
+        ensures waited { result.waited ≡ [] }
+        ensures last { result.last ≡ 0 }
+    {
+        Oplocks {
+            rows: Vec::new(alloc),
+            chosen: Vec::new(alloc),
+            waited: Vec::new(alloc),
+            last: 0,
+            room: 0,
+        }
+    }
+
+    /// Takes room for `more` oplocks beside those that are there, and for breaks of them. `NoMemory`
+    /// where there is none, or where there would be 2^32 or more in all.
+    pub fn reserve(&mut self, more: u32) -> Result<(), NoMemory>
+        ensures rows { self.new ≡ record self.old { room = self.new.room } }
+        ensures room { OnOk result (more ≤ self.new.room) }
+        ensures kept { self.old.room ≤ self.new.room }
+    {
+        if more <= self.room {
+            return Ok(());
+        }
+        let in_all = self.rows.len() + more as usize;
+        if in_all > u32::MAX as usize {
+            return Err(NoMemory);
+        }
+        reserve_for(&mut self.rows, in_all)?;
+        reserve_for(&mut self.chosen, in_all)?;
+        reserve_for(&mut self.waited, in_all)?;
+        self.room = more;
+        Ok(())
+    }
+
+    /// How many oplocks there are.
+    pub fn len(&self) -> u32
+        ensures { result ≡ length self.now.rows }
+    {
+        self.rows.len() as u32
+    }
+
+    /// The numbers of the breaks that the last break of oplocks waits for, in order.
+    pub fn waited(&self) -> &[u64]
+        ensures { result.now ≡ self.now.waited }
+    {
+        self.waited.as_slice()
+    }
+
+    /// Sets aside copies of those that are to be broken, in order.
+    pub fn choose(&mut self, tree: &Tree, on: HandleSet, acting: Option<u64>, key: u64)
+        ensures { self.new ≡ record self.old { chosen = in_order (is_broken_before tree.now) (filter (is_chosen tree.now on acting key) self.old.rows) } }
+    {
+        choose(tree, on, acting, key, &self.rows, &mut self.chosen);
+    }
+
+    /// How many are chosen.
+    pub fn chosen_len(&self) -> usize
+        ensures { result ≡ length self.now.chosen }
+    {
+        self.chosen.len()
+    }
+
+    /// A copy of the one that is chosen at this place.
+    pub fn chosen_at(&self, place: usize) -> OplockRow
+        requires { place < length self.now.chosen }
+        ensures { result ≡ slice_index_or self.now.chosen place result }
+    {
+        self.chosen[place]
+    }
+
+    /// Takes the oplock of this handle out.
+    pub fn drop_of(&mut self, handle: u64)
+        ensures { self.new ≡ record self.old { rows = filter (λ oplock. not (oplock.handle == handle)) self.old.rows } }
+    {
+        drop_of(&mut self.rows, handle);
+    }
+
+    /// A numbered break to this level begins of the oplock of this handle, and no call is pending as
+    /// granted any more.
+    pub fn begin_break(&mut self, handle: u64, level: Level)
+        requires { self.old.last + 1 < 2 ^ 64 }
+        ensures { self.new ≡ record self.old { rows = map (begun handle level (self.old.last + 1)) self.old.rows; last = self.old.last + 1 } }
+    {
+        self.last += 1;
+        begin_break(&mut self.rows, handle, level, self.last);
+    }
+
+    /// The break in progress on this handle goes on to this level.
+    pub fn lower(&mut self, handle: u64, level: Level)
+        ensures { self.new ≡ record self.old { rows = map (lowered handle level) self.old.rows } }
+    {
+        lower(&mut self.rows, handle, level);
+    }
+
+    /// Sets aside the numbers of the breaks that a request of this class waits for, of those that were
+    /// chosen, and counts them.
+    pub fn await_breaks(&mut self, class: Class) -> u32
+        ensures waited { self.new ≡ record self.old { waited = map (λ oplock. number_of_break self.old.rows oplock.handle) (filter (λ oplock. is_awaited class oplock.level oplock.target) self.old.chosen) } }
+        ensures count { result ≡ length self.new.waited }
+    {
+        await_breaks(&self.rows, &self.chosen, class, &mut self.waited);
+        self.waited.len() as u32
+    }
+}
+
+// Takes room for so many items in all. `NoMemory` where there is none.
+fn reserve_for<T: Drop>(items: &mut Vec<T>, in_all: usize) -> Result<(), NoMemory>
+    ensures items { items.new.items ≡ items.old.items }
+    ensures room { OnOk result (in_all ≤ vec_capacity items.new) }
+    ensures kept { vec_capacity items.old ≤ vec_capacity items.new }
+{
+    let length = items.len();
+    if length < in_all {
+        items.reserve(in_all - length)?;
+    }
+    Ok(())
+}
+
+// Takes the oplock of this handle out.
+fn drop_of(rows: &mut Vec<OplockRow>, handle: u64)
+    ensures rows { rows.new.items ≡ filter (λ oplock. not (oplock.handle == handle)) rows.old.items }
+    ensures few { length rows.new.items ≤ length rows.old.items }
+    ensures room { vec_capacity rows.new ≡ vec_capacity rows.old }
+{
+    rows.retain(|oplock| !is_oplock_of(oplock, handle));
+}
+
+// The oplock as it is once a break of this number to this level has begun, where it is this handle's.
+fn with_break_begun(oplock: OplockRow, handle: u64, level: Level, number: u64) -> OplockRow
+    ensures { result ≡ begun handle level number oplock }
+{
+    if oplock.handle == handle {
+        OplockRow {
+            handle: oplock.handle,
+            key: oplock.key,
+            level: oplock.level,
+            target: Some(level),
+            number,
+            call: None,
+        }
+    } else {
+        oplock
+    }
+}
+
+// A break of this number to this level begins of the oplock of this handle.
+fn begin_break(rows: &mut [OplockRow], handle: u64, level: Level, number: u64)
+    ensures { rows.new ≡ map (begun handle level number) rows.old }
+{
+    for row in rows.iter_mut() {
+        *row = with_break_begun(*row, handle, level, number);
+    }
+}
+
+// The oplock with this target, where it is this handle's.
+fn with_target(oplock: OplockRow, handle: u64, level: Level) -> OplockRow
+    ensures { result ≡ lowered handle level oplock }
+{
+    if oplock.handle == handle {
+        OplockRow {
+            handle: oplock.handle,
+            key: oplock.key,
+            level: oplock.level,
+            target: Some(level),
+            number: oplock.number,
+            call: oplock.call,
+        }
+    } else {
+        oplock
+    }
+}
+
+// The break in progress on this handle goes on to this level.
+fn lower(rows: &mut [OplockRow], handle: u64, level: Level)
+    ensures { rows.new ≡ map (lowered handle level) rows.old }
+{
+    for row in rows.iter_mut() {
+        *row = with_target(*row, handle, level);
+    }
+}
