@@ -1,4 +1,5 @@
--- The content and the spare room of the tables of a volume.
+-- The content and the spare room of the tables of a volume. What a pending call waits for comes in a
+-- list of its own, and an owner's charge is a scan, so there is room for all of these.
 use Rattle.std.specs.Prelude.{[], ◌^◌, map}
 use Rattle.fsa_model.specs.Setup.{client_of}
 use Rattle.fsa_model.specs.Volume.{Volume}
@@ -14,12 +15,12 @@ content_of v = record {
   streams = map (λ entry. (entry.0, entry.1.stream)) v.streams.rows;
   handles = v.handles.rows;
   locks = [];
-  oplocks = [];
-  pending = [];
+  oplocks = v.oplocks.rows;
+  pending = v.pending.items;
   ended = v.ended.items;
-  watches = [];
+  watches = v.watches.items;
   changes = v.changes.changes;
-  limits = [];
+  limits = v.limits.items;
   clock = v.clock;
   left = v.left.items;
   last_file = v.files.last;
@@ -27,28 +28,28 @@ content_of v = record {
   last_stream = v.streams.last;
   last_handle = v.handles.last;
   last_lock = 0;
-  last_break = 0;
+  last_break = v.oplocks.last;
 }
 
-abbrev pub beside : Beside
-beside = record { base = 0; waited = [] }
+abbrev pub beside_of : Inside → Beside
+beside_of v = record { base = 0; waited = v.oplocks.waited }
 
--- nothing can be put in yet, so there is room for all that can be asked
+-- no lock can be put in yet, so there is room for all that can be asked
 abbrev pub unbounded : Rooms
 unbounded = record { own = []; others = 2 ^ 64 }
 
 abbrev pub spare_of : Inside → Spare
 spare_of v = record {
   files = v.files.room;
-  links = record { own = []; others = v.links.room };
+  links = record { own = v.links.rooms; others = 0 };
   streams = v.streams.room;
   handles = v.handles.room;
   owners = 2 ^ 64;
   locks = unbounded;
-  oplocks = unbounded;
-  watches = 2 ^ 64;
-  limits = 2 ^ 64;
-  pending = 2 ^ 64;
+  oplocks = record { own = []; others = v.oplocks.room };
+  watches = v.watches.room;
+  limits = v.limits.room;
+  pending = v.pending.room;
   blockers = 2 ^ 64;
   changes = v.changes.room;
   ends = v.ended.room;

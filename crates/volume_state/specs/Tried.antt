@@ -1,7 +1,8 @@
 -- What a try of a call gave, against what it is defined to come to.
-use Rattle.std.specs.Prelude.{◌≡◌}
+use Rattle.std.specs.Prelude.{◌≡◌, ◌≤◌, length}
 use Rattle.fsa_model.specs.Volume.{Volume}
 use Rattle.fsa_model.specs.Outcome.{Outcome, Done, Stay, Hold}
+use Rattle.volume_state.specs.Seen.{Spare}
 use Rattle.volume_state.specs.declared.tried.Tried.{Tried}
 use Rattle.volume_state.specs.declared.tried.Tried.TheVariants as tried
 
@@ -12,3 +13,8 @@ Gives outcome old new (tried.Done reply) = outcome ≡ Done new reply
 Gives outcome old new (tried.Stay interim) = outcome ≡ Stay new interim
 Gives outcome old new (tried.Hold blockers interim) = outcome ≡ Hold new blockers.items interim
 Gives outcome old new tried.NoMemory = new ≡ old
+
+-- where the call is held there is room to make it pending with what it waits for
+abbrev pub HasHoldRoom : Tried → Spare → Type 0
+HasHoldRoom (tried.Hold blockers interim) spare = (1 ≤ spare.pending) × (length blockers.items ≤ spare.blockers)
+HasHoldRoom _ spare = Unit {0}

@@ -1,14 +1,15 @@
 //! Files and directories.
 
-ghost use Rattle.std.specs.Prelude.{ℕ, List, ◌≡◌, ◌≤◌, ◌<◌, ◌+◌, ◌-◌, ◌^◌, ◌==◌, ◌&&◌, IsTrue, IsSome, IfSome, None, true, false};
+ghost use Rattle.std.specs.Prelude.{ℕ, List, ◌≡◌, ◌≤◌, ◌<◌, ◌+◌, ◌-◌, ◌^◌, ◌==◌, ◌&&◌, IsTrue, IsSome, IfSome, None, true, false, option_map};
 ghost use Rattle.std.specs.Option.{option_copied};
 ghost use Rattle.fsa_types.specs.Rows.{row_of, lives, with_row_changed};
-ghost use Rattle.fsa_model.specs.Edits.{with_file, with_basic};
+ghost use Rattle.fsa_model.specs.Edits.{with_file, with_basic, with_owner, with_dacl};
 ghost use Rattle.fsa_model.specs.Lookups.{has_row, is_directory, stream_of};
 ghost use Rattle.fsa_model.specs.Sound.{LeadsUp, PointFits};
 ghost use Rattle.volume_state.specs.Seen.{room_for};
 
 use crate::volume::Volume;
+use fsa_types::Dacl;
 use object_tables::Table;
 use volume_rows::FileRow;
 
@@ -86,6 +87,48 @@ impl Volume {
             change,
             attributes,
         );
+    }
+
+    /// Sets the owner of a file.
+    pub fn set_owner(&mut self, file: u64, owner: u32)
+        requires owners { 1 ≤ self.old.spare.owners }
+        ensures content { self.new.content ≡ with_owner self.old.content file owner }
+        ensures beside { self.new.beside ≡ self.old.beside }
+        ensures others { self.new.spare ≡ record self.old.spare { owners = self.new.spare.owners } }
+        ensures left { self.old.spare.owners ≤ self.new.spare.owners + 1 }
+    {
+        set_owner(&mut self.files, file, owner);
+    }
+
+    /// Sets the access list of a file; `None` takes it away.
+    pub fn set_dacl(&mut self, file: u64, dacl: Option<Dacl>)
+        ensures content { self.new.content ≡ with_dacl self.old.content file (option_map (λ list. list.items) dacl) }
+        ensures beside { self.new.beside ≡ self.old.beside }
+        ensures room { self.new.spare ≡ self.old.spare }
+    {
+        set_dacl(&mut self.files, file, dacl);
+    }
+}
+
+// Sets the owner of a file.
+fn set_owner(files: &mut Table<FileRow>, file: u64, owner: u32)
+    ensures rows { files.new.rows ≡ with_row_changed (λ row. record row { owner = owner }) files.old.rows file }
+    ensures last { files.new.last ≡ files.old.last }
+    ensures room { files.new.room ≡ files.old.room }
+{
+    if let Some(row) = files.get_mut(file) {
+        row.set_owner(owner);
+    }
+}
+
+// Sets the access list of a file.
+fn set_dacl(files: &mut Table<FileRow>, file: u64, dacl: Option<Dacl>)
+    ensures rows { files.new.rows ≡ with_row_changed (λ row. record row { dacl = option_map (λ list. list.items) dacl }) files.old.rows file }
+    ensures last { files.new.last ≡ files.old.last }
+    ensures room { files.new.room ≡ files.old.room }
+{
+    if let Some(row) = files.get_mut(file) {
+        row.set_dacl(dacl);
     }
 }
 

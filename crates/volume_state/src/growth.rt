@@ -4,10 +4,11 @@ ghost use Rattle.std.specs.Prelude.{◌≡◌, ◌<◌, ◌+◌, ◌*◌, ◌/�
 ghost use Rattle.std.specs.Option.{option_map_or};
 ghost use Rattle.fsa_types.specs.Rows.{row_of};
 ghost use Rattle.fsa_model.specs.Charge.{charge, clusters, clusters_for, limit};
+ghost use Rattle.fsa_model.specs.Security.{charge_of_file};
 
 use crate::volume::Volume;
 use object_tables::Table;
-use volume_rows::{FileRow, StreamRow, charge_for, sum_of_clusters};
+use volume_rows::{FileRow, StreamRow, charge_for, find_limit, sum_of_clusters};
 
 impl Volume {
     /// How many clusters, of 4,096 bytes each, all streams take.
@@ -24,13 +25,18 @@ impl Volume {
         sum_of_charges(&self.files, self.streams.as_slice(), owner)
     }
 
+    /// How many bytes an owner is charged for this file: those of the clusters that its streams take.
+    pub fn charge_of_file(&self, file: u64) -> u64
+        ensures { result ≡ charge_of_file self.now.content file }
+    {
+        sum_of_file(self.streams.as_slice(), file)
+    }
+
     /// How many bytes an owner may be charged; 2^64 - 1 where no limit of his is set.
     pub fn limit(&self, owner: u32) -> u64
         ensures { result ≡ limit self.now.content owner }
     {
-        let _unset = &self.files;
-        let _owner = owner;
-        u64::MAX
+        find_limit(self.limits.as_slice(), owner).unwrap_or(u64::MAX)
     }
 }
 
@@ -59,6 +65,18 @@ fn sum_of_charges(files: &Table<FileRow>, streams: &[(u64, StreamRow)], owner: u
     streams
         .iter()
         .filter(|entry| is_charged_to(files, owner, &entry.1))
+        .map(|entry| charge_for(&entry.1))
+        .sum()
+}
+
+// The bytes of the clusters of all streams of a file.
+fn sum_of_file(streams: &[(u64, StreamRow)], file: u64) -> u64
+    requires fits { sum_by (λ entry. 4096 * clusters_for (length entry.1.stream.bytes)) streams.now < 2 ^ 64 }
+    ensures { result ≡ sum_by (λ entry. 4096 * clusters_for (length entry.1.stream.bytes)) (filter (λ entry. entry.1.stream.file == file) streams.now) }
+{
+    streams
+        .iter()
+        .filter(|entry| entry.1.info.file == file)
         .map(|entry| charge_for(&entry.1))
         .sum()
 }

@@ -1,6 +1,6 @@
 //! Handles: the opens of clients.
 
-ghost use Rattle.std.specs.Prelude.{ℕ, ◌≡◌, ◌≤◌, ◌<◌, ◌+◌, ◌-◌, ◌^◌, ◌==◌, ◌&&◌, IsTrue, IsSome, IfSome, None, true, option_map, find, length, nat_lt, filter};
+ghost use Rattle.std.specs.Prelude.{ℕ, ◌≡◌, ◌≤◌, ◌<◌, ◌+◌, ◌-◌, ◌^◌, ◌==◌, ◌&&◌, not, IsTrue, IsSome, IfSome, None, true, option_map, find, length, nat_lt, filter};
 ghost use Rattle.std.specs.Option.{option_copied};
 ghost use Rattle.fsa_types.specs.Rows.{row_of, lives};
 ghost use Rattle.fsa_model.specs.Edits.{with_handle, without_handle};
@@ -9,7 +9,8 @@ ghost use Rattle.fsa_model.specs.Sound.{is_of_living, has_its_stream};
 ghost use Rattle.volume_state.specs.Room.{IsNoLess};
 
 use crate::volume::Volume;
-use volume_rows::{HandleRow, find_handle};
+use volume_breaks::SpareList;
+use volume_rows::{HandleRow, WatchRow, find_handle, is_watch_of};
 
 impl Volume {
     /// The handle of this number; `None` exactly where there is none.
@@ -59,5 +60,15 @@ impl Volume {
         ensures room { IsNoLess self.old.spare self.new.spare }
     {
         let _ = self.handles.remove(handle);
+        self.oplocks.drop_of(handle);
+        drop_watch(&mut self.watches, handle);
     }
+}
+
+// Takes the watch of a handle out.
+fn drop_watch(watches: &mut SpareList<WatchRow>, handle: u64)
+    ensures watches { watches.new.items ≡ filter (λ watch. not (watch.handle == handle)) watches.old.items }
+    ensures room { watches.new.room ≡ watches.old.room }
+{
+    watches.retain(|watch| !is_watch_of(watch, handle));
 }

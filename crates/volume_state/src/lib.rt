@@ -15,12 +15,12 @@
 //!
 //! The calls group so: making and room (`new`, `reserve`, `reserve_bytes`); what is there (`file`,
 //! `link`, `stream`, `handle`, `pending`, `ended`, each by number, and `child`, `stream_of`,
-//! `handle_of`, `next_handle_of`, `root`, `dir_link`, `has_child`, `handles_on`, `clashes`,
-//! `bytes_of`, `clock`, `has_left`, `table`, `sids`, `oplocks`); the space that streams take, and what an
-//! owner is charged for it and may be (`clusters`, `charge`, `limit`); the room that a note takes
-//! (`note_room`, `note_room_in`); changes of one table (`add_..`, `drop_..`,
-//! `mark_..`, `put_bytes`, `set_length`, `set_basic`, `end`, `leave`, `advance`); changes noted
-//! (`note`); and the break of oplocks (`begin`, `waited`).
+//! `handle_of`, `next_handle_of`, `next_pending`, `pending_calls`, `root`, `is_directory`, `dir_link`,
+//! `has_child`, `handles_on`, `clashes`, `locks_of`, `bytes_of`, `clock`, `has_left`, `table`, `sids`,
+//! `oplocks`); the space that streams take, and what an owner is charged for it and may be (`clusters`,
+//! `charge`, `charge_of_file`, `limit`); the room that a note takes (`note_room`, `note_room_in`);
+//! changes of one table (`add_..`, `drop_..`, `mark_..`, `put_bytes`, `set_..`, `end`, `leave`,
+//! `advance`); changes noted (`note`); and the break of oplocks (`begin`, `waited`).
 //!
 //! Contracts see a volume as three things: its content, which is the record of plain lists of
 //! `fsa_model`; what stands beside it, the breaks that the last `begin` waits for among it; and the
@@ -31,10 +31,13 @@
 //! each as a condition of the call. What soundness says of a row that is found or added is told by the
 //! call that finds or adds it, so that no caller needs a law of its own.
 //!
-//! It costs time linear in the rows of a table for each look-up, and in the depth of a link for a note.
+//! A look-up costs time linear in the rows of a table. The next handle of a client, the next pending
+//! call, the handles below a directory and an owner's charge cost that for each row, and a note costs a
+//! look through the links for each directory above. A break costs what `volume_breaks` says.
 //!
-//! Caveats: there are no locks, oplocks, watches, limits or pending calls yet, so `begin` finds none;
-//! its contract is whole all the same.
+//! Caveats: no call puts an oplock, a watch, a limit or a pending call in yet. The calls that look for
+//! them, break them and take them out are whole all the same, for any that there are. There are no
+//! locks yet.
 #![tactic(auto)]
 
 mod files;
@@ -42,9 +45,11 @@ mod growth;
 mod handles;
 mod kinds;
 mod links;
+mod locks;
 mod notes;
 mod opens;
 mod oplocks;
+mod pending;
 mod room;
 #[cfg(test)]
 mod steps;

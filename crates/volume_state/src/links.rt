@@ -15,7 +15,6 @@ ghost use Rattle.volume_state.specs.Seen.{room_for};
 use crate::streams::drop_streams_of;
 use crate::volume::Volume;
 use fsa_types::Name;
-use object_tables::Table;
 use volume_rows::{LinkRow, find_child, find_link_number, has_child, has_link};
 
 impl Volume {
@@ -76,6 +75,7 @@ impl Volume {
         ensures beside { self.new.beside ≡ self.old.beside }
         ensures others { self.new.spare ≡ record self.old.spare { links = self.new.spare.links } }
         ensures left { room_for self.old.spare.links parent ≤ room_for self.new.spare.links parent + 1 }
+        ensures kept { (dir : ℕ) → (dir == parent) ≡ false → room_for self.old.spare.links dir ≤ room_for self.new.spare.links dir }
         ensures id { result ≡ self.old.content.last_link + 1 }
 
         // It lives and is one of the file; a note of it takes the room that was told for the parent.
@@ -92,10 +92,7 @@ impl Volume {
             file,
             deleted: false,
         };
-        let Ok(id) = self.links.add(row) else {
-            unreachable!()
-        };
-        id
+        self.links.add(row)
     }
 
     /// Marks a link for deletion, or clears its mark. A directory that is marked has to be empty.
@@ -109,7 +106,7 @@ impl Volume {
         ensures units { (other : ℕ) (stream : Option ℕ) → units_noted self.new.content other stream ≡ units_noted self.old.content other stream }
         ensures dirs { (other : ℕ) (stream : Option ℕ) → dirs_noted self.new.content other stream ≡ dirs_noted self.old.content other stream }
     {
-        mark_link(&mut self.links, link, deleted);
+        self.links.mark(link, deleted);
     }
 
     /// Takes a link out, and with a file's last link the file and its streams. A directory has to be
@@ -124,6 +121,10 @@ impl Volume {
         ensures links_kept { (dir : ℕ) → room_for self.old.spare.links dir ≤ room_for self.new.spare.links dir }
         ensures streams_kept { self.old.spare.streams ≤ self.new.spare.streams }
         ensures bytes_kept { (stream : ℕ) → lives self.new.content.streams stream ≡ true → row_of self.new.spare.bytes stream ≡ row_of self.old.spare.bytes stream }
+
+        // A note takes no more room than it took.
+        ensures units { (other : ℕ) (of : Option ℕ) → units_noted self.new.content other of ≤ units_noted self.old.content other of }
+        ensures dirs { (other : ℕ) (of : Option ℕ) → dirs_noted self.new.content other of ≤ dirs_noted self.old.content other of }
     {
         let Some(row) = self.links.remove(link) else {
             return;
@@ -133,16 +134,5 @@ impl Volume {
             let _ = self.files.remove(file);
             drop_streams_of(&mut self.streams, file);
         }
-    }
-}
-
-// Marks a link for deletion, or clears its mark.
-fn mark_link(links: &mut Table<LinkRow>, link: u64, deleted: bool)
-    ensures rows { links.new.rows ≡ with_row_changed (λ row. record row { deleted = deleted }) links.old.rows link }
-    ensures last { links.new.last ≡ links.old.last }
-    ensures room { links.new.room ≡ links.old.room }
-{
-    if let Some(row) = links.get_mut(link) {
-        row.deleted = deleted;
     }
 }

@@ -1,10 +1,10 @@
 //! Handles of a stream, of a link, or below a directory.
 
-ghost use Rattle.std.specs.Prelude.{ℕ, ◌≡◌, ◌==◌, ◌&&◌, not, nat_lt, length, filter, find, option_map, false, IsTrue, IfSome, IfNone};
+ghost use Rattle.std.specs.Prelude.{ℕ, ◌≡◌, ◌==◌, ◌&&◌, not, nat_lt, length, filter, find, option_map, false, AllPairs, IsTrue, IfSome, IfNone};
 ghost use Rattle.std.specs.Option.{option_copied};
 ghost use Rattle.fsa_types.specs.Rows.{row_of, lives, IsNumbered};
 ghost use Rattle.fsa_types.specs.Sharing.{clash};
-ghost use Rattle.fsa_model.specs.Lookups.{handles_on, has_row, is_after, is_below, is_on, is_one_of, clashes_on, leads_to, next_handle_of};
+ghost use Rattle.fsa_model.specs.Lookups.{handles_on, has_row, is_after, is_below, is_on, is_one_of, is_opened_by, clashes_on, leads_to, next_handle_of};
 
 use crate::volume::Volume;
 use fsa_types::HandleSet;
@@ -37,6 +37,9 @@ impl Volume {
 
         // The numbers of handles rise, so a number has one row.
         ensures numbers { IsNumbered self.now.content.handles self.now.content.last_handle }
+
+        // A client and a number name one handle.
+        ensures differ { AllPairs (λ a b. is_opened_by b.1.client b.1.number a.1 ≡ false) self.now.content.handles }
     {
         find_next(self.handles.as_slice(), client, after)
     }

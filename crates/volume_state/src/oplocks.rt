@@ -10,6 +10,7 @@ ghost use Rattle.std.specs.Prelude.{Option};
 
 use crate::volume::Volume;
 use fsa_types::{BlockerList, Class, HandleSet};
+use volume_breaks::{Tree, break_chosen, push_breaks};
 
 impl Volume {
     /// How many oplocks there are. Each `begin` tells at most so many calls, and waits for at most so
@@ -19,8 +20,7 @@ impl Volume {
         ensures told { (on : HandleSet) (class : Class) (handle : Option ℕ) (key : ℕ) → length (told self.now.content on class handle key) ≤ result }
         ensures awaited { (on : HandleSet) (class : Class) (handle : Option ℕ) (key : ℕ) → length (awaited self.now.content on class handle key) ≤ result }
     {
-        let _none = &self.handles;
-        0
+        self.oplocks.len()
     }
 
     /// Breaks the oplocks of the handles of the set, as a request of this class does: those of other
@@ -39,9 +39,15 @@ impl Volume {
         ensures left { self.old.spare.ends ≤ self.new.spare.ends + length (told self.old.content handles class handle key) }
         ensures count { result ≡ length (awaited self.old.content handles class handle key) }
     {
-        let _none = &self.handles;
-        let _chosen = (handles, class, handle, key);
-        0
+        let tree = Tree {
+            table: &self.table,
+            links: &self.links,
+            streams: &self.streams,
+            handles: &self.handles,
+        };
+        self.oplocks.choose(&tree, handles, handle, key);
+        break_chosen(&mut self.oplocks, &mut self.pending, &mut self.ended, class);
+        self.oplocks.await_breaks(class)
     }
 
     /// Puts the breaks that the last `begin` waits for into an empty list, in order. The list has to
@@ -51,7 +57,6 @@ impl Volume {
         requires room { length self.now.beside.waited ≤ into.old.room }
         ensures { into.new ≡ record into.old { items = map (λ number. Break number) self.now.beside.waited } }
     {
-        let _none = &self.handles;
-        let _list = &into;
+        push_breaks(self.oplocks.waited(), into);
     }
 }

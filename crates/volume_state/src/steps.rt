@@ -91,31 +91,6 @@ pub(crate) fn make_file(
     Ok(())
 }
 
-// Nothing to be made.
-pub(crate) fn nothing() -> Need
-    ensures { (result.links ≡ 0) × (result.locks ≡ 0) × (result.oplocks ≡ 0) }
-{
-    Need {
-        files: 0,
-        links: 0,
-        streams: 0,
-        handles: 0,
-        owners: 0,
-        locks: 0,
-        oplocks: 0,
-        watches: 0,
-        limits: 0,
-        pending: 0,
-        blockers: 0,
-        changes: 0,
-        ends: 0,
-        units: 0,
-        dirs: 0,
-        parent: 0,
-        handle: 0,
-    }
-}
-
 // A stream opened by a link once it breaks no oplock, and noted; whether it was.
 fn open_stream(
     volume: &mut Volume,
@@ -142,7 +117,7 @@ fn open_stream(
         ends: oplocks,
         units: room.units,
         dirs: room.dirs,
-        ..nothing()
+        ..Need::nothing()
     })?;
     let waits = volume.begin(HandleSet::Stream(stream), Class::Change, None, 0);
     if waits > 0 {

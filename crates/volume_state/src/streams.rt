@@ -152,6 +152,10 @@ impl Volume {
         ensures others { self.new.spare ≡ record self.old.spare { streams = self.new.spare.streams; bytes = self.new.spare.bytes } }
         ensures bytes { (other : ℕ) → (other == stream) ≡ false → row_of self.new.spare.bytes other ≡ row_of self.old.spare.bytes other }
         ensures kept { self.old.spare.streams ≤ self.new.spare.streams }
+
+        // A note takes no more room than it took.
+        ensures units { (other : ℕ) (of : Option ℕ) → units_noted self.new.content other of ≤ units_noted self.old.content other of }
+        ensures dirs { (other : ℕ) (of : Option ℕ) → dirs_noted self.new.content other of ≤ dirs_noted self.old.content other of }
     {
         let _ = self.streams.remove(stream);
     }

@@ -6,7 +6,7 @@ ghost use Rattle.fsa_model.specs.Lookups.{child_of, is_directory, has_row};
 ghost use Rattle.fsa_model.specs.Sound.{LeadsUp};
 ghost use Rattle.volume_state.specs.Steps.{directory};
 
-use crate::steps::{make_file, nothing};
+use crate::steps::make_file;
 use crate::volume::Volume;
 use fsa_types::{Bytes, Client, ClientList, Name, NoMemory, Setup, SidList, UpcaseTable};
 use std::alloc::Global;
@@ -71,7 +71,7 @@ fn make_directory(volume: &mut Volume, parent: u64, name: Name) -> Result<u64, N
         links: 1,
         owners: 1,
         parent,
-        ..nothing()
+        ..Need::nothing()
     })?;
     let dir = volume.add_file(row(true));
     let link = volume.add_link(parent, name, dir);
@@ -136,10 +136,14 @@ fn memory_is_there(rt: HostRuntime) -> Result<(), Fail> {
         handles: 1,
         changes: 2,
         ends: 1,
+        oplocks: 2,
+        pending: 1,
+        watches: 1,
+        limits: 1,
         units: 40,
         dirs: 4,
         parent: 1,
-        ..nothing()
+        ..Need::nothing()
     };
     assert_eq!(rt; volume.reserve(&need), Ok(()));
     let root = volume.root();
@@ -213,7 +217,7 @@ fn a_note_of_the_root_notes_nothing(rt: HostRuntime) -> Result<(), Fail> {
     assert_eq!(rt; (room.units, room.dirs), (0, 0));
     volume.reserve(&Need {
         changes: 1,
-        ..nothing()
+        ..Need::nothing()
     })?;
     volume.note(0, 1, 1, None);
     assert_eq!(rt; noted(&volume), (0, 0));
@@ -230,7 +234,7 @@ fn file_of(volume: &mut Volume, owner: u32) -> Result<u64, NoMemory>
     volume.reserve(&Need {
         files: 1,
         owners: 1,
-        ..nothing()
+        ..Need::nothing()
     })?;
     Ok(volume.add_file(FileRow {
         directory: false,
@@ -266,7 +270,7 @@ fn stream_in(
     }
     volume.reserve(&Need {
         streams: 1,
-        ..nothing()
+        ..Need::nothing()
     })?;
     let stream = volume.add_stream(file, name);
     volume.reserve_bytes(stream, 0, bytes)?;

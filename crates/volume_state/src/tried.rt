@@ -1,6 +1,8 @@
 //! What one try of a call comes to.
 
-use fsa_types::{BlockerList, Interim, Reply};
+ghost use Rattle.std.specs.Prelude.{◌≡◌};
+
+use fsa_types::{BlockerList, Body, Interim, Reply, Status};
 
 /// What one try of a call comes to.
 #[derive(Debug, Drop)]
@@ -18,4 +20,26 @@ pub enum Tried {
     },
     /// There was no memory; nothing has changed.
     NoMemory,
+}
+
+impl Tried {
+    /// The call ends with this status and no body.
+    pub fn ends(status: Status) -> Tried
+        ensures { result ≡ Tried.Done (record { status = status; body = Body.Nothing }) }
+    {
+        Tried::Done(Reply {
+            status,
+            body: Body::Nothing,
+        })
+    }
+
+    /// The call succeeds with this body.
+    pub fn succeeds(body: Body) -> Tried
+        ensures { result ≡ Tried.Done (record { status = Status.Success; body = body }) }
+    {
+        Tried::Done(Reply {
+            status: Status::Success,
+            body,
+        })
+    }
 }

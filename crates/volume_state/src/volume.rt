@@ -9,27 +9,35 @@ ghost use Rattle.fsa_model.specs.Setup.{setup_of};
 ghost use Rattle.fsa_model.specs.Volume.{fresh, root};
 ghost use Rattle.volume_state.specs.Room.{HasRoom, IsNoLess};
 
-use fsa_types::{Call, Client, ClientList, EndOf, NoMemory, Reply, Setup, UpcaseTable};
+use crate::locks::NoRanges;
+use fsa_types::{Client, ClientList, EndOf, NoMemory, Setup, UpcaseTable};
 use object_tables::{Series, Table};
 use std::alloc::{AllocError, Global};
 use std::marker::Model;
-use volume_rows::{Changes, FileRow, HandleRow, LinkRow, Need, StreamRow};
+use volume_breaks::{Oplocks, SpareList};
+use volume_rows::{Changes, FileRow, HandleRow, LinkTable, Need, PendingRow, StreamRow, WatchRow};
 
-/// A volume: its case table and clients, its files, links, streams and handles, its changes and the
-/// calls that have ended. It is always sound.
+/// A volume: its case table and clients, its files, links, streams and handles, the oplocks and watches
+/// of handles, its changes, the calls that are pending and those that have ended, and the limits of
+/// owners. It is always sound.
 #[derive(Drop)]
 pub struct Volume {
     pub(crate) alloc: Global,
     pub(crate) table: UpcaseTable,
     pub(crate) clients: ClientList,
     pub(crate) files: Table<FileRow>,
-    pub(crate) links: Table<LinkRow>,
+    pub(crate) links: LinkTable,
     pub(crate) streams: Table<StreamRow>,
     pub(crate) handles: Table<HandleRow>,
     pub(crate) changes: Changes,
     pub(crate) ended: Series<EndOf>,
     pub(crate) left: Vec<bool>,
     pub(crate) clock: u64,
+    pub(crate) no_ranges: NoRanges,
+    pub(crate) oplocks: Oplocks,
+    pub(crate) pending: SpareList<(u64, PendingRow)>,
+    pub(crate) watches: SpareList<WatchRow>,
+    pub(crate) limits: SpareList<(u32, u64)>,
 }
 
 impl Model for Volume {
@@ -38,9 +46,9 @@ impl Model for Volume {
 
     ghost Value = { Seen };
 
-    ghost use Rattle.volume_state.specs.Inside.{content_of, beside, spare_of};
+    ghost use Rattle.volume_state.specs.Inside.{content_of, beside_of, spare_of};
 
-    ghost view = { λ v. record { content = content_of v; beside = beside; spare = spare_of v } };
+    ghost view = { λ v. record { content = content_of v; beside = beside_of v; spare = spare_of v } };
 
     ghost invariant = { λ v. IsSound (content_of v) };
 }
@@ -65,13 +73,18 @@ impl Volume {
             table,
             clients,
             files,
-            links: Table::new(alloc),
+            links: LinkTable::new(alloc),
             streams: Table::new(alloc),
             handles: Table::new(alloc),
             changes: Changes::new(alloc),
             ended: Series::new(alloc),
             left,
             clock: 0,
+            no_ranges: NoRanges::new(alloc),
+            oplocks: Oplocks::new(alloc),
+            pending: SpareList::new(alloc),
+            watches: SpareList::new(alloc),
+            limits: SpareList::new(alloc),
         })
     }
 
@@ -84,12 +97,16 @@ impl Volume {
     {
         let need = *need;
         self.files.reserve(need.files as usize)?;
-        self.links.reserve(need.links as usize)?;
+        self.links.reserve(need.parent, need.links as usize)?;
         self.streams.reserve(need.streams as usize)?;
         self.handles.reserve(need.handles as usize)?;
         self.ended.reserve(need.ends as usize)?;
         let (units, dirs) = (need.units as usize, need.dirs as usize);
         self.changes.reserve(need.changes as usize, units, dirs)?;
+        self.oplocks.reserve(need.oplocks)?;
+        self.pending.reserve(need.pending as usize)?;
+        self.watches.reserve(need.watches as usize)?;
+        self.limits.reserve(need.limits as usize)?;
         Ok(())
     }
 
@@ -140,37 +157,6 @@ impl Volume {
         ensures room { self.new.spare ≡ self.old.spare }
     {
         self.left[client as usize] = true;
-    }
-
-    /// The call that is pending under this turn; `None` exactly where there is none.
-    pub fn pending(&self, _turn: u64) -> Option<&Call>
-        ensures { option_copied result ≡ option_map (λ row. row.call) (row_of self.now.content.pending _turn) }
-    {
-        let _pending = &self.ended;
-        None
-    }
-
-    /// How the call ended that is at this place in the order of ends, counted from 0; `None` exactly
-    /// past the last one.
-    pub fn ended(&self, place: u64) -> Option<&EndOf>
-        ensures { option_copied result ≡ slice_get self.now.content.ended place }
-    {
-        self.ended.as_slice().get(place as usize)
-    }
-
-    /// A call has ended with this reply; where it was pending it is so no more.
-    pub fn end(&mut self, client: u32, number: u32, reply: Reply)
-        requires room { 1 ≤ self.old.spare.ends }
-        ensures content { self.new.content ≡ with_end self.old.content client number reply }
-        ensures beside { self.new.beside ≡ self.old.beside }
-        ensures others { self.new.spare ≡ record self.old.spare { ends = self.new.spare.ends } }
-        ensures left { self.old.spare.ends ≤ self.new.spare.ends + 1 }
-    {
-        self.ended.push(EndOf {
-            client,
-            number,
-            reply,
-        });
     }
 }
 

@@ -7,6 +7,8 @@ use Rattle.fsa_model.specs.Volume.{Link}
 use Rattle.fsa_model.proofs.RowLaws.{without_row-none}
 use Rattle.fsa_model.proofs.SoundLaws.{IsSound-without_link, without_link-last, without_link-other}
 use Rattle.volume_state.specs.Inside.{content_of}
+use Rattle.volume_state.specs.Seen.{Seen}
+use Rattle.volume_state.proofs.DropLaws.{units_noted-without_link, dirs_noted-without_link}
 use Rattle.std.proofs.Common.{◌≡◌}
 use Rattle.fsa_types.proofs.RowLemmas.{lives-map}
 use Rattle.volume_state.proofs.StreamLemmas.{row_of-filter, rooms-same, AreRising-seen}
@@ -85,3 +87,28 @@ returns-then-not-has_link-clause-bytes_kept c =
     rw (← c.self.view_is) (λ stream living. rooms-same c.self.inside.streams.rows c.drop_streams_of.new.streams.rows stream
     (rw c.drop_streams_of.ensures.rows (row_of-filter (λ entry. not (entry.1.stream.file == c.row.inside.file)) c.self.inside.streams.rows stream (AreRising-seen (λ kept. kept.stream) c.self.inside.streams.rows c.self.invariant.streams_numbered.rising)
     (rw (← c.drop_streams_of.ensures.rows) (sym (lives-map (λ kept. kept.stream) c.drop_streams_of.new.streams.rows stream) ∙ living)))))
+
+-- what a note takes
+pub returns-in_default-clause-units : goal.returns-in_default-clause-units
+returns-in_default-clause-units c =
+    units_noted-without_link c.args.self.now.content c.args.link (subst (λ (s : Seen). IsSound s.content) c.self.view_is c.self.invariant) _ (returns-in_default-clause-content c)
+
+pub returns-in_default-clause-dirs : goal.returns-in_default-clause-dirs
+returns-in_default-clause-dirs c =
+    dirs_noted-without_link c.args.self.now.content c.args.link (subst (λ (s : Seen). IsSound s.content) c.self.view_is c.self.invariant) _ (returns-in_default-clause-content c)
+
+pub returns-then-not-has_link-clause-units : goal.returns-then-not-has_link-clause-units
+returns-then-not-has_link-clause-units c =
+    units_noted-without_link c.args.self.now.content c.args.link (subst (λ (s : Seen). IsSound s.content) c.self.view_is c.self.invariant) _ (returns-then-not-has_link-clause-content c)
+
+pub returns-then-not-has_link-clause-dirs : goal.returns-then-not-has_link-clause-dirs
+returns-then-not-has_link-clause-dirs c =
+    dirs_noted-without_link c.args.self.now.content c.args.link (subst (λ (s : Seen). IsSound s.content) c.self.view_is c.self.invariant) _ (returns-then-not-has_link-clause-content c)
+
+pub returns-clause-units : goal.returns-clause-units
+returns-clause-units c =
+    units_noted-without_link c.args.self.now.content c.args.link (subst (λ (s : Seen). IsSound s.content) c.self.view_is c.self.invariant) _ (returns-clause-content c)
+
+pub returns-clause-dirs : goal.returns-clause-dirs
+returns-clause-dirs c =
+    dirs_noted-without_link c.args.self.now.content c.args.link (subst (λ (s : Seen). IsSound s.content) c.self.view_is c.self.invariant) _ (returns-clause-content c)

@@ -1,7 +1,10 @@
 use Rattle.fsa_types.proofs.RowLemmas.{map-filter_seen}
-use Rattle.std.proofs.Common.{not, ◌==◌}
+use Rattle.std.proofs.Common.{not, subst, ◌==◌}
 use Rattle.fsa_model.proofs.SoundLaws.{IsSound-without_stream}
+use Rattle.fsa_model.specs.Sound.{IsSound}
 use Rattle.volume_state.specs.Inside.{content_of}
+use Rattle.volume_state.specs.Seen.{Seen}
+use Rattle.volume_state.proofs.DropLaws.{units_noted-without_stream, dirs_noted-without_stream}
 use Rattle.volume_state.proofs.StreamLemmas.{row_of-without, rooms-same}
 use Rattle.volume_state.proofs.volume.Volume.drop_stream.Goals as goal
 
@@ -17,3 +20,11 @@ returns-clause-content c =
 pub returns-clause-bytes : goal.returns-clause-bytes
 returns-clause-bytes c =
     rw (← c.self.view_is) (λ other differ. rooms-same c.self.inside.streams.rows c.remove.new.self.rows other (rw c.remove.ensures.rows (row_of-without c.self.inside.streams.rows c.args.stream other differ)))
+
+pub returns-clause-units : goal.returns-clause-units
+returns-clause-units c =
+    units_noted-without_stream c.args.self.now.content c.args.stream (subst (λ (s : Seen). IsSound s.content) c.self.view_is c.self.invariant) _ (returns-clause-content c)
+
+pub returns-clause-dirs : goal.returns-clause-dirs
+returns-clause-dirs c =
+    dirs_noted-without_stream c.args.self.now.content c.args.stream (subst (λ (s : Seen). IsSound s.content) c.self.view_is c.self.invariant) _ (returns-clause-content c)

@@ -5,11 +5,11 @@ use Rattle.volume_state.proofs.volume.Volume.mark_link.Goals as goal
 
 pub invariant_of-self : goal.invariant_of-self
 invariant_of-self c =
-    rw (c.mark_link.ensures.rows, c.mark_link.ensures.last)
+    rw (c.mark.ensures.rows, c.mark.ensures.last)
     (IsSound-with_link_marked (content_of c.self.inside) c.args.link c.args.deleted c.self.invariant (rw (← c.self.view_is) at c.requires.empty))
 
 pub returns-clause-units : goal.returns-clause-units
-returns-clause-units c = rw (← c.self.view_is, c.mark_link.ensures.rows) (λ other stream. units_noted-link_marked (content_of c.self.inside) c.args.link c.args.deleted other stream)
+returns-clause-units c = rw (← c.self.view_is, c.mark.ensures.rows) (λ other stream. units_noted-link_marked (content_of c.self.inside) c.args.link c.args.deleted other stream)
 
 pub returns-clause-dirs : goal.returns-clause-dirs
-returns-clause-dirs c = rw (← c.self.view_is, c.mark_link.ensures.rows) (λ other stream. dirs_noted-link_marked (content_of c.self.inside) c.args.link c.args.deleted other stream)
+returns-clause-dirs c = rw (← c.self.view_is, c.mark.ensures.rows) (λ other stream. dirs_noted-link_marked (content_of c.self.inside) c.args.link c.args.deleted other stream)

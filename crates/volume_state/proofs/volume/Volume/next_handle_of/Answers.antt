@@ -28,3 +28,6 @@ returns-clause-none c =
 
 pub returns-clause-numbers : goal.returns-clause-numbers
 returns-clause-numbers c = rw (← c.self.view_is) c.self.invariant.handles_numbered
+
+pub returns-clause-differ : goal.returns-clause-differ
+returns-clause-differ c = rw (← c.self.view_is) c.self.invariant.opens.differ

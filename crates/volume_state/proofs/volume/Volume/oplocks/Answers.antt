@@ -1,0 +1,9 @@
+use Rattle.fsa_model.proofs.BreakLaws.{told-few, awaited-few}
+use Rattle.volume_state.specs.Inside.{content_of}
+use Rattle.volume_state.proofs.volume.Volume.oplocks.Goals as goal
+
+pub returns-clause-told : goal.returns-clause-told
+returns-clause-told c = rw (← c.self.view_is, c.len.ensures) (λ on class handle key. told-few (content_of c.self.inside) on class handle key)
+
+pub returns-clause-awaited : goal.returns-clause-awaited
+returns-clause-awaited c = rw (← c.self.view_is, c.len.ensures) (λ on class handle key. awaited-few (content_of c.self.inside) on class handle key)
