@@ -13,8 +13,6 @@ use Rattle.fsa_model.specs.Sound.{is_link_of_directory, is_stream_of_link}
 use Rattle.fsa_model.specs.Volume.{Volume}
 use Rattle.volume_state.specs.Living.{is_link_to}
 use Rattle.volume_state.specs.Seen.{Spare}
-use Rattle.volume_state.specs.declared.tried.Tried.{Tried}
-use Rattle.volume_state.specs.declared.tried.Tried.TheVariants as tried
 
 -- the client is one of the volume's, no handle of it has the call's number, and numbers are
 -- left for all that one open makes
@@ -61,8 +59,3 @@ pub record IsThere (v : Volume) (link file : ℕ) : Type 0 where
   pub by_link : IsTrue (link == 0 || lives v.links link)
   pub of_directory : is_directory v.files file ≡ true → IsTrue (is_link_of_directory v.files v.links link)
   pub of_file : is_directory v.files file ≡ false → IsTrue (lives v.links link) × IsTrue (is_link_to v.links link file) × IsTrue (lives v.files file)
-
--- where the open is held there is room to make it pending with what it waits for
-abbrev pub HasHoldRoom : Tried → Spare → Type 0
-HasHoldRoom (tried.Hold blockers interim) spare = (1 ≤ spare.pending) × (length blockers.items ≤ spare.blockers)
-HasHoldRoom _ spare = Unit {0}

@@ -4,10 +4,9 @@ ghost use Rattle.std.specs.Prelude.{◌≡◌, ◌<◌, ◌≤◌, ◌+◌, ◌-
 ghost use Rattle.fsa_types.specs.declared.reply.Blocker.TheVariants.{Break};
 ghost use Rattle.fsa_model.specs.Breaks.{awaited, with_breaks};
 ghost use Rattle.fsa_model.specs.Open.{clashed, held, waits};
-ghost use Rattle.op_open.specs.Conditions.{HasHoldRoom, HasOpenRoom};
-ghost use Rattle.volume_state.specs.Tried.{Gives};
+ghost use Rattle.op_open.specs.Conditions.{HasOpenRoom};
+ghost use Rattle.volume_state.specs.Tried.{Gives, HasHoldRoom};
 
-use crate::ends::refused;
 use fsa_types::{BlockerList, Interim, Status};
 use volume_state::{Class, HandleSet, Tried, Volume};
 
@@ -57,5 +56,5 @@ pub fn clashed(volume: &mut Volume, on: HandleSet, key: u64, blockers: BlockerLi
     if break_for(volume, on, Class::Clash, key, &mut blockers) {
         return held(blockers);
     }
-    refused(Status::SharingViolation)
+    Tried::ends(Status::SharingViolation)
 }

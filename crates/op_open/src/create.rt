@@ -8,13 +8,13 @@ ghost use Rattle.fsa_types.specs.Access.{has_any};
 ghost use Rattle.fsa_model.specs.Open.{access_of, create_at, create_by_link, create_found, create_in_file, create_named, create_on_stream, create_there, create_walked, is_other_kind, replacing_right, stream_name, try_create};
 ghost use Rattle.fsa_model.specs.Walk.{last_name};
 ghost use Rattle.op_open.specs.Calls.{IsCreate, asked_try};
-ghost use Rattle.op_open.specs.Conditions.{HasHoldRoom, IsOpenBy, IsThere, MayOpen};
+ghost use Rattle.op_open.specs.Conditions.{IsOpenBy, IsThere, MayOpen};
 ghost use Rattle.op_open.specs.Walks.{CanHold, IsIn, ReachesHolder, walked_of};
 ghost use Rattle.volume_state.specs.Living.{is_link_to};
-ghost use Rattle.volume_state.specs.Tried.{Gives};
+ghost use Rattle.volume_state.specs.Tried.{Gives, HasHoldRoom};
 
 use crate::asked::{Asked, only_makes, overwrites};
-use crate::ends::{refused, stopped};
+use crate::ends::stopped;
 use crate::make::{create_missing, create_stream};
 use crate::open::{open_directory, open_stream};
 use crate::opening::Opening;
@@ -54,10 +54,10 @@ fn create_on_stream(
 {
     let asked = opening.asked();
     if opening.names_stream() && is_marked(volume, stream) {
-        return refused(Status::DeletePending);
+        return Tried::ends(Status::DeletePending);
     }
     if opening.names_stream() && only_makes(asked.disposition) {
-        return refused(Status::ObjectNameCollision);
+        return Tried::ends(Status::ObjectNameCollision);
     }
     if !grants(
         volume,
@@ -65,16 +65,16 @@ fn create_on_stream(
         asked.client,
         asked.access() | replacing_right(asked.disposition),
     ) {
-        return refused(Status::AccessDenied);
+        return Tried::ends(Status::AccessDenied);
     }
     if is_readonly(volume, file) && (writes(asked) || overwrites(asked.disposition)) {
-        return refused(Status::AccessDenied);
+        return Tried::ends(Status::AccessDenied);
     }
     if is_readonly(volume, file) && asked.deletes_on_close() {
-        return refused(Status::CannotDelete);
+        return Tried::ends(Status::CannotDelete);
     }
     if overwrites(asked.disposition) && uncovers(attributes_of(volume, file), asked.attributes) {
-        return refused(Status::AccessDenied);
+        return Tried::ends(Status::AccessDenied);
     }
     open_stream(
         alloc,
@@ -142,14 +142,14 @@ fn create_there(
 {
     let asked = opening.asked();
     if only_makes(asked.disposition) && !opening.names_stream() {
-        return refused(Status::ObjectNameCollision);
+        return Tried::ends(Status::ObjectNameCollision);
     }
     let directory = volume.is_directory(file);
     if is_other_kind(asked, directory) {
-        return refused(Status::NotADirectory);
+        return Tried::ends(Status::NotADirectory);
     }
     if directory && opening.asks_for_file() {
-        return refused(Status::FileIsADirectory);
+        return Tried::ends(Status::FileIsADirectory);
     }
     if directory {
         return open_directory(alloc, volume, asked, link, file);
@@ -188,10 +188,10 @@ fn create_by_link(alloc: Global, volume: &mut Volume, opening: &Opening, link: u
     ensures ends { volume.old.spare.ends ≤ volume.new.spare.ends + length volume.old.content.oplocks }
 {
     let Some(row) = volume.link(link) else {
-        return refused(Status::ObjectNameNotFound);
+        return Tried::ends(Status::ObjectNameNotFound);
     };
     if row.deleted {
-        return refused(Status::DeletePending);
+        return Tried::ends(Status::DeletePending);
     }
     let file = row.file;
     create_found(alloc, volume, opening, link, file)
@@ -236,7 +236,7 @@ fn create_walked(
     ensures ends { volume.old.spare.ends ≤ volume.new.spare.ends + length volume.old.content.oplocks }
 {
     match walked {
-        Walked::Barred(status) => refused(status),
+        Walked::Barred(status) => Tried::ends(status),
         Walked::Diverted { file, next } => stopped(alloc, volume, file, parts.rest(next)),
         Walked::Reached(dir) => {
             let root = volume.root();
@@ -265,7 +265,7 @@ fn create_at(alloc: Global, volume: &mut Volume, asked: &Asked, parts: &PathPart
 {
     let opening = Opening::new(asked, parts);
     if opening.has_stream_part() && asked.wants_directory() {
-        return refused(Status::NotADirectory);
+        return Tried::ends(Status::NotADirectory);
     }
     let walked = walk(volume, parts);
     create_walked(alloc, volume, &opening, parts, walked)
@@ -280,16 +280,16 @@ fn create(alloc: Global, volume: &mut Volume, asked: &Asked) -> Tried
     ensures ends { volume.old.spare.ends ≤ volume.new.spare.ends + length volume.old.content.oplocks }
 {
     if asked.is_invalid() {
-        return refused(Status::InvalidParameter);
+        return Tried::ends(Status::InvalidParameter);
     }
     if asked.wants_no_right() {
-        return refused(Status::AccessDenied);
+        return Tried::ends(Status::AccessDenied);
     }
     if asked.lacks_delete() {
-        return refused(Status::InvalidParameter);
+        return Tried::ends(Status::InvalidParameter);
     }
     let Ok(parts) = split_path(asked.path) else {
-        return refused(Status::ObjectNameInvalid);
+        return Tried::ends(Status::ObjectNameInvalid);
     };
     create_at(alloc, volume, asked, &parts)
 }

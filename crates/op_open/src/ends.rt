@@ -6,23 +6,13 @@ ghost use Rattle.fsa_model.specs.Lookups.{handle_of};
 ghost use Rattle.fsa_model.specs.Open.{access_of, deletes_on_close, opens, stop_status, stopped, with_open};
 ghost use Rattle.fsa_model.specs.Outcome.{Done, refused};
 ghost use Rattle.fsa_model.specs.Volume.{Volume as Content};
-ghost use Rattle.op_open.specs.Conditions.{HasHoldRoom, IsOpenBy};
-ghost use Rattle.volume_state.specs.Tried.{Gives};
+ghost use Rattle.op_open.specs.Conditions.{IsOpenBy};
+ghost use Rattle.volume_state.specs.Tried.{Gives, HasHoldRoom};
 
 use crate::asked::Asked;
 use fsa_types::{Action, Body, Bytes, Name, Reply, Status, TryCopy};
 use std::alloc::Global;
 use volume_state::{HandleRow, Tried, Volume};
-
-/// The open is refused with this status.
-pub fn refused(status: Status) -> Tried
-    ensures { result ≡ Tried.Done (record { status = status; body = Body.Nothing }) }
-{
-    Tried::Done(Reply {
-        status,
-        body: Body::Nothing,
-    })
-}
 
 /// The open ends well.
 pub fn opens(status: Status, action: Action) -> Tried
@@ -51,10 +41,10 @@ pub fn stopped(alloc: Global, volume: &Volume, file: u64, rest: &[u16]) -> Tried
     ensures room { HasHoldRoom result volume.now.spare }
 {
     let Some(row) = volume.file(file) else {
-        return refused(Status::ObjectPathNotFound);
+        return Tried::ends(Status::ObjectPathNotFound);
     };
     let Some(point) = &row.point else {
-        return refused(Status::ObjectPathNotFound);
+        return Tried::ends(Status::ObjectPathNotFound);
     };
     let Ok(bytes) = point.1.copy(alloc) else {
         return Tried::NoMemory;

@@ -8,22 +8,21 @@ ghost use Rattle.fsa_model.specs.Open.{create_missing, create_stream, make_direc
 ghost use Rattle.fsa_model.specs.Open.{opens as Opens};
 ghost use Rattle.fsa_model.specs.Edits.{with_file, with_link};
 ghost use Rattle.fsa_model.specs.Sound.{PointFits, is_link_of_directory};
-ghost use Rattle.op_open.specs.Conditions.{HasHoldRoom, MayOpen};
+ghost use Rattle.op_open.specs.Conditions.{MayOpen};
 ghost use Rattle.volume_state.specs.Seen.{room_for};
 ghost use Rattle.op_open.specs.Walks.{CanHold};
 ghost use Rattle.fsa_model.specs.Changes.{units_noted, dirs_noted};
 ghost use Rattle.volume_state.specs.Living.{is_link_to};
 ghost use Rattle.volume_state.specs.Paths.{units_in, dirs_in};
-ghost use Rattle.volume_state.specs.Tried.{Gives};
+ghost use Rattle.volume_state.specs.Tried.{Gives, HasHoldRoom};
 ghost use Rattle.fsa_types.specs.declared.reply.Action.TheVariants as action;
 ghost use Rattle.fsa_types.specs.declared.status.Status.TheVariants as status;
 
 use crate::asked::{Asked, has_attribute, only_opens};
-use crate::ends::{open_handle, opens, refused};
+use crate::ends::{open_handle, opens};
 use crate::open::{file_attributes, kept_attributes};
 use crate::opening::Opening;
 use crate::rights::{first_sid, grants, is_readonly};
-use crate::room::nothing;
 use fsa_types::{Action, FileAttributes, Name, NoMemory, Status};
 use std::alloc::Global;
 use volume_state::{FileRow, Need, Tried, Volume};
@@ -76,7 +75,7 @@ fn need_to_make(volume: &Volume, dir: u64, name: u64, streams: u32) -> Option<Ne
         units: note.units,
         dirs: note.dirs,
         parent: dir,
-        ..nothing()
+        ..Need::nothing()
     })
 }
 
@@ -230,7 +229,7 @@ fn need_with_stream(volume: &Volume, dir: u64, name: u64, stream: u64) -> Option
         units,
         dirs: link.dirs + of_stream.dirs,
         parent: dir,
-        ..nothing()
+        ..Need::nothing()
     })
 }
 
@@ -355,13 +354,13 @@ pub fn create_missing(
 {
     let asked = opening.asked();
     if only_opens(asked.disposition) {
-        return refused(Status::ObjectNameNotFound);
+        return Tried::ends(Status::ObjectNameNotFound);
     }
     if asked.deletes_on_close() && has_attribute(asked.attributes, FileAttributes::READONLY) {
-        return refused(Status::CannotDelete);
+        return Tried::ends(Status::CannotDelete);
     }
     if !grants(volume, dir, asked.client, parent_right(asked)) {
-        return refused(Status::AccessDenied);
+        return Tried::ends(Status::AccessDenied);
     }
     if asked.wants_directory() {
         return make_directory(alloc, volume, asked, dir, name);
@@ -399,13 +398,13 @@ pub fn create_stream(
 {
     let asked = opening.asked();
     if only_opens(asked.disposition) {
-        return refused(Status::ObjectNameNotFound);
+        return Tried::ends(Status::ObjectNameNotFound);
     }
     if !grants(volume, file, asked.client, asked.access() | 0x2) {
-        return refused(Status::AccessDenied);
+        return Tried::ends(Status::AccessDenied);
     }
     if is_readonly(volume, file) {
-        return refused(Status::AccessDenied);
+        return Tried::ends(Status::AccessDenied);
     }
     make_stream(alloc, volume, asked, link, file, opening.stream_name())
 }
@@ -424,7 +423,7 @@ fn need_for_stream(volume: &Volume, link: u64, stream: u64) -> Option<Need>
         changes: 1,
         units,
         dirs: note.dirs,
-        ..nothing()
+        ..Need::nothing()
     })
 }
 

@@ -3,12 +3,12 @@
 ghost use Rattle.std.specs.Prelude.{◌≡◌, ◌<◌, ◌≤◌, ◌+◌, ◌-◌, ◌^◌, ◌==◌, not, None, Some, length};
 ghost use Rattle.fsa_model.specs.Open.{creation_time, access_time, file_attributes, kept_attributes, open_directory, names_stream, open_existing, open_granted, open_stream, overwrite_action, overwrite_existing, with_file_overwritten, with_open, with_overwrite_noted, with_overwritten};
 ghost use Rattle.fsa_model.specs.Lookups.{handle_of};
-ghost use Rattle.op_open.specs.Conditions.{HasHoldRoom, HasNoteRoom, HasOpenRoom, IsOpenBy, MayOpen, noted_stream};
-ghost use Rattle.volume_state.specs.Tried.{Gives};
+ghost use Rattle.op_open.specs.Conditions.{HasNoteRoom, HasOpenRoom, IsOpenBy, MayOpen, noted_stream};
+ghost use Rattle.volume_state.specs.Tried.{Gives, HasHoldRoom};
 
 use crate::asked::{Asked, overwrites};
 use crate::breaks::{break_for, clashed, held};
-use crate::ends::{open_handle, opens, refused};
+use crate::ends::{open_handle, opens};
 use crate::rights::{grants, is_readonly};
 use crate::room::{room_to_open, room_to_overwrite};
 use fsa_types::{Action, BlockerList, Disposition, Status};
@@ -252,10 +252,10 @@ pub fn open_directory(
     ensures ends { volume.old.spare.ends ≤ volume.new.spare.ends + length volume.old.content.oplocks }
 {
     if !grants(volume, file, asked.client, asked.access()) {
-        return refused(Status::AccessDenied);
+        return Tried::ends(Status::AccessDenied);
     }
     if asked.deletes_on_close() && (link == 0 || is_readonly(volume, file)) {
-        return refused(Status::CannotDelete);
+        return Tried::ends(Status::CannotDelete);
     }
     open_granted(alloc, volume, asked, link)
 }

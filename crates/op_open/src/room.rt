@@ -7,31 +7,6 @@ use fsa_types::{BlockerList, NoMemory};
 use std::alloc::Global;
 use volume_state::{Need, Volume};
 
-/// No room.
-pub fn nothing() -> Need
-    ensures { (result.links ≡ 0) × (result.locks ≡ 0) × (result.oplocks ≡ 0) }
-{
-    Need {
-        files: 0,
-        links: 0,
-        streams: 0,
-        handles: 0,
-        owners: 0,
-        locks: 0,
-        oplocks: 0,
-        watches: 0,
-        limits: 0,
-        pending: 0,
-        blockers: 0,
-        changes: 0,
-        ends: 0,
-        units: 0,
-        dirs: 0,
-        parent: 0,
-        handle: 0,
-    }
-}
-
 /// Takes the room for a handle, for the ends that a break may tell, and for an open that is held.
 /// `NoMemory` where there is none.
 pub fn room_to_open(alloc: Global, volume: &mut Volume) -> Result<BlockerList, NoMemory>
@@ -45,7 +20,7 @@ pub fn room_to_open(alloc: Global, volume: &mut Volume) -> Result<BlockerList, N
         pending: 1,
         blockers: oplocks,
         ends: oplocks,
-        ..nothing()
+        ..Need::nothing()
     })?;
     BlockerList::with_room(alloc, oplocks)
 }
@@ -75,7 +50,7 @@ pub fn room_to_overwrite(
         changes: 1,
         units: note.units,
         dirs: note.dirs,
-        ..nothing()
+        ..Need::nothing()
     })?;
     BlockerList::with_room(alloc, oplocks)
 }
