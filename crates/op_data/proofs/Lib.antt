@@ -1,0 +1,6 @@
+pub mod GrowthLaws
+pub mod HandleLaws
+pub mod LockLaws
+pub mod ReadLaws
+pub mod RoomLaws
+pub mod WriteLaws

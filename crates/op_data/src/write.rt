@@ -1,0 +1,187 @@
+//! A write, in the order of its checks.
+
+ghost use Rattle.std.specs.Prelude.{◌≡◌, ◌≤◌, ◌+◌, ◌<◌, ◌-◌, ◌^◌, length, IfNone, IsTrue};
+ghost use Rattle.fsa_types.specs.Rows.{lives};
+ghost use Rattle.fsa_model.specs.Growth.{growth_fault};
+ghost use Rattle.fsa_model.specs.Outcome.{Done};
+ghost use Rattle.fsa_model.specs.Read.{largest_end};
+ghost use Rattle.fsa_model.specs.Write.{try_write, write_at, write_bytes, write_grown, write_unlocked};
+ghost use Rattle.op_data.specs.Calls.{IsWrite, asked_write};
+ghost use Rattle.op_data.specs.Conditions.{HasWaitRoom, HasWriteRoom, MayUse, write_by_key};
+ghost use Rattle.volume_state.specs.Tried.{Gives, HasHoldRoom};
+
+use crate::breaks::{break_for, held};
+use crate::ends::{bare, succeeded};
+use crate::growth::growth_fault;
+use crate::locked::write_is_locked;
+use crate::rights::{LARGEST_END, can_write};
+use crate::room::room_to_write;
+use crate::written::{Writing, write_in_place};
+use fsa_types::{BlockerList, Body, Call, Reply, Request, Status, What};
+use std::alloc::Global;
+use volume_state::{Class, Tried, Volume};
+
+// The bytes are put. The room is taken.
+fn write_bytes(volume: &mut Volume, writing: Writing) -> Reply
+    requires lives { IsTrue (lives volume.old.content.streams writing.stream) }
+    requires put { HasWriteRoom volume.old.content volume.old.spare writing.link writing.stream writing.at (length writing.bytes.now) }
+    ensures gives { write_bytes volume.old.content writing.entry.link writing.entry.stream writing.entry.at writing.entry.bytes.now ≡ Done volume.new.content result }
+    ensures ends { volume.old.spare.ends ≤ volume.new.spare.ends }
+{
+    write_in_place(volume, writing);
+    succeeded(Body::Count(writing.bytes.len() as u32))
+}
+
+// The bytes are put unless the stream may not grow so.
+#[tactic(auto, unfolding(fsa_model::specs::Write::write_grown))]
+fn write_grown(volume: &mut Volume, writing: Writing, fault: Option<Status>) -> Reply
+    requires lives { IsTrue (lives volume.old.content.streams writing.stream) }
+    requires fault { fault ≡ growth_fault volume.old.content writing.stream (writing.at + length writing.bytes.now) }
+    requires put { IfNone fault (HasWriteRoom volume.old.content volume.old.spare writing.link writing.stream writing.at (length writing.bytes.now)) }
+    ensures gives { write_grown volume.old.content writing.entry.link writing.entry.stream writing.entry.at writing.entry.bytes.now ≡ Done volume.new.content result }
+    ensures ends { volume.old.spare.ends ≤ volume.new.spare.ends }
+{
+    match fault {
+        Some(status) => bare(status),
+        None => write_bytes(volume, writing),
+    }
+}
+
+// The write goes on unless a lock is in the way.
+#[tactic(auto, unfolding(fsa_model::specs::Write::write_unlocked))]
+fn write_unlocked(volume: &mut Volume, writing: Writing, fault: Option<Status>) -> Reply
+    requires lives { IsTrue (lives volume.old.content.streams writing.stream) }
+    requires fault { fault ≡ growth_fault volume.old.content writing.stream (writing.at + length writing.bytes.now) }
+    requires put { IfNone fault (HasWriteRoom volume.old.content volume.old.spare writing.link writing.stream writing.at (length writing.bytes.now)) }
+    ensures gives { write_unlocked volume.old.content writing.entry.handle writing.entry.link writing.entry.stream writing.entry.at writing.entry.bytes.now ≡ Done volume.new.content result }
+    ensures ends { volume.old.spare.ends ≤ volume.new.spare.ends }
+{
+    let count = writing.bytes.len() as u64;
+    if write_is_locked(volume, writing.handle, writing.stream, writing.at, count) {
+        return bare(Status::FileLockConflict);
+    }
+    write_grown(volume, writing, fault)
+}
+
+// The write goes on once the oplocks that a change breaks are broken. The room is taken.
+fn write_in_room(
+    volume: &mut Volume,
+    writing: Writing,
+    fault: Option<Status>,
+    blockers: BlockerList,
+) -> Tried
+    requires lives { IsTrue (lives volume.old.content.streams writing.stream) }
+    requires may { MayUse volume.old.content }
+    requires room { HasWaitRoom volume.old.content volume.old.spare blockers }
+    requires fault { fault ≡ growth_fault volume.old.content writing.stream (writing.at + length writing.bytes.now) }
+    requires put { IfNone fault (HasWriteRoom volume.old.content volume.old.spare writing.link writing.stream writing.at (length writing.bytes.now)) }
+    ensures gives { Gives (write_by_key volume.old.content writing.entry.handle writing.entry.key writing.entry.link writing.entry.stream writing.entry.at writing.entry.bytes.now) volume.old.content volume.new.content result }
+    ensures room { HasHoldRoom result volume.new.spare }
+    ensures ends { volume.old.spare.ends ≤ volume.new.spare.ends + length volume.old.content.oplocks }
+{
+    let mut blockers = blockers;
+    let Writing {
+        handle,
+        key,
+        stream,
+        ..
+    } = writing;
+    if break_for(volume, stream, Class::Change, handle, key, &mut blockers) {
+        return held(blockers);
+    }
+    Tried::Done(write_unlocked(volume, writing, fault))
+}
+
+// The write of a range. What growth comes to is known before the first change; no break changes it.
+fn write_range(alloc: Global, volume: &mut Volume, writing: Writing) -> Tried
+    requires lives { IsTrue (lives volume.old.content.streams writing.stream) }
+    requires may { MayUse volume.old.content }
+    requires place { writing.at + length writing.bytes.now ≤ largest_end }
+    ensures gives { Gives (write_by_key volume.old.content writing.entry.handle writing.entry.key writing.entry.link writing.entry.stream writing.entry.at writing.entry.bytes.now) volume.old.content volume.new.content result }
+    ensures room { HasHoldRoom result volume.new.spare }
+    ensures ends { volume.old.spare.ends ≤ volume.new.spare.ends + length volume.old.content.oplocks }
+{
+    let end = writing.at + writing.bytes.len() as u64;
+    let fault = growth_fault(volume, writing.stream, end);
+    let Ok(blockers) = room_to_write(alloc, volume, writing, fault) else {
+        return Tried::NoMemory;
+    };
+    write_in_room(volume, writing, fault, blockers)
+}
+
+// Writes through the handle of this number.
+#[tactic(auto, using(crate::proofs::HandleLaws::stream_lives), unfolding(fsa_model::specs::Write::write_at, fsa_model::specs::Write::write_by, fsa_model::specs::Write::write_stream, fsa_model::specs::Write::write_at_place, fsa_model::specs::Write::write_range))]
+fn write_at(alloc: Global, volume: &mut Volume, id: u64, at: Option<u64>, bytes: &[u8]) -> Tried
+    requires may { MayUse volume.old.content }
+    ensures gives { Gives (write_at volume.old.content id at bytes.now) volume.old.content volume.new.content result }
+    ensures room { HasHoldRoom result volume.new.spare }
+    ensures ends { volume.old.spare.ends ≤ volume.new.spare.ends + length volume.old.content.oplocks }
+{
+    let Some(row) = volume.handle(id) else {
+        return Tried::ends(Status::InvalidHandle);
+    };
+    let Some(stream) = row.stream else {
+        return Tried::ends(Status::InvalidDeviceRequest);
+    };
+    if !can_write(row.access, at) {
+        return Tried::ends(Status::AccessDenied);
+    }
+    if bytes.is_empty() {
+        return Tried::succeeds(Body::Count(0));
+    }
+    let end = volume.bytes_of(stream).len() as u64;
+    let place = at.unwrap_or(end);
+    if place > LARGEST_END - bytes.len() as u64 {
+        return Tried::ends(Status::InvalidParameter);
+    }
+    let writing = Writing {
+        handle: id,
+        key: row.key,
+        link: row.link,
+        stream,
+        at: place,
+        bytes,
+    };
+    write_range(alloc, volume, writing)
+}
+
+// One try of a write.
+#[tactic(auto, unfolding(fsa_model::specs::Write::try_write))]
+fn write(
+    alloc: Global,
+    volume: &mut Volume,
+    client: u32,
+    handle: u32,
+    at: Option<u64>,
+    bytes: &[u8],
+) -> Tried
+    requires may { MayUse volume.old.content }
+    ensures gives { Gives (try_write volume.old.content client handle at bytes.now) volume.old.content volume.new.content result }
+    ensures room { HasHoldRoom result volume.new.spare }
+    ensures ends { volume.old.spare.ends ≤ volume.new.spare.ends + length volume.old.content.oplocks }
+{
+    let Some(id) = volume.handle_of(client, handle) else {
+        return Tried::ends(Status::InvalidHandle);
+    };
+    write_at(alloc, volume, id, at, bytes)
+}
+
+/// One try of a Write, after [MS-FSA] 'Server Requests a Write'. The call has to be one, and numbers have
+/// to be left for breaks.
+///
+/// `Done` with the reply, or `Hold` with the breaks of oplocks that it waits for, as the definition
+/// says; never `Stay`. Where it is held there is room to make it pending, and of the room for ends it
+/// uses no more than one for each oplock that there was. `NoMemory` changes nothing, not even breaks.
+/// `_turn` is the number of the turn; no write needs it.
+pub fn try_write(alloc: Global, volume: &mut Volume, call: &Call, _turn: u64) -> Tried
+    requires verb { IsWrite call.now.what }
+    requires may { MayUse volume.old.content }
+    ensures gives { Gives (asked_write volume.old.content call.now.client call.now.what) volume.old.content volume.new.content result }
+    ensures room { HasHoldRoom result volume.new.spare }
+    ensures ends { volume.old.spare.ends ≤ volume.new.spare.ends + length volume.old.content.oplocks }
+{
+    let What::Ask(Request::Write { handle, at, bytes }) = &call.what else {
+        unreachable!()
+    };
+    write(alloc, volume, call.client, *handle, *at, bytes.bytes())
+}

@@ -1,0 +1,172 @@
+//! What a write changes.
+
+ghost use Rattle.std.specs.Prelude.{◌≡◌, ◌≤◌, ◌<◌, ◌+◌, ◌-◌, ◌^◌, length, Some, None, if◌then◌else◌, IsTrue};
+ghost use Rattle.fsa_types.specs.Rows.{lives};
+ghost use Rattle.fsa_model.specs.Changes.{units_noted, dirs_noted};
+ghost use Rattle.fsa_model.specs.Open.{attributes_of, creation_time, access_time};
+ghost use Rattle.fsa_model.specs.Write.{file_of_stream, is_named_stream, lengthens, with_file_written, with_write_noted, with_written};
+ghost use Rattle.op_data.specs.Conditions.{HasWriteRoom, noted_stream};
+
+use volume_state::Volume;
+
+/// A write of a range of a stream, by a handle with this key that was opened by this link.
+#[derive(Clone, Copy, Debug)]
+pub struct Writing<'a> {
+    /// The number of the handle.
+    pub handle: u64,
+    /// Its oplock key.
+    pub key: u64,
+    /// The number of its link.
+    pub link: u64,
+    /// The number of its stream.
+    pub stream: u64,
+    /// The place of the first byte.
+    pub at: u64,
+    /// The bytes.
+    pub bytes: &'a [u8],
+}
+
+// ARCHIVE.
+const ARCHIVE: u32 = 0x20;
+
+// FILE_ACTION_MODIFIED, and FILE_ACTION_MODIFIED_STREAM.
+const MODIFIED: u32 = 3;
+
+const MODIFIED_STREAM: u32 = 8;
+
+// The change of the bytes of a file, and of its size too; the same of a named stream.
+const WRITTEN: u32 = 0x10;
+
+const LENGTHENED: u32 = 0x18;
+
+const STREAM_WRITTEN: u32 = 0x800;
+
+const STREAM_LENGTHENED: u32 = 0xC00;
+
+/// The stream of which a write is noted: none for the default stream.
+pub fn noted_stream(volume: &Volume, stream: u64) -> Option<u64>
+    ensures { result ≡ noted_stream volume.now.content stream }
+{
+    match volume.stream(stream) {
+        None => None,
+        Some(info) => {
+            if info.name.units().is_empty() {
+                None
+            } else {
+                Some(stream)
+            }
+        }
+    }
+}
+
+/// A write is noted, put, and its file has changed. The room is taken.
+pub fn write_in_place(volume: &mut Volume, writing: Writing)
+    requires lives { IsTrue (lives volume.old.content.streams writing.stream) }
+    requires put { HasWriteRoom volume.old.content volume.old.spare writing.link writing.stream writing.at (length writing.bytes.now) }
+    ensures content { volume.new.content ≡ with_written volume.old.content writing.entry.link writing.entry.stream writing.entry.at writing.entry.bytes.now }
+    ensures ends { volume.old.spare.ends ≤ volume.new.spare.ends }
+{
+    let file = file_of_stream(volume, writing.stream);
+    let longer = lengthens(volume, writing.stream, writing.at, writing.bytes);
+    note_write(volume, writing.link, writing.stream, longer);
+    volume.put_bytes(writing.stream, writing.at, writing.bytes);
+    write_file(volume, file);
+}
+
+// Whether a write of so many bytes at this place makes the stream longer.
+fn lengthens(volume: &Volume, stream: u64, at: u64, bytes: &[u8]) -> bool
+    requires lives { IsTrue (lives volume.now.content.streams stream) }
+    requires fits { at + length bytes.now ≤ 2 ^ 26 }
+    ensures { result ≡ lengthens volume.now.content stream at bytes.now }
+{
+    (volume.bytes_of(stream).len() as u64) < at + bytes.len() as u64
+}
+
+// The file of a stream.
+fn file_of_stream(volume: &Volume, stream: u64) -> u64
+    ensures { result ≡ file_of_stream volume.now.content stream }
+{
+    match volume.stream(stream) {
+        None => 0,
+        Some(info) => info.file,
+    }
+}
+
+// A write is noted.
+fn note_write(volume: &mut Volume, link: u64, stream: u64, longer: bool)
+    requires changes { 1 ≤ volume.old.spare.changes }
+    requires units { units_noted volume.old.content link (noted_stream volume.old.content stream) ≤ volume.old.spare.units }
+    requires dirs { dirs_noted volume.old.content link (noted_stream volume.old.content stream) ≤ volume.old.spare.dirs }
+    ensures content { volume.new.content ≡ with_write_noted volume.old.content link stream longer }
+    ensures others { volume.new.spare ≡ record volume.old.spare { changes = volume.new.spare.changes; units = volume.new.spare.units; dirs = volume.new.spare.dirs } }
+{
+    let noted = noted_stream(volume, stream);
+    note_write_of(volume, link, stream, noted, longer);
+}
+
+// A write is noted, of this stream of the file or else of the file.
+fn note_write_of(volume: &mut Volume, link: u64, stream: u64, noted: Option<u64>, longer: bool)
+    requires noted { noted ≡ (if is_named_stream volume.old.content stream then Some stream else None) }
+    requires changes { 1 ≤ volume.old.spare.changes }
+    requires units { units_noted volume.old.content link noted ≤ volume.old.spare.units }
+    requires dirs { dirs_noted volume.old.content link noted ≤ volume.old.spare.dirs }
+    ensures content { volume.new.content ≡ with_write_noted volume.old.content link stream longer }
+    ensures others { volume.new.spare ≡ record volume.old.spare { changes = volume.new.spare.changes; units = volume.new.spare.units; dirs = volume.new.spare.dirs } }
+{
+    match noted {
+        Some(_) => {
+            let bits = if longer {
+                STREAM_LENGTHENED
+            } else {
+                STREAM_WRITTEN
+            };
+            volume.note(link, MODIFIED_STREAM, bits, noted);
+        }
+        None => {
+            let bits = if longer { LENGTHENED } else { WRITTEN };
+            volume.note(link, MODIFIED, bits, noted);
+        }
+    }
+}
+
+// A file is written at this moment.
+fn write_file(volume: &mut Volume, file: u64)
+    ensures content { volume.new.content ≡ with_file_written volume.old.content file }
+    ensures spare { volume.new.spare ≡ volume.old.spare }
+{
+    let creation = creation_time(volume, file);
+    let access = access_time(volume, file);
+    let attributes = attributes_of(volume, file) | ARCHIVE;
+    let now = volume.clock();
+    volume.set_basic(file, creation, access, now, now, attributes);
+}
+
+// When a file was made.
+fn creation_time(volume: &Volume, file: u64) -> u64
+    ensures { result ≡ creation_time volume.now.content file }
+{
+    match volume.file(file) {
+        None => 0,
+        Some(row) => row.creation,
+    }
+}
+
+// When a file was last read.
+fn access_time(volume: &Volume, file: u64) -> u64
+    ensures { result ≡ access_time volume.now.content file }
+{
+    match volume.file(file) {
+        None => 0,
+        Some(row) => row.access,
+    }
+}
+
+// The attributes of a file; none where there is no such file.
+fn attributes_of(volume: &Volume, file: u64) -> u32
+    ensures { result ≡ attributes_of volume.now.content file }
+{
+    match volume.file(file) {
+        None => 0,
+        Some(row) => row.attributes,
+    }
+}
