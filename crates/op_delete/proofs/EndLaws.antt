@@ -1,0 +1,233 @@
+-- Pending calls that end in order of turns.
+use Rattle.std.proofs.Common.{◌≡◌, ℕ, ◌<◌, ◌≤◌, Bool, List, [], ◌∷◌, length, get_or, refl, ap, sym, ◌∙◌, arith, inl, inr, Some, None, true, false}
+use Rattle.std.specs.List.{All, AllPairs, filter, find, list_any}
+use Rattle.std.specs.Option.{option_map_or}
+use Rattle.std.specs.Prelude.{◌==◌, ◌&&◌, not, nat_lt, option_map}
+use Rattle.std.proofs.lemmas.Bool.{and_from, and_parts, and_right, both_ways, cases_Bool, eq-eqb, eqb-false, eqb-true, false_from_ne_true, le-ltb, lt-ltb, ltb-false, ltb-true, not-true, not_from_true}
+use Rattle.std.proofs.lemmas.List.Elements.{All-filter}
+use Rattle.std.proofs.lemmas.List.Folds.{list_any_none}
+use Rattle.fsa_types.specs.Rows.{lives, row_of}
+use Rattle.fsa_types.specs.Sorting.{in_order}
+use Rattle.fsa_types.specs.declared.request.Call.{Call}
+use Rattle.fsa_model.specs.Close.{with_calls_ended}
+use Rattle.fsa_model.specs.Edits.{is_call}
+use Rattle.fsa_model.specs.Lookups.{next_pending}
+use Rattle.fsa_model.specs.Sound.{ArePending}
+use Rattle.fsa_model.specs.Volume.{Pending, Volume}
+use Rattle.fsa_model.proofs.RowLaws.{find-any, lives-found, none-all, option_cases}
+use Rattle.volume_state.proofs.OpenLaws.{find-passes}
+use Rattle.op_delete.specs.Ends.{ends_call, end_status, to_end, with_ended, with_row_ended, with_turn_ended}
+use Rattle.op_delete.specs.declared.ends.Ending.{Ending}
+use Rattle.op_delete.proofs.ListLaws.{Picks, alone-pairs, by_key, fewer, filter-agree, filter-both, filter-none, find-row, first-picked, only-found}
+
+-- a call that is pending is that of its client and number
+is_call-own : (row : Pending) → is_call row.call.client row.call.number row ≡ true
+is_call-own row = and_from (row.call.client == row.call.client) (row.call.number == row.call.number) (eq-eqb row.call.client row.call.client refl) (eq-eqb row.call.number row.call.number refl)
+
+-- when it ends fewer are pending
+pub pending-fewer : (rows : List (ℕ × Pending)) (turn : ℕ) (call : Call) → option_map (λ row. row.call) (row_of rows turn) ≡ Some call
+    → length (filter (λ entry. not (is_call call.client call.number entry.1)) rows) < length rows
+pending-fewer rows turn call found = elim (option_cases (row_of rows turn)) [
+  | inl none ↦ (let impossible : None ≡ Some call = rw none at found in absurd (cc))
+  | inr some ↦ (let is : Some some.0.call ≡ Some call = rw some.1 at found in
+      let same : some.0.call ≡ call = cc in
+      rw (← same) (fewer (λ (entry : ℕ × Pending). entry.0 == turn) (λ entry. not (is_call some.0.call.client some.0.call.number entry.1)) rows (turn, some.0) (find-row rows turn some.0 some.1) (not_from_true _ (is_call-own some.0))))
+]
+
+-- ---- one turn
+
+-- a turn under which a call is pending, and none between this and an earlier one
+pub record IsNext (v : Volume) (after turn : ℕ) (row : Pending) : Type 0 where
+  pub sound : ArePending v.clients v.pending
+  pub found : row_of v.pending turn ≡ Some row
+  pub above : after < turn
+  pub none_between : list_any (λ other. nat_lt after other.0 && nat_lt other.0 turn) v.pending ≡ false
+
+-- what is true of each other pending call
+own_turn : (v : Volume) (after turn : ℕ) (row : Pending) → IsNext v after turn row → All (λ entry. (entry.0 == turn) ≡ true → entry ≡ (turn, row)) v.pending
+own_turn v after turn row next =
+    only-found (λ (entry : ℕ × Pending). entry.0 == turn) (λ (entry : ℕ × Pending). entry.0 == turn) v.pending (turn, row)
+    (alone-pairs (λ (entry : ℕ × Pending). entry.0 == turn) v.pending (λ i j d below within.
+    two (get_or v.pending i d).0 (get_or v.pending j d).0 (next.sound.turns_differ i j d below within)))
+    (find-row v.pending turn row next.found) (eq-eqb turn turn refl)
+  where
+    two : (a b : ℕ) → (a == b) ≡ false → (a == turn && b == turn) ≡ false
+    two a b differ = false_from_ne_true _ (λ both.
+        let parts = and_parts (a == turn) (b == turn) both in eqb-false a b differ (eqb-true a turn parts.0 ∙ sym (eqb-true b turn parts.1)))
+
+own_call : (v : Volume) (after turn : ℕ) (row : Pending) → IsNext v after turn row → All (λ entry. is_call row.call.client row.call.number entry.1 ≡ true → entry ≡ (turn, row)) v.pending
+own_call v after turn row next =
+    only-found (λ (entry : ℕ × Pending). entry.0 == turn) (λ (entry : ℕ × Pending). is_call row.call.client row.call.number entry.1) v.pending (turn, row)
+    (alone-pairs (λ (entry : ℕ × Pending). is_call row.call.client row.call.number entry.1) v.pending (λ i j d below within.
+    two (get_or v.pending i d).1 (get_or v.pending j d).1 (next.sound.differ i j d below within)))
+    (find-row v.pending turn row next.found) (is_call-own row)
+  where
+    two : (a b : Pending) → is_call b.call.client b.call.number a ≡ false → (is_call row.call.client row.call.number a && is_call row.call.client row.call.number b) ≡ false
+    two a b differ = false_from_ne_true _ (λ both.
+        let parts = and_parts (is_call row.call.client row.call.number a) (is_call row.call.client row.call.number b) both in
+        let of_a = and_parts (a.call.client == row.call.client) (a.call.number == row.call.number) parts.0 in
+        let of_b = and_parts (b.call.client == row.call.client) (b.call.number == row.call.number) parts.1 in
+        let client : a.call.client ≡ b.call.client = eqb-true a.call.client row.call.client of_a.0 ∙ sym (eqb-true b.call.client row.call.client of_b.0) in
+        let number : a.call.number ≡ b.call.number = eqb-true a.call.number row.call.number of_a.1 ∙ sym (eqb-true b.call.number row.call.number of_b.1) in
+        both_ways (is_call b.call.client b.call.number a) differ
+        (and_from (a.call.client == b.call.client) (a.call.number == b.call.number) (eq-eqb a.call.client b.call.client client) (eq-eqb a.call.number b.call.number number)))
+
+-- another turn above the earlier one is above this one
+pub later-same : (after turn other : ℕ) → after < turn → (nat_lt after other && nat_lt other turn) ≡ false → (other == turn) ≡ false → nat_lt turn other ≡ nat_lt after other
+later-same after turn other above none_between differs = elim (cases_Bool (nat_lt after other)) [
+  | inl later ↦ (let not_below : nat_lt other turn ≡ false = rw later at none_between in
+      let most : turn ≤ other = ltb-false other turn not_below in
+      let not_equal : other ≡ turn → ⊥ = eqb-false other turn differs in
+      rw later (lt-ltb turn other (omega (arith, not_equal))))
+  | inr earlier ↦ (let most : other ≤ after = ltb-false after other earlier in rw earlier (le-ltb turn other (omega arith)))
+]
+
+-- the calls of later turns that end when this one has ended
+after_end : (ending : Ending) (after turn : ℕ) (row : Pending) (entry : ℕ × Pending) → after < turn
+    → ((entry.0 == turn) ≡ true → entry ≡ (turn, row)) → (is_call row.call.client row.call.number entry.1 ≡ true → entry ≡ (turn, row)) → (nat_lt after entry.0 && nat_lt entry.0 turn) ≡ false
+    → (not (is_call row.call.client row.call.number entry.1) && (ends_call ending entry.1.call && nat_lt turn entry.0))
+    ≡ ((ends_call ending entry.1.call && nat_lt after entry.0) && not (entry.0 == turn))
+after_end ending after turn row entry above of_turn of_call none_between = elim (cases_Bool (entry.0 == turn)) [
+  | inl here ↦ (let same : entry ≡ (turn, row) = of_turn here in
+      let own : is_call row.call.client row.call.number entry.1 ≡ true = ap (λ (e : ℕ × Pending). is_call row.call.client row.call.number e.1) same ∙ is_call-own row in
+      rw (own, here) (sym (and_right (ends_call ending entry.1.call && nat_lt after entry.0) false refl)))
+  | inr other ↦ (let not_own : is_call row.call.client row.call.number entry.1 ≡ false = false_from_ne_true _ (λ own. eqb-false entry.0 turn other (ap (λ (e : ℕ × Pending). e.0) (of_call own))) in
+      let later = later-same after turn entry.0 above none_between other in
+      rw (not_own, other, later) (sym (and_true (ends_call ending entry.1.call && nat_lt after entry.0))))
+]
+  where
+    and_true : (b : Bool) → (b && true) ≡ b
+    and_true true = refl
+    and_true false = refl
+
+-- those of later turns, where this one doesn't end
+after_skip : (ending : Ending) (after turn : ℕ) (row : Pending) (entry : ℕ × Pending) → after < turn → ends_call ending row.call ≡ false
+    → ((entry.0 == turn) ≡ true → entry ≡ (turn, row)) → (nat_lt after entry.0 && nat_lt entry.0 turn) ≡ false
+    → (ends_call ending entry.1.call && nat_lt after entry.0) ≡ (ends_call ending entry.1.call && nat_lt turn entry.0)
+after_skip ending after turn row entry above stays of_turn none_between = elim (cases_Bool (entry.0 == turn)) [
+  | inl here ↦ (let same : entry ≡ (turn, row) = of_turn here in
+      let not_ended : ends_call ending entry.1.call ≡ false = ap (λ (e : ℕ × Pending). ends_call ending e.1.call) same ∙ stays in
+      rw not_ended refl)
+  | inr other ↦ ap (λ b. ends_call ending entry.1.call && b) (sym (later-same after turn entry.0 above none_between other))
+]
+
+-- the call of this turn is the first of those that are to end
+first_to_end : (ending : Ending) (v : Volume) (after turn : ℕ) (row : Pending) → IsNext v after turn row → ends_call ending row.call ≡ true
+    → Picks (λ (entry : ℕ × Pending). entry.0) (λ entry. ends_call ending entry.1.call && nat_lt after entry.0) v.pending (turn, row)
+first_to_end ending v after turn row next ends = record {
+  some = find-any (λ (entry : ℕ × Pending). entry.0 == turn) (λ entry. (ends_call ending entry.1.call && nat_lt after entry.0) && entry.0 == turn) v.pending (turn, row) (find-row v.pending turn row next.found)
+      (and_from (ends_call ending row.call && nat_lt after turn) (turn == turn) (and_from (ends_call ending row.call) (nat_lt after turn) ends (lt-ltb after turn next.above)) (eq-eqb turn turn refl));
+  only = λ k d within both. own_turn v after turn row next k d within
+      (and_parts (ends_call ending (get_or v.pending k d).1.call && nat_lt after (get_or v.pending k d).0) ((get_or v.pending k d).0 == turn) both).1;
+  single = alone-pairs (λ (entry : ℕ × Pending). (ends_call ending entry.1.call && nat_lt after entry.0) && entry.0 == turn) v.pending (λ i j d below within.
+      two (get_or v.pending i d) (get_or v.pending j d) (next.sound.turns_differ i j d below within));
+  least = list_any_none (λ (entry : ℕ × Pending). (ends_call ending entry.1.call && nat_lt after entry.0) && nat_lt entry.0 turn) v.pending (λ k d within.
+      weaker (ends_call ending (get_or v.pending k d).1.call) (nat_lt after (get_or v.pending k d).0) (nat_lt (get_or v.pending k d).0 turn)
+      (none-all (λ (other : ℕ × Pending). nat_lt after other.0 && nat_lt other.0 turn) v.pending next.none_between k d within));
+}
+  where
+    weaker : (a b c : Bool) → (b && c) ≡ false → ((a && b) && c) ≡ false
+    weaker true b c none = none
+    weaker false b c none = refl
+
+    two : (a b : ℕ × Pending) → (a.0 == b.0) ≡ false
+        → (((ends_call ending a.1.call && nat_lt after a.0) && a.0 == turn) && ((ends_call ending b.1.call && nat_lt after b.0) && b.0 == turn)) ≡ false
+    two a b differ = false_from_ne_true _ (λ both.
+        let parts = and_parts ((ends_call ending a.1.call && nat_lt after a.0) && a.0 == turn) ((ends_call ending b.1.call && nat_lt after b.0) && b.0 == turn) both in
+        let of_a : (a.0 == turn) ≡ true = (and_parts (ends_call ending a.1.call && nat_lt after a.0) (a.0 == turn) parts.0).1 in
+        let of_b : (b.0 == turn) ≡ true = (and_parts (ends_call ending b.1.call && nat_lt after b.0) (b.0 == turn) parts.1).1 in
+        eqb-false a.0 b.0 differ (eqb-true a.0 turn of_a ∙ sym (eqb-true b.0 turn of_b)))
+
+-- once this turn is done the calls of later turns are to end
+pub to_end-turn : (ending : Ending) (v : Volume) (after turn : ℕ) (row : Pending) → IsNext v after turn row
+    → with_calls_ended (end_status ending) (to_end ending turn (with_row_ended ending row v)) (with_row_ended ending row v) ≡ with_calls_ended (end_status ending) (to_end ending after v) v
+to_end-turn ending v after turn row next = elim (cases_Bool (ends_call ending row.call)) [
+  | inl ends ↦ rw ends (sym (ap (λ (calls : List (ℕ × Pending)). with_calls_ended (end_status ending) calls v)
+      (first-picked (λ (entry : ℕ × Pending). entry.0) (λ entry. ends_call ending entry.1.call && nat_lt after entry.0)
+      (λ entry. not (is_call row.call.client row.call.number entry.1) && (ends_call ending entry.1.call && nat_lt turn entry.0)) v.pending (turn, row)
+      (first_to_end ending v after turn row next ends)
+      (λ k d within. after_end ending after turn row (get_or v.pending k d) next.above (own_turn v after turn row next k d within) (own_call v after turn row next k d within) (between k d within))
+      ∙ ap (λ (calls : List (ℕ × Pending)). (turn, row) ∷ in_order (by_key (λ (entry : ℕ × Pending). entry.0)) calls)
+      (sym (filter-both (λ entry. not (is_call row.call.client row.call.number entry.1)) (λ entry. ends_call ending entry.1.call && nat_lt turn entry.0) v.pending)))))
+  | inr stays ↦ rw stays (sym (ap (λ (calls : List (ℕ × Pending)). with_calls_ended (end_status ending) (in_order (by_key (λ (entry : ℕ × Pending). entry.0)) calls) v)
+      (filter-agree (λ entry. ends_call ending entry.1.call && nat_lt after entry.0) (λ entry. ends_call ending entry.1.call && nat_lt turn entry.0) v.pending
+      (λ k d within. after_skip ending after turn row (get_or v.pending k d) next.above stays (own_turn v after turn row next k d within) (between k d within)))))
+]
+  where
+    between : All (λ entry. (nat_lt after entry.0 && nat_lt entry.0 turn) ≡ false) v.pending
+    between = none-all (λ (other : ℕ × Pending). nat_lt after other.0 && nat_lt other.0 turn) v.pending next.none_between
+
+-- at first all are to end, and in the end none
+pub to_end-first : (ending : Ending) (v : Volume) → All (λ entry. 0 < entry.0) v.pending → with_calls_ended (end_status ending) (to_end ending 0 v) v ≡ with_ended ending v
+to_end-first ending v turns =
+    ap (λ (calls : List (ℕ × Pending)). with_calls_ended (end_status ending) (in_order (by_key (λ (entry : ℕ × Pending). entry.0)) calls) v)
+    (filter-agree (λ entry. ends_call ending entry.1.call && nat_lt 0 entry.0) (λ entry. ends_call ending entry.1.call) v.pending (λ k d within.
+    both (ends_call ending (get_or v.pending k d).1.call) (nat_lt 0 (get_or v.pending k d).0) (lt-ltb 0 (get_or v.pending k d).0 (turns k d within))))
+  where
+    both : (a b : Bool) → b ≡ true → (a && b) ≡ a
+    both true b yes_b = yes_b
+    both false b yes_b = refl
+
+pub to_end-last : (ending : Ending) (v : Volume) (after : ℕ) → list_any (λ entry. nat_lt after entry.0) v.pending ≡ false → with_calls_ended (end_status ending) (to_end ending after v) v ≡ v
+to_end-last ending v after none =
+    ap (λ (calls : List (ℕ × Pending)). with_calls_ended (end_status ending) (in_order (by_key (λ (entry : ℕ × Pending). entry.0)) calls) v)
+    (filter-none (λ entry. ends_call ending entry.1.call && nat_lt after entry.0) v.pending (λ k d within.
+    and_right (ends_call ending (get_or v.pending k d).1.call) (nat_lt after (get_or v.pending k d).0) (none-all (λ (entry : ℕ × Pending). nat_lt after entry.0) v.pending none k d within)))
+
+-- ---- the walk
+
+-- the calls of turns up to `after` have ended, and the others are still to end
+pub record IsEnding (ending : Ending) (old now : Volume) (after : ℕ) : Type 0 where
+  pub goes : with_calls_ended (end_status ending) (to_end ending after now) now ≡ with_ended ending old
+  pub rest : now ≡ record old { pending = now.pending; ended = now.ended }
+  pub turns : All (λ entry. 0 < entry.0) now.pending
+
+pub IsEnding-first : (ending : Ending) (v : Volume) → All (λ entry. 0 < entry.0) v.pending → IsEnding ending v v 0
+IsEnding-first ending v turns = record { goes = to_end-first ending v turns; rest = refl; turns = turns }
+
+-- the next turn is the least above `after`
+none-between : (v : Volume) (after turn : ℕ) → next_pending v after ≡ Some turn → list_any (λ other. nat_lt after other.0 && nat_lt other.0 turn) v.pending ≡ false
+none-between v after turn found = elim (option_cases (find is_least v.pending)) [
+  | inl none ↦ (let impossible : None ≡ Some turn = rw none at found in absurd (cc))
+  | inr some ↦ (let is : Some some.0.0 ≡ Some turn = rw some.1 at found in
+      let same : some.0.0 ≡ turn = cc in
+      let passes : is_least some.0 ≡ true = find-passes is_least v.pending some.0 some.1 in
+      let least = (and_parts (nat_lt after some.0.0) (not (list_any (λ other. nat_lt after other.0 && nat_lt other.0 some.0.0) v.pending)) passes).1 in
+      rw (← same) (not-true _ least))
+]
+  where
+    is_least : ℕ × Pending → Bool
+    is_least entry = nat_lt after entry.0 && not (list_any (λ other. nat_lt after other.0 && nat_lt other.0 entry.0) v.pending)
+
+-- the turns of those that are pending still count from 1
+turns-row : (ending : Ending) (row : Pending) (v : Volume) → All (λ entry. 0 < entry.0) v.pending → All (λ entry. 0 < entry.0) (with_row_ended ending row v).pending
+turns-row ending row v turns = elim (cases_Bool (ends_call ending row.call)) [
+  | inl ends ↦ rw ends (All-filter (λ (entry : ℕ × Pending). not (is_call row.call.client row.call.number entry.1)) (λ entry. 0 < entry.0) v.pending turns)
+  | inr stays ↦ rw stays turns
+]
+
+-- one more turn is done
+pub IsEnding-turn : (ending : Ending) (old now new : Volume) (after turn : ℕ) → IsEnding ending old now after → ArePending now.clients now.pending → next_pending now after ≡ Some turn
+    → after < turn → lives now.pending turn ≡ true → new ≡ with_turn_ended ending turn now → new ≡ record now { pending = new.pending; ended = new.ended } → IsEnding ending old new turn
+IsEnding-turn ending old now new after turn walk sound next above live is same = elim (option_cases (row_of now.pending turn)) [
+  | inl none ↦ absurd (lives-found now.pending turn live none)
+  | inr some ↦ one some.0 some.1 (is ∙ rw some.1 refl)
+]
+  where
+    one : (row : Pending) → row_of now.pending turn ≡ Some row → new ≡ with_row_ended ending row now → IsEnding ending old new turn
+    one row found ends = record {
+      goes = ap (λ (w : Volume). with_calls_ended (end_status ending) (to_end ending turn w) w) ends
+          ∙ to_end-turn ending now after turn row (record { sound = sound; found = found; above = above; none_between = none-between now after turn next })
+          ∙ walk.goes;
+      rest = same ∙ ap (λ (w : Volume). record w { pending = new.pending; ended = new.ended }) walk.rest;
+      turns = rw ends (turns-row ending row now walk.turns);
+    }
+
+-- no later turn is left
+pub IsEnding-last : (ending : Ending) (old now : Volume) (after : ℕ) → IsEnding ending old now after → list_any (λ entry. nat_lt after entry.0) now.pending ≡ false → now ≡ with_ended ending old
+IsEnding-last ending old now after walk none = sym (to_end-last ending now after none) ∙ walk.goes
+
+-- a call that is pending can end
+pub one-pending : (rows : List (ℕ × Pending)) (turn : ℕ) → lives rows turn ≡ true → 1 ≤ length rows
+one-pending [] turn live = cc
+one-pending (row ∷ rows) turn live = omega arith

@@ -1,0 +1,4 @@
+pub mod CloseLaws
+pub mod EndLaws
+pub mod LeaveLaws
+pub mod ListLaws

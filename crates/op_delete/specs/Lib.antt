@@ -1,0 +1,4 @@
+pub mod Calls
+pub mod Conditions
+pub mod Ends
+pub mod Room

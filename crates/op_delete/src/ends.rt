@@ -1,0 +1,161 @@
+//! Pending calls that end with a handle, or with a client that leaves.
+
+ghost use Rattle.std.specs.Prelude.{◌≡◌, ◌≤◌, ◌<◌, ◌+◌, ◌==◌, ◌&&◌, All, IsTrue, length};
+ghost use Rattle.fsa_types.specs.Rows.{lives};
+ghost use Rattle.fsa_model.specs.Close.{closed_status, handle_named, is_open_or_wait, names};
+ghost use Rattle.op_delete.specs.Ends.{end_status, ends_call, with_ended, with_turn_ended};
+
+use fsa_types::{Body, Call, Reply, Request, Status, What};
+use volume_state::Volume;
+
+/// Which pending calls end.
+#[derive(Clone, Copy, Debug, PartialEq, Eq)]
+pub enum Ending {
+    /// Those that name a handle which is closed.
+    OfHandle {
+        /// The client, by its place in the setup.
+        client: u32,
+        /// The number of the client's call that opened the handle.
+        handle: u32,
+    },
+    /// The opens and waits of a client that leaves.
+    OfClient {
+        /// The client, by its place in the setup.
+        client: u32,
+    },
+}
+
+impl Ending {
+    // Whether the call is one of those that end.
+    fn ends(self, call: &Call) -> bool
+        ensures { result ≡ ends_call self call.now }
+    {
+        match self {
+            Ending::OfHandle { client, handle } => {
+                call.client == client && names(&call.what, handle)
+            }
+            Ending::OfClient { client } => call.client == client && is_open_or_wait(&call.what),
+        }
+    }
+
+    // How it ends.
+    fn status(self, what: &What) -> Status
+        ensures { result ≡ end_status self what.now }
+    {
+        match self {
+            Ending::OfHandle { .. } => closed_status(what),
+            Ending::OfClient { .. } => Status::Cancelled,
+        }
+    }
+}
+
+// The number of the handle that a request names.
+fn handle_named(request: &Request) -> Option<u32>
+    ensures { result ≡ handle_named request.now }
+{
+    match request {
+        Request::Create { .. }
+        | Request::SetQuota { .. }
+        | Request::QueryQuota { .. }
+        | Request::Cancel { .. } => None,
+        Request::Close { handle }
+        | Request::Read { handle, .. }
+        | Request::Write { handle, .. }
+        | Request::Flush { handle }
+        | Request::Lock { handle, .. }
+        | Request::Unlock { handle, .. }
+        | Request::QueryDir { handle, .. }
+        | Request::Notify { handle, .. }
+        | Request::QueryInfo { handle, .. }
+        | Request::SetBasic { handle, .. }
+        | Request::SetEnd { handle, .. }
+        | Request::SetDisposition { handle, .. }
+        | Request::Rename { handle, .. }
+        | Request::Link { handle, .. }
+        | Request::SetSecurity { handle, .. }
+        | Request::SetReparse { handle, .. }
+        | Request::GetReparse { handle, .. }
+        | Request::DeleteReparse { handle, .. }
+        | Request::Oplock { handle, .. }
+        | Request::Ack { handle, .. } => Some(*handle),
+    }
+}
+
+// Whether what is asked names this handle.
+fn names(what: &What, handle: u32) -> bool
+    ensures { result ≡ names what.now handle }
+{
+    let What::Ask(request) = what else {
+        return false;
+    };
+    match handle_named(request) {
+        None => false,
+        Some(named) => named == handle,
+    }
+}
+
+// How a pending call ends whose handle is closed.
+fn closed_status(what: &What) -> Status
+    ensures { result ≡ closed_status what.now }
+{
+    match what {
+        What::Ask(Request::Notify { .. }) => Status::NotifyCleanup,
+        What::Ask(Request::Oplock { .. } | Request::Ack { .. }) => Status::OplockHandleClosed,
+        _ => Status::Cancelled,
+    }
+}
+
+// An open, or a wait for another call.
+fn is_open_or_wait(what: &What) -> bool
+    ensures { result ≡ is_open_or_wait what.now }
+{
+    match what {
+        What::Ask(Request::Create { .. }) => true,
+        What::WaitFor(_) => true,
+        _ => false,
+    }
+}
+
+// The call that is pending under this turn ends, where it is one of those.
+fn end_turn(volume: &mut Volume, ending: Ending, turn: u64)
+    requires room { 1 ≤ volume.old.spare.ends }
+    ensures content { volume.new.content ≡ with_turn_ended ending turn volume.old.content }
+    ensures rest { volume.new.content ≡ record volume.old.content { pending = volume.new.content.pending; ended = volume.new.content.ended } }
+    ensures others { volume.new.spare ≡ record volume.old.spare { ends = volume.new.spare.ends; pending = volume.new.spare.pending; blockers = volume.new.spare.blockers } }
+    ensures count { volume.old.spare.ends + length volume.new.content.pending ≤ volume.new.spare.ends + length volume.old.content.pending }
+{
+    let Some(call) = volume.pending(turn) else {
+        return;
+    };
+    if !ending.ends(call) {
+        return;
+    }
+    let status = ending.status(&call.what);
+    let (client, number) = (call.client, call.number);
+    volume.end(
+        client,
+        number,
+        Reply {
+            status,
+            body: Body::Nothing,
+        },
+    );
+}
+
+/// The pending calls of this kind end, in order of turns. Turns count from 1, and there has to be room
+/// for as many ends as there are pending calls.
+pub fn end_calls(volume: &mut Volume, ending: Ending)
+    requires turns { All (λ entry. 0 < entry.0) volume.old.content.pending }
+    requires room { length volume.old.content.pending ≤ volume.old.spare.ends }
+    ensures content { volume.new.content ≡ with_ended ending volume.old.content }
+    ensures rest { volume.new.content ≡ record volume.old.content { pending = volume.new.content.pending; ended = volume.new.content.ended } }
+    ensures others { volume.new.spare ≡ record volume.old.spare { ends = volume.new.spare.ends; pending = volume.new.spare.pending; blockers = volume.new.spare.blockers } }
+    ensures count { volume.old.spare.ends + length volume.new.content.pending ≤ volume.new.spare.ends + length volume.old.content.pending }
+    ensures turns { All (λ entry. 0 < entry.0) volume.new.content.pending }
+{
+    let mut after = 0;
+    'turns: while let Some(turn) = volume.next_pending(after) {
+        end_turn(volume, ending, turn);
+        after = turn;
+    }
+}

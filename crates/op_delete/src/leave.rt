@@ -1,0 +1,186 @@
+//! A client that leaves.
+
+ghost use Rattle.std.specs.Prelude.{◌≡◌, ◌≤◌, ◌<◌, ◌+◌, ◌*◌, All, IsTrue, IfSome, OnOk, length};
+ghost use Rattle.std.specs.Option.{option_map_or};
+ghost use Rattle.fsa_types.specs.Rows.{lives, row_of, without_row};
+ghost use Rattle.fsa_model.specs.Close.{handles_of_client, try_leave, with_all_closed, with_client_gone, with_closed};
+ghost use Rattle.fsa_model.specs.Outcome.{ends_with};
+ghost use Rattle.op_delete.specs.Calls.{IsLeave, asked_leave};
+ghost use Rattle.op_delete.specs.Conditions.{MayLeave};
+ghost use Rattle.op_delete.specs.Room.{CountsOne, HasRoomForAll, HasSweepRoom, KeepsRoom, NotesTakeNoMore, all_dirs, all_units, close_dirs, close_units};
+ghost use Rattle.volume_state.specs.Tried.{Gives, HasHoldRoom};
+
+use crate::close::{bare, close};
+use crate::ends::{Ending, end_calls};
+use crate::room::{close_room, ends};
+use fsa_types::{Call, NoMemory, Status, What};
+use std::alloc::Global;
+use volume_state::{HandleRow, Need, Tried, Volume};
+
+// The room for the closes of a client's handles, up to the one of number `after`.
+#[derive(Clone, Copy, Debug, PartialEq, Eq)]
+struct Sum {
+    after: u32,
+    changes: u32,
+    units: u64,
+    dirs: u64,
+}
+
+// With the close of this handle; `None` where it is more than can be told.
+fn with_close(volume: &Volume, sum: Sum, handle: &HandleRow) -> Option<Sum>
+    ensures { IfSome result (λ more. CountsOne volume.now.content sum more handle.now) }
+{
+    let room = close_room(volume, handle)?;
+    Some(Sum {
+        after: handle.number,
+        changes: sum.changes.checked_add(2)?,
+        units: sum.units.checked_add(room.units)?,
+        dirs: sum.dirs.checked_add(room.dirs)?,
+    })
+}
+
+// With the close of the handle of this number.
+fn with_close_of(volume: &Volume, sum: Sum, id: u64) -> Option<Sum>
+    ensures { IfSome result (λ more. IfSome (row_of volume.now.content.handles id) (λ row. CountsOne volume.now.content sum more row)) }
+{
+    let row = volume.handle(id)?;
+    with_close(volume, sum, row)
+}
+
+// The room for the closes of all handles of a client; `None` where it is more than can be told.
+fn sum_of_closes(volume: &Volume, client: u32) -> Option<Sum>
+    requires numbers { All (λ entry. 0 < entry.1.number) volume.now.content.handles }
+    ensures changes { IfSome result (λ sum. sum.changes ≡ 2 * length (handles_of_client volume.now.content client)) }
+    ensures units { IfSome result (λ sum. sum.units ≡ all_units volume.now.content (handles_of_client volume.now.content client)) }
+    ensures dirs { IfSome result (λ sum. sum.dirs ≡ all_dirs volume.now.content (handles_of_client volume.now.content client)) }
+{
+    let mut sum = Sum {
+        after: 0,
+        changes: 0,
+        units: 0,
+        dirs: 0,
+    };
+    'handles: while let Some(id) = volume.next_handle_of(client, sum.after) {
+        sum = with_close_of(volume, sum, id)?;
+    }
+    Some(sum)
+}
+
+// What a leaving needs.
+fn need_to_leave(volume: &Volume, client: u32) -> Option<Need>
+    requires numbers { All (λ entry. 0 < entry.1.number) volume.now.content.handles }
+    ensures ends { IfSome result (λ need. need.ends ≡ length volume.now.content.pending) }
+    ensures changes { IfSome result (λ need. need.changes ≡ 2 * length (handles_of_client volume.now.content client)) }
+    ensures units { IfSome result (λ need. need.units ≡ all_units volume.now.content (handles_of_client volume.now.content client)) }
+    ensures dirs { IfSome result (λ need. need.dirs ≡ all_dirs volume.now.content (handles_of_client volume.now.content client)) }
+{
+    let ends = ends(volume)?;
+    let sum = sum_of_closes(volume, client)?;
+    Some(Need {
+        changes: sum.changes,
+        ends,
+        units: sum.units,
+        dirs: sum.dirs,
+        ..Need::nothing()
+    })
+}
+
+// Takes the room for a leaving: for the ends of all pending calls, and for two notes of each handle.
+fn room_to_leave(volume: &mut Volume, client: u32) -> Result<(), NoMemory>
+    requires numbers { All (λ entry. 0 < entry.1.number) volume.old.content.handles }
+    ensures content { volume.new.content ≡ volume.old.content }
+    ensures kept { volume.old.spare.ends ≤ volume.new.spare.ends }
+    ensures ends { OnOk result (length volume.new.content.pending ≤ volume.new.spare.ends) }
+    ensures room { OnOk result (HasRoomForAll volume.new.content volume.new.spare (handles_of_client volume.new.content client)) }
+{
+    let Some(need) = need_to_leave(volume, client) else {
+        return Err(NoMemory);
+    };
+    volume.reserve(&need)
+}
+
+// Closes the handle of this number, which there has to be.
+fn close_one(volume: &mut Volume, id: u64)
+    requires lives { IsTrue (lives volume.old.content.handles id) }
+    requires turns { All (λ entry. 0 < entry.0) volume.old.content.pending }
+    requires ends { length volume.old.content.pending ≤ volume.old.spare.ends }
+    requires room { IfSome (row_of volume.old.content.handles id) (λ row. HasSweepRoom volume.old.content volume.old.spare row) }
+    ensures content { volume.new.content ≡ option_map_or (λ row. with_closed volume.old.content id row) (row_of volume.old.content.handles id) volume.old.content }
+    ensures handles { volume.new.content.handles ≡ without_row volume.old.content.handles id }
+    ensures clients { volume.new.content.clients ≡ volume.old.content.clients }
+    ensures left { IfSome (row_of volume.old.content.handles id) (λ row. KeepsRoom volume.old.content row volume.old.spare volume.new.spare) }
+    ensures notes { NotesTakeNoMore volume.old.content volume.new.content }
+    ensures count { volume.old.spare.ends + length volume.new.content.pending ≤ volume.new.spare.ends + length volume.old.content.pending }
+    ensures turns { All (λ entry. 0 < entry.0) volume.new.content.pending }
+{
+    let Some(row) = volume.handle(id) else {
+        unreachable!()
+    };
+    let handle = bare(row);
+    close(volume, id, &handle);
+}
+
+// Closes a client's handles, by rising number.
+fn close_all(volume: &mut Volume, client: u32)
+    requires numbers { All (λ entry. 0 < entry.1.number) volume.old.content.handles }
+    requires turns { All (λ entry. 0 < entry.0) volume.old.content.pending }
+    requires ends { length volume.old.content.pending ≤ volume.old.spare.ends }
+    requires room { HasRoomForAll volume.old.content volume.old.spare (handles_of_client volume.old.content client) }
+    ensures content { volume.new.content ≡ with_all_closed (handles_of_client volume.old.content client) volume.old.content }
+    ensures clients { volume.new.content.clients ≡ volume.old.content.clients }
+    ensures count { volume.old.spare.ends + length volume.new.content.pending ≤ volume.new.spare.ends + length volume.old.content.pending }
+{
+    'handles: while let Some(id) = volume.next_handle_of(client, 0) {
+        close_one(volume, id);
+    }
+}
+
+// The client's opens and waits end, its handles are closed, and it has left.
+fn client_gone(volume: &mut Volume, client: u32)
+    requires client { client < length volume.old.content.clients }
+    requires numbers { All (λ entry. 0 < entry.1.number) volume.old.content.handles }
+    requires turns { All (λ entry. 0 < entry.0) volume.old.content.pending }
+    requires ends { length volume.old.content.pending ≤ volume.old.spare.ends }
+    requires room { HasRoomForAll volume.old.content volume.old.spare (handles_of_client volume.old.content client) }
+    ensures content { volume.new.content ≡ with_client_gone volume.old.content client }
+    ensures count { volume.old.spare.ends ≤ volume.new.spare.ends + length volume.old.content.pending }
+{
+    end_calls(volume, Ending::OfClient { client });
+    close_all(volume, client);
+    volume.leave(client);
+}
+
+// A client leaves, once there is room.
+#[tactic(auto, unfolding(fsa_model::specs::Close::try_leave))]
+fn leave(volume: &mut Volume, client: u32) -> Tried
+    requires may { MayLeave volume.old.content client }
+    ensures gives { Gives (try_leave volume.old.content client) volume.old.content volume.new.content result }
+    ensures room { HasHoldRoom result volume.new.spare }
+    ensures ends { volume.old.spare.ends ≤ volume.new.spare.ends + length volume.old.content.pending }
+{
+    if let Err(NoMemory) = room_to_leave(volume, client) {
+        return Tried::NoMemory;
+    }
+    client_gone(volume, client);
+    Tried::ends(Status::Success)
+}
+
+/// One try of a leaving: the client's pending opens and waits end, and its handles are closed, which is
+/// [MS-FSA] 'Server Requests Closing an Open' for each. The call has to be a `Leave`, its client one of
+/// the volume's, and turns and numbers count from 1.
+///
+/// `Done` with the reply, as the definition says; never `Hold` or `Stay`. Of the room for ends it uses no
+/// more than one for each call that was pending. `NoMemory` changes nothing. A leaving needs neither
+/// `_alloc` nor `_turn`.
+pub fn try_leave(_alloc: Global, volume: &mut Volume, call: &Call, _turn: u64) -> Tried
+    requires verb { IsLeave call.now.what }
+    requires may { MayLeave volume.old.content call.now.client }
+    ensures gives { Gives (asked_leave volume.old.content call.now.client call.now.what) volume.old.content volume.new.content result }
+    ensures room { HasHoldRoom result volume.new.spare }
+    ensures ends { volume.old.spare.ends ≤ volume.new.spare.ends + length volume.old.content.pending }
+{
+    let What::Leave = &call.what else {
+        unreachable!()
+    };
+    leave(volume, call.client)
+}

@@ -1,0 +1,77 @@
+//! What DELETE_ON_CLOSE marks for deletion.
+
+ghost use Rattle.std.specs.Prelude.{◌≡◌, ◌≤◌, ◌==◌, not, true, false, length, IfSome, if◌then◌else◌};
+ghost use Rattle.fsa_types.specs.Rows.{row_of};
+ghost use Rattle.fsa_model.specs.Close.{is_link_of_parent, named_stream, with_mark_on_close};
+ghost use Rattle.fsa_model.specs.Edits.{with_link_marked};
+ghost use Rattle.fsa_model.specs.Lookups.{has_child};
+ghost use Rattle.fsa_model.specs.Write.{is_named_stream};
+ghost use Rattle.op_delete.specs.Room.{NotesTakeNoMore};
+
+use volume_state::{HandleRow, Volume};
+
+// Whether a stream is a named one.
+fn is_named_stream(volume: &Volume, stream: u64) -> bool
+    ensures { result ≡ is_named_stream volume.now.content stream }
+{
+    match volume.stream(stream) {
+        None => false,
+        Some(info) => info.name.units().len() != 0,
+    }
+}
+
+// The stream of a handle, where it is a named one.
+fn named_stream(volume: &Volume, handle: &HandleRow) -> Option<u64>
+    ensures { result ≡ named_stream volume.now.content handle.now }
+{
+    match handle.stream {
+        None => None,
+        Some(stream) => {
+            if is_named_stream(volume, stream) {
+                Some(stream)
+            } else {
+                None
+            }
+        }
+    }
+}
+
+// Whether the link is that of a directory with a link in it, marked or not.
+fn is_link_of_parent(volume: &Volume, link: u64) -> bool
+    ensures of_parent { result ≡ is_link_of_parent volume.now.content link }
+    ensures empty { result ≡ false → IfSome (row_of volume.now.content.links link) (λ row. has_child volume.now.content.links row.file ≡ false) }
+{
+    match volume.link(link) {
+        None => false,
+        Some(row) => volume.has_child(row.file),
+    }
+}
+
+// Marks a link, unless it is that of a directory with a link in it.
+fn mark_empty(volume: &mut Volume, link: u64)
+    ensures content { volume.new.content ≡ (if is_link_of_parent volume.old.content link then volume.old.content else with_link_marked volume.old.content link true) }
+    ensures rest { volume.new.content ≡ record volume.old.content { links = volume.new.content.links } }
+    ensures room { volume.new.spare ≡ volume.old.spare }
+    ensures notes { NotesTakeNoMore volume.old.content volume.new.content }
+{
+    if !is_link_of_parent(volume, link) {
+        volume.mark_link(link, true);
+    }
+}
+
+/// Marks what a handle that was opened with DELETE_ON_CLOSE is to delete: its stream, where it is a named
+/// one, or else its link, unless that is a directory's with a link in it.
+pub fn mark_on_close(volume: &mut Volume, handle: &HandleRow)
+    ensures content { volume.new.content ≡ with_mark_on_close volume.old.content handle.now }
+    ensures rest { volume.new.content ≡ record volume.old.content { links = volume.new.content.links; streams = volume.new.content.streams } }
+    ensures room { volume.new.spare ≡ volume.old.spare }
+    ensures notes { NotesTakeNoMore volume.old.content volume.new.content }
+{
+    if !handle.delete_on_close {
+        return;
+    }
+    match named_stream(volume, handle) {
+        Some(stream) => volume.mark_stream(stream, true),
+        None => mark_empty(volume, handle.link),
+    }
+}
