@@ -1,0 +1,144 @@
+//! What setting the owner and the access list changes.
+
+ghost use Rattle.std.specs.Prelude.{◌≡◌, ◌≤◌, true, None, option_map};
+ghost use Rattle.fsa_model.specs.Open.{creation_time, access_time, attributes_of};
+ghost use Rattle.fsa_model.specs.Security.{asks_something, with_change_time, with_dacl_asked, with_owner_asked, with_security, with_security_noted, write_time};
+ghost use Rattle.op_info.specs.Conditions.{HasNoteRoom, list_put};
+
+use crate::asked::asks_something;
+use fsa_types::{Dacl, DaclChange};
+use volume_state::Volume;
+
+// FILE_ACTION_MODIFIED, and FILE_NOTIFY_CHANGE_SECURITY.
+const MODIFIED: u32 = 3;
+
+const SECURITY: u32 = 0x100;
+
+// When a file was made.
+fn creation_time(volume: &Volume, file: u64) -> u64
+    ensures { result ≡ creation_time volume.now.content file }
+{
+    match volume.file(file) {
+        None => 0,
+        Some(row) => row.creation,
+    }
+}
+
+// When a file was last read.
+fn access_time(volume: &Volume, file: u64) -> u64
+    ensures { result ≡ access_time volume.now.content file }
+{
+    match volume.file(file) {
+        None => 0,
+        Some(row) => row.access,
+    }
+}
+
+// When a file was last written.
+fn write_time(volume: &Volume, file: u64) -> u64
+    ensures { result ≡ write_time volume.now.content file }
+{
+    match volume.file(file) {
+        None => 0,
+        Some(row) => row.write,
+    }
+}
+
+// The attributes of a file.
+fn attributes_of(volume: &Volume, file: u64) -> u32
+    ensures { result ≡ attributes_of volume.now.content file }
+{
+    match volume.file(file) {
+        None => 0,
+        Some(row) => row.attributes,
+    }
+}
+
+// The owner that is asked for is set.
+fn set_owner_asked(volume: &mut Volume, file: u64, owner: Option<u32>)
+    requires owners { 1 ≤ volume.old.spare.owners }
+    ensures content { volume.new.content ≡ with_owner_asked volume.old.content file owner }
+    ensures rest { volume.new.content ≡ record volume.old.content { files = volume.new.content.files } }
+    ensures others { volume.new.spare ≡ record volume.old.spare { owners = volume.new.spare.owners } }
+{
+    if let Some(sid) = owner {
+        volume.set_owner(file, sid);
+    }
+}
+
+// The access list is put, taken away or kept; `list` is the one that is put.
+fn set_dacl_asked(volume: &mut Volume, file: u64, dacl: &DaclChange, list: Option<Dacl>)
+    requires list { option_map (λ l. l.items) list ≡ list_put dacl.now }
+    ensures content { volume.new.content ≡ with_dacl_asked volume.old.content file dacl.now }
+    ensures rest { volume.new.content ≡ record volume.old.content { files = volume.new.content.files } }
+    ensures spare { volume.new.spare ≡ volume.old.spare }
+{
+    match dacl {
+        DaclChange::Keep => {}
+        DaclChange::Remove | DaclChange::Put(_) => volume.set_dacl(file, list),
+    }
+}
+
+// The change time of a file is this moment.
+fn set_change_time(volume: &mut Volume, file: u64)
+    ensures content { volume.new.content ≡ with_change_time volume.old.content file }
+    ensures rest { volume.new.content ≡ record volume.old.content { files = volume.new.content.files } }
+    ensures spare { volume.new.spare ≡ volume.old.spare }
+{
+    let creation = creation_time(volume, file);
+    let access = access_time(volume, file);
+    let write = write_time(volume, file);
+    let attributes = attributes_of(volume, file);
+    let now = volume.clock();
+    volume.set_basic(file, creation, access, write, now, attributes);
+}
+
+// The change is noted, where something is asked.
+fn note_security(volume: &mut Volume, link: u64, asks: bool)
+    requires room { HasNoteRoom volume.old.content volume.old.spare link }
+    ensures content { volume.new.content ≡ with_security_noted volume.old.content link asks }
+    ensures ends { volume.old.spare.ends ≤ volume.new.spare.ends }
+{
+    if asks {
+        volume.note(link, MODIFIED, SECURITY, None);
+    }
+}
+
+// The owner, the list and the change time of a file are set.
+fn set_file(
+    volume: &mut Volume,
+    file: u64,
+    owner: Option<u32>,
+    dacl: &DaclChange,
+    list: Option<Dacl>,
+)
+    requires owners { 1 ≤ volume.old.spare.owners }
+    requires list { option_map (λ l. l.items) list ≡ list_put dacl.now }
+    ensures content { volume.new.content ≡ with_change_time (with_dacl_asked (with_owner_asked volume.old.content file owner) file dacl.now) file }
+    ensures rest { volume.new.content ≡ record volume.old.content { files = volume.new.content.files } }
+    ensures others { volume.new.spare ≡ record volume.old.spare { owners = volume.new.spare.owners } }
+{
+    set_owner_asked(volume, file, owner);
+    set_dacl_asked(volume, file, dacl, list);
+    set_change_time(volume, file);
+}
+
+/// The owner and the access list of the link's file are set, with its change time, and noted where
+/// something is asked. `list` is the one that is put. There has to be room.
+pub fn set_security(
+    volume: &mut Volume,
+    link: u64,
+    file: u64,
+    owner: Option<u32>,
+    dacl: &DaclChange,
+    list: Option<Dacl>,
+)
+    requires owners { 1 ≤ volume.old.spare.owners }
+    requires room { HasNoteRoom volume.old.content volume.old.spare link }
+    requires list { option_map (λ l. l.items) list ≡ list_put dacl.now }
+    ensures content { volume.new.content ≡ with_security volume.old.content link file owner dacl.now }
+    ensures ends { volume.old.spare.ends ≤ volume.new.spare.ends }
+{
+    set_file(volume, file, owner, dacl, list);
+    note_security(volume, link, asks_something(owner, dacl));
+}

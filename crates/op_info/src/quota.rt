@@ -1,0 +1,39 @@
+//! What a new owner is charged, against his limit.
+
+ghost use Rattle.std.specs.Prelude.{◌≡◌, ◌+◌, ◌&&◌, ◌==◌, not, nat_lt};
+ghost use Rattle.fsa_model.specs.Charge.{charge, limit};
+ghost use Rattle.fsa_model.specs.Security.{charge_of_file, owner_of, passes_limit};
+
+use volume_state::Volume;
+
+// The owner of a file; 0 where there is no such file.
+fn owner_of(volume: &Volume, file: u64) -> u32
+    ensures { result ≡ owner_of volume.now.content file }
+{
+    match volume.file(file) {
+        None => 0,
+        Some(row) => row.owner,
+    }
+}
+
+// Whether an owner's charge, with what this file takes beside, passes his limit. No limit reaches 2^64.
+fn passes_with(volume: &Volume, sid: u32, file: u64) -> bool
+    ensures { result ≡ nat_lt (limit volume.now.content sid) (charge volume.now.content sid + charge_of_file volume.now.content file) }
+{
+    let limit = volume.limit(sid);
+    match volume.charge(sid).checked_add(volume.charge_of_file(file)) {
+        None => true,
+        Some(total) => limit < total,
+    }
+}
+
+/// Whether an owner other than the present one is asked for, whose charge with this file's would pass
+/// his limit.
+pub fn passes_limit(volume: &Volume, file: u64, owner: Option<u32>) -> bool
+    ensures { result ≡ passes_limit volume.now.content file owner }
+{
+    match owner {
+        None => false,
+        Some(sid) => sid != owner_of(volume, file) && passes_with(volume, sid, file),
+    }
+}

@@ -1,0 +1,26 @@
+//! The room that is taken before anything changes.
+
+ghost use Rattle.std.specs.Prelude.{◌≡◌, ◌≤◌, OnOk};
+ghost use Rattle.op_info.specs.Conditions.{HasNoteRoom};
+
+use fsa_types::NoMemory;
+use volume_state::{Need, Volume};
+
+/// Takes the room for an owner, and for a note of the link's file. `NoMemory` where there is none.
+pub fn room_to_set(volume: &mut Volume, link: u64) -> Result<(), NoMemory>
+    ensures content { volume.new.content ≡ volume.old.content }
+    ensures ends { volume.old.spare.ends ≤ volume.new.spare.ends }
+    ensures owners { OnOk result (1 ≤ volume.new.spare.owners) }
+    ensures note { OnOk result (HasNoteRoom volume.new.content volume.new.spare link) }
+{
+    let Some(note) = volume.note_room(link, None) else {
+        return Err(NoMemory);
+    };
+    volume.reserve(&Need {
+        owners: 1,
+        changes: 1,
+        units: note.units,
+        dirs: note.dirs,
+        ..Need::nothing()
+    })
+}
