@@ -1,3 +1,5 @@
+mod AceLemmas
+mod DaclLemmas
 mod LeastLemmas
 mod LineLemmas
 mod NameLemmas

@@ -1,17 +1,17 @@
 -- Lines that are written are read again.
-use Rattle.std.proofs.Common.{◌≡◌, ◌∙◌, sym, ap, ℕ, zero, suc, ◌+◌, ◌≤◌, Bool, true, false, ◌&&◌, List, [], ◌∷◌, ◌++◌, length, take, drop, inl, inr, refl, arith, nat_eq}
+use Rattle.std.proofs.Common.{◌≡◌, ◌∙◌, sym, ap, ℕ, zero, suc, ◌+◌, ◌≤◌, true, false, ◌&&◌, List, [], ◌∷◌, ◌++◌, length, take, drop, inl, inr, refl, arith, nat_eq}
 use Rattle.std.specs.Prelude.{Ok, Err, nat_le, ◌==◌}
 use Rattle.std.specs.List.{list_all, starts_with, position_or_len}
 use Rattle.std.proofs.lemmas.Bool.{cases_Bool, eqb-true, ne_eqb}
 use Rattle.std.proofs.lemmas.Bool.Decides.{Decides-eqb}
-use Rattle.std.proofs.lemmas.Slice.Eq.{slice_eq-Decides, starts_is}
+use Rattle.std.proofs.lemmas.Slice.Eq.{starts_is}
 use Rattle.fsa_types.specs.declared.request.What.{What}
 use Rattle.fsa_model.specs.Fault.{BadSyntax}
 use Rattle.fsa_model.specs.Words.{same, word_of, field_at, number_at, is_name, is_name_byte}
 use Rattle.fsa_model.specs.Requests.{most_id}
 use Rattle.fsa_model.specs.Lines.{Line, Version, DefaultTable, PairTable, Pair, ClientLine, RequestLine, pair_at, sids_at, client_at, request_of, line_of}
 use Rattle.fsa_model.specs.Spelling.{number_text, mask_text, verb_text, fields_text, is_built, sids_text, line_text, is_line}
-use Rattle.script_read.proofs.SpellLemmas.{both, at_most, NoSpace, EndsWord, word_of-again, after_word-again, field_at-again, number_at-again, mask_at-again, mask_at-last}
+use Rattle.script_read.proofs.SpellLemmas.{both, at_most, same-eq, unless, NoSpace, EndsWord, word_of-again, after_word-again, field_at-again, number_at-again, mask_at-again, mask_at-last}
 use Rattle.script_read.proofs.VerbLemmas.{what_of-again, NoSpace-verb, EndsWord-fields}
 
 -- ---- names
@@ -57,19 +57,12 @@ request_of-again name number what fits small built =
     ) refl
 
 -- a line of another kind is no request
-same-eq : (bytes text : List ℕ) → same bytes text ≡ true → bytes ≡ text
-same-eq bytes text is = (slice_eq-Decides Decides-eqb bytes text (same bytes text) refl).0 is
-
 starts-eq : (bytes front : List ℕ) → starts_with nat_eq bytes front ≡ true → bytes ≡ front ++ drop (length front) bytes
 starts-eq bytes front is = (starts_is Decides-eqb bytes front (starts_with nat_eq bytes front) refl).0 is
 
 apart : (bytes other : List ℕ) (line : Line) → request_of bytes ≡ Ok line → request_of other ≡ Err BadSyntax → bytes ≡ other → false ≡ true
 apart bytes other line reads fails is =
     let both_ways : Ok line ≡ Err BadSyntax = sym reads ∙ ap request_of is ∙ fails in cc
-
-unless : (test : Bool) → (test ≡ true → false ≡ true) → test ≡ false
-unless true never = sym (never refl)
-unless false never = refl
 
 version_fails : request_of (102 ∷ 115 ∷ 97 ∷ 32 ∷ 49 ∷ []) ≡ Err BadSyntax
 unfolding request_of number_at field_at

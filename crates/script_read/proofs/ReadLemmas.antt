@@ -27,11 +27,11 @@ position_or_len-from_none p xs e =
 
 -- ---- items that were read, before those that are read further on
 
-abbrev pub ahead : List ℕ → Result (List ℕ) Kind → Result (List ℕ) Kind
+abbrev pub ahead : {A : Type 0} → List A → Result (List A) Kind → Result (List A) Kind
 ahead front (Ok items) = Ok (front ++ items)
 ahead front (Err kind) = Err kind
 
-pub ahead-none : (read : Result (List ℕ) Kind) → ahead [] read ≡ read
+pub ahead-none : {A : Type 0} (read : Result (List A) Kind) → ahead [] read ≡ read
 ahead-none (Ok items) = refl
 ahead-none (Err kind) = refl
 
@@ -45,11 +45,11 @@ pub ahead-more : (front : List ℕ) (item : ℕ) (read rest all : Result (List �
 ahead-more front item read rest all step so_far = ahead-push front item rest ∙ ap (ahead front) (sym step) ∙ so_far
 
 -- nothing is left to read
-pub ahead-end : (front : List ℕ) (all : Result (List ℕ) Kind) → ahead front (Ok []) ≡ all → all ≡ Ok front
+pub ahead-end : {A : Type 0} (front : List A) (all : Result (List A) Kind) → ahead front (Ok []) ≡ all → all ≡ Ok front
 ahead-end front all so_far = sym so_far ∙ ap Ok (append-nil front)
 
 -- the next item is at fault
-pub ahead-fault : (front : List ℕ) (kind : Kind) (read all : Result (List ℕ) Kind) → read ≡ Err kind → ahead front read ≡ all → all ≡ Err kind
+pub ahead-fault : {A : Type 0} (front : List A) (kind : Kind) (read all : Result (List A) Kind) → read ≡ Err kind → ahead front read ≡ all → all ≡ Err kind
 ahead-fault front kind read all fault so_far = sym so_far ∙ ap (ahead front) fault
 
 -- ---- the four digits of an escape

@@ -1,17 +1,18 @@
 -- What is written is read again: numbers, masks, texts and strings of bytes.
 use Rattle.std.proofs.Common.{◌≡◌, ◌∙◌, sym, ap, ℕ, zero, suc, ◌+◌, ◌*◌, ◌/◌, ◌%◌, ◌<◌, ◌≤◌, Bool, true, false, ◌&&◌, List, [], ◌∷◌, ◌++◌, Option, Some, None, length, map, take, drop, get_or, inl, inr, refl, arith, if◌then◌else◌}
 use Rattle.std.specs.Prelude.{Ok, nat_le, nat_lt, ◌==◌}
-use Rattle.std.specs.List.{position_or_len}
+use Rattle.std.specs.List.{before_first, position_or_len}
 use Rattle.std.specs.Int.Digits.{digits_of}
 use Rattle.std.proofs.lemmas.Int.Digits.{digits_of_step, first_digits_of}
 use Rattle.std.proofs.lemmas.Nat.{div-add-mod'}
 use Rattle.std.proofs.Math.Nat.{div-lt_self}
 use Rattle.std.proofs.lemmas.List.{map-append, append-nil}
-use Rattle.std.proofs.lemmas.Bool.{cases_eq, ne_eqb}
-use Rattle.std.proofs.lemmas.Bool.Decides.{nat_tests}
+use Rattle.std.proofs.lemmas.Bool.{cases_eq, eq-eqb, ne_eqb}
+use Rattle.std.proofs.lemmas.Bool.Decides.{Decides-eqb, nat_tests}
+use Rattle.std.proofs.lemmas.Slice.Eq.{slice_eq-Decides}
 use Rattle.std.proofs.Math.Seq.{take-append_seam, drop-append_seam}
 use Rattle.fsa_model.specs.Numbers.{digit_of, glyph, spelled, number_after, number_of}
-use Rattle.fsa_model.specs.Words.{word_of, after_word, field_at, number_at, mask_of, mask_at}
+use Rattle.fsa_model.specs.Words.{same, word_of, after_word, field_at, number_at, mask_of, mask_at}
 use Rattle.fsa_model.specs.Spelling.{number_text, mask_text}
 
 -- ---- tests
@@ -23,6 +24,14 @@ both false b e = cc
 
 pub at_most : (a b : ℕ) → nat_le a b ≡ true → a ≤ b
 at_most a b e = grind (arith, nat_tests)
+
+-- bytes that are told to be a text are it
+pub same-eq : (bytes text : List ℕ) → same bytes text ≡ true → bytes ≡ text
+same-eq bytes text is = (slice_eq-Decides Decides-eqb bytes text (same bytes text) refl).0 is
+
+pub unless : (test : Bool) → (test ≡ true → false ≡ true) → test ≡ false
+unless true never = sym (never refl)
+unless false never = refl
 
 if_some : (test : Bool) (o : Option ℕ) (m : ℕ) → (if test then o else None) ≡ Some m → (test ≡ true) × (o ≡ Some m)
 if_some true o m e = (refl, e)
@@ -87,35 +96,48 @@ number_of-spelled base most n two small below =
 
 -- ---- words
 
+-- no such byte among these
+abbrev pub Lacks : ℕ → List ℕ → Type 0
+Lacks mark [] = Unit {0}
+Lacks mark (byte ∷ bytes) = ((byte == mark) ≡ false) × Lacks mark bytes
+
+-- nothing, or such a byte first
+abbrev pub EndsAt : ℕ → List ℕ → Type 0
+EndsAt mark [] = Unit {0}
+EndsAt mark (byte ∷ bytes) = byte ≡ mark
+
 -- no space among these bytes
 abbrev pub NoSpace : List ℕ → Type 0
-NoSpace [] = Unit {0}
-NoSpace (byte ∷ bytes) = ((byte == 32) ≡ false) × NoSpace bytes
+NoSpace bytes = Lacks 32 bytes
 
 -- a word ends before these bytes
 abbrev pub EndsWord : List ℕ → Type 0
-EndsWord [] = Unit {0}
-EndsWord (byte ∷ bytes) = byte ≡ 32
+EndsWord bytes = EndsAt 32 bytes
 
-pub NoSpace-append : (xs ys : List ℕ) → NoSpace xs → NoSpace ys → NoSpace (xs ++ ys)
-NoSpace-append [] ys no_x no_y = no_y
-NoSpace-append (x ∷ xs) ys no_x no_y = (no_x.0, NoSpace-append xs ys no_x.1 no_y)
+pub Lacks-append : (mark : ℕ) (xs ys : List ℕ) → Lacks mark xs → Lacks mark ys → Lacks mark (xs ++ ys)
+Lacks-append mark [] ys no_x no_y = no_y
+Lacks-append mark (x ∷ xs) ys no_x no_y = (no_x.0, Lacks-append mark xs ys no_x.1 no_y)
 
-abbrev is_space : ℕ → Bool
-is_space byte = byte == 32
-
-word_end : (word rest : List ℕ) → NoSpace word → EndsWord rest → position_or_len is_space (word ++ rest) ≡ length word
-word_end [] [] none ends = refl
-word_end [] (byte ∷ rest) none ends = rw ends refl
-word_end (byte ∷ word) rest none ends =
-    let later : position_or_len is_space (word ++ rest) ≡ length word = word_end word rest none.1 ends in
+pub first_at : (mark : ℕ) (word rest : List ℕ) → Lacks mark word → EndsAt mark rest → position_or_len (λ byte. byte == mark) (word ++ rest) ≡ length word
+first_at mark [] [] none ends = refl
+first_at mark [] (byte ∷ rest) none ends = rw (eq-eqb byte mark ends) refl
+first_at mark (byte ∷ word) rest none ends =
+    let later : position_or_len (λ b. b == mark) (word ++ rest) ≡ length word = first_at mark word rest none.1 ends in
     rw (none.0, later) (omega arith)
 
+-- what stands before the first such byte, and from it on
+pub before-again : (mark : ℕ) (word rest : List ℕ) → Lacks mark word → EndsAt mark rest → before_first (λ byte. byte == mark) (word ++ rest) ≡ word
+before-again mark word rest none ends = ap (λ n. take n (word ++ rest)) (first_at mark word rest none ends) ∙ take-append_seam word rest
+
+pub from-again : (mark : ℕ) (word rest : List ℕ) → Lacks mark word → EndsAt mark rest
+    → drop (position_or_len (λ byte. byte == mark) (word ++ rest)) (word ++ rest) ≡ rest
+from-again mark word rest none ends = ap (λ n. drop n (word ++ rest)) (first_at mark word rest none ends) ∙ drop-append_seam word rest
+
 pub word_of-again : (word rest : List ℕ) → NoSpace word → EndsWord rest → word_of (word ++ rest) ≡ word
-word_of-again word rest none ends = ap (λ n. take n (word ++ rest)) (word_end word rest none ends) ∙ take-append_seam word rest
+word_of-again word rest none ends = before-again 32 word rest none ends
 
 pub after_word-again : (word rest : List ℕ) → NoSpace word → EndsWord rest → after_word (word ++ rest) ≡ rest
-after_word-again word rest none ends = ap (λ n. drop n (word ++ rest)) (word_end word rest none ends) ∙ drop-append_seam word rest
+after_word-again word rest none ends = from-again 32 word rest none ends
 
 pub field_at-again : (word rest : List ℕ) → NoSpace word → EndsWord rest → field_at (32 ∷ (word ++ rest)) ≡ Ok (word, rest)
 unfolding field_at
@@ -126,22 +148,29 @@ field_at-again word rest none ends =
 
 -- ---- numbers and masks as fields
 
-NoSpace-glyphs : (digits : List ℕ) → NoSpace (map glyph digits)
-NoSpace-glyphs [] = tt
-NoSpace-glyphs (digit ∷ digits) = ((let no : (glyph digit == 32) ≡ false = grind (arith, nat_tests) in no), NoSpace-glyphs digits)
+Lacks-glyphs : (mark : ℕ) (digits : List ℕ) → ((digit : ℕ) → (glyph digit == mark) ≡ false) → Lacks mark (map glyph digits)
+Lacks-glyphs mark [] misses = tt
+Lacks-glyphs mark (digit ∷ digits) misses = (misses digit, Lacks-glyphs mark digits misses)
 
-NoSpace-spelled : (base n : ℕ) → NoSpace (spelled base n)
-NoSpace-spelled base n = elim (cases_eq n 0) [
-  | inl none ↦ rw none (refl, tt)
-  | inr some ↦ rw (ne_eqb n 0 some) (NoSpace-glyphs (digits_of base n))
+-- a number has no byte that is no digit's
+pub Lacks-spelled : (mark base n : ℕ) → ((digit : ℕ) → (glyph digit == mark) ≡ false) → Lacks mark (spelled base n)
+Lacks-spelled mark base n misses = elim (cases_eq n 0) [
+  | inl none ↦ rw none (misses 0, tt)
+  | inr some ↦ rw (ne_eqb n 0 some) (Lacks-glyphs mark (digits_of base n) misses)
 ]
+
+no_space : (digit : ℕ) → (glyph digit == 32) ≡ false
+no_space digit = grind (arith, nat_tests)
+
+pub NoSpace-spelled : (base n : ℕ) → NoSpace (spelled base n)
+NoSpace-spelled base n = Lacks-spelled 32 base n no_space
 
 pub number_at-again : (most n : ℕ) (rest : List ℕ) → n ≤ most → EndsWord rest → number_at most (number_text n ++ rest) ≡ Ok (n, rest)
 unfolding number_at
 number_at-again most n rest below ends =
     rw (field_at-again (spelled 10 n) rest (NoSpace-spelled 10 n) ends, number_of-spelled 10 most n (omega arith) (omega arith) below) refl
 
-mask_of-again : (n : ℕ) → n ≤ 4294967295 → mask_of (48 ∷ 120 ∷ spelled 16 n) ≡ Ok n
+pub mask_of-again : (n : ℕ) → n ≤ 4294967295 → mask_of (48 ∷ 120 ∷ spelled 16 n) ≡ Ok n
 unfolding mask_of
 mask_of-again n below = rw (number_of-spelled 16 4294967295 n (omega arith) (omega arith) below) refl
 

@@ -9,7 +9,7 @@ use Rattle.fsa_model.specs.Fault.{BadSyntax}
 use Rattle.fsa_model.specs.Numbers.{glyph}
 use Rattle.fsa_model.specs.Words.{onto, is_plain, upper_digit_of, units_of, escaped_units, text_of, text_at, bytes_of, string_of, string_at}
 use Rattle.fsa_model.specs.Spelling.{upper_glyph, unit_text, text_text, byte_text, string_text}
-use Rattle.script_read.proofs.SpellLemmas.{both, at_most, digit_of-glyph, NoSpace, EndsWord, NoSpace-append, field_at-again}
+use Rattle.script_read.proofs.SpellLemmas.{both, at_most, digit_of-glyph, NoSpace, EndsWord, Lacks-append, field_at-again}
 
 upper_digit_of-glyph : (digit : ℕ) → digit < 16 → upper_digit_of (upper_glyph digit) ≡ digit
 upper_digit_of-glyph digit small = grind (arith, nat_tests)
@@ -68,7 +68,7 @@ units_of-again (unit ∷ units) small =
 
 NoSpace-units : (units : List ℕ) → NoSpace (flat_map unit_text units)
 NoSpace-units [] = tt
-NoSpace-units (unit ∷ units) = NoSpace-append (unit_text unit) (flat_map unit_text units) (NoSpace-unit unit) (NoSpace-units units)
+NoSpace-units (unit ∷ units) = Lacks-append 32 (unit_text unit) (flat_map unit_text units) (NoSpace-unit unit) (NoSpace-units units)
 
 text_of-again : (units : List ℕ) → list_all (λ unit. nat_le unit 65535) units ≡ true → text_of (61 ∷ flat_map unit_text units) ≡ Ok units
 unfolding text_of

@@ -1,16 +1,19 @@
 -- Verbs and their fields that are written are read again.
-use Rattle.std.proofs.Common.{◌≡◌, ℕ, ◌≤◌, true, ◌&&◌, List, [], ◌∷◌, ◌++◌, Some, length, refl}
+use Rattle.std.proofs.Common.{◌≡◌, ℕ, ◌≤◌, true, ◌&&◌, List, [], ◌∷◌, ◌++◌, Option, Some, length, refl}
 use Rattle.std.specs.Prelude.{Ok, nat_le}
 use Rattle.std.specs.List.{list_all}
+use Rattle.std.specs.Option.{option_map_or}
+use Rattle.fsa_types.specs.declared.request.DaclChange.{DaclChange}
 use Rattle.fsa_types.specs.declared.request.What.{What}
 use Rattle.fsa_types.specs.declared.request.What.TheVariants.{Ask, Tick}
-use Rattle.fsa_types.specs.declared.request.Request.TheVariants.{Create, Close, Read, Write}
+use Rattle.fsa_types.specs.declared.request.Request.TheVariants.{Create, Close, Read, Write, SetSecurity}
 use Rattle.fsa_types.specs.declared.request.Disposition.{Disposition}
 use Rattle.fsa_types.specs.declared.request.Disposition.TheVariants.{Supersede, OpenExisting, CreateNew, OpenIf, Overwrite, OverwriteIf}
-use Rattle.fsa_model.specs.Requests.{most_id, most_key, most_place, is_built_create, disposition_at, create_at, close_at, read_at, write_at, tick_at, what_of}
-use Rattle.fsa_model.specs.Spelling.{number_text, mask_text, string_text, disposition_text, verb_text, fields_text, is_built}
+use Rattle.fsa_model.specs.Requests.{most_id, most_key, most_place, is_built_create, disposition_at, create_at, close_at, read_at, write_at, tick_at, set_security_at, what_of}
+use Rattle.fsa_model.specs.Spelling.{number_text, mask_text, string_text, disposition_text, owner_text, dacl_text, verb_text, fields_text, is_dacl, is_built}
 use Rattle.script_read.proofs.SpellLemmas.{both, at_most, NoSpace, EndsWord, field_at-again, number_at-again, number_at-last, mask_at-again}
 use Rattle.script_read.proofs.TextLemmas.{text_at-again, string_at-last}
+use Rattle.script_read.proofs.DaclLemmas.{owner_at-again, EndsWord-owner, dacl_at-last, EndsWord-dacl}
 
 disposition_at-again : (disposition : Disposition) (rest : List ℕ) → EndsWord rest
     → disposition_at (disposition_text disposition ++ rest) ≡ Ok (disposition, rest)
@@ -92,6 +95,16 @@ tick_at-again : (ticks : ℕ) → ticks ≤ most_id → tick_at (number_text tic
 unfolding tick_at
 tick_at-again ticks small = rw (number_at-last 4294967295 ticks small) refl
 
+set_security_at-again : (handle : ℕ) (owner : Option ℕ) (dacl : DaclChange) → handle ≤ most_id → option_map_or (λ sid. nat_le sid most_id) owner true ≡ true
+    → is_dacl dacl ≡ true → set_security_at (number_text handle ++ (owner_text owner ++ dacl_text dacl)) ≡ Ok (Ask (SetSecurity handle owner dacl))
+unfolding set_security_at
+set_security_at-again handle owner dacl small known fits =
+    rw (
+      number_at-again 4294967295 handle (owner_text owner ++ dacl_text dacl) small (EndsWord-owner owner (dacl_text dacl)),
+      owner_at-again owner (dacl_text dacl) known (EndsWord-dacl dacl),
+      dacl_at-last dacl fits,
+    ) refl
+
 pub what_of-again : (what : What) → is_built what ≡ true → what_of (verb_text what) (fields_text what) ≡ Ok what
 unfolding what_of
 what_of-again (Ask (Create path wanted share disposition options attributes key)) built = create_at-again path wanted share disposition options attributes key built
@@ -106,6 +119,11 @@ what_of-again (Ask (Write handle (Some place) bytes)) built =
     let middle = both (nat_le handle most_id && nat_le place most_place) are_bytes outer.0 in
     let inner = both (nat_le handle most_id) (nat_le place most_place) middle.0 in
     write_at-again handle place bytes (at_most handle most_id inner.0) (at_most place most_place inner.1) middle.1 (at_most (length bytes) 16384 outer.1)
+what_of-again (Ask (SetSecurity handle owner dacl)) built =
+    let known = option_map_or (λ sid. nat_le sid most_id) owner true in
+    let outer = both (nat_le handle most_id && known) (is_dacl dacl) built in
+    let inner = both (nat_le handle most_id) known outer.0 in
+    set_security_at-again handle owner dacl (at_most handle most_id inner.0) inner.1 outer.1
 what_of-again (Tick ticks) built = tick_at-again ticks (at_most ticks most_id built)
 what_of-again _ built = cc
 
@@ -114,6 +132,7 @@ NoSpace-verb (Ask (Create path wanted share disposition options attributes key))
 NoSpace-verb (Ask (Close handle)) built = (refl, (refl, (refl, (refl, (refl, tt)))))
 NoSpace-verb (Ask (Read handle place count)) built = (refl, (refl, (refl, (refl, tt))))
 NoSpace-verb (Ask (Write handle place bytes)) built = (refl, (refl, (refl, (refl, (refl, tt)))))
+NoSpace-verb (Ask (SetSecurity handle owner dacl)) built = (refl, (refl, (refl, (refl, (refl, (refl, (refl, (refl, (refl, (refl, (refl, tt)))))))))))
 NoSpace-verb (Tick ticks) built = (refl, (refl, (refl, (refl, tt))))
 NoSpace-verb _ built = tt
 
@@ -122,5 +141,6 @@ EndsWord-fields (Ask (Create path wanted share disposition options attributes ke
 EndsWord-fields (Ask (Close handle)) built = refl
 EndsWord-fields (Ask (Read handle place count)) built = refl
 EndsWord-fields (Ask (Write handle (Some place) bytes)) built = refl
+EndsWord-fields (Ask (SetSecurity handle owner dacl)) built = refl
 EndsWord-fields (Tick ticks) built = refl
 EndsWord-fields _ built = tt

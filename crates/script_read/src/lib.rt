@@ -19,13 +19,17 @@
 //! It asks nothing of the bytes. It takes time linear in them, and one allocation for each list that
 //! the script has, beside two lists with room for as many clients and calls as there are lines.
 //!
-//! Caveats. The verbs are `create`, `close`, `read`, `write` and `tick`; another one, or a `create`
-//! with DELETE_ON_CLOSE, is `Syntax`. So is a place above 65,535, and the 65th request.
+//! Caveats. The verbs are `create`, `close`, `read`, `write`, `setsecurity` and `tick`; another one,
+//! or a `create` with DELETE_ON_CLOSE, is `Syntax`. So is a place above 65,535, an access list of
+//! more than 32 entries, and the 65th request.
 //!
 //! To add a verb: a definition of its fields and a case of `what_of` in the definitions of requests,
 //! and here a function of the same name and its branch of `what_of`.
 #![tactic(auto)]
 
+mod dacl;
+#[cfg(test)]
+mod dacl_tests;
 mod fault;
 mod law;
 mod line;

@@ -1,9 +1,10 @@
 //! The requests: a verb, and a function that reads its fields.
 
 ghost use Rattle.std.specs.Prelude.{◌≡◌};
-ghost use Rattle.fsa_model.specs.Requests.{is_built_create, disposition_of, disposition_at, create_at, close_at, read_at, write_at, tick_at, what_of};
+ghost use Rattle.fsa_model.specs.Requests.{is_built_create, disposition_of, disposition_at, create_at, close_at, read_at, write_at, tick_at, set_security_at, what_of};
 ghost use Rattle.script_read.specs.Gives.{Gives};
 
+use crate::dacl::{dacl_at, owner_at};
 use crate::fault::{LineFault, SYNTAX};
 use crate::text::{string_at, text_at};
 use crate::word::{ended, field_at, id_at, mask_at, number_at};
@@ -124,6 +125,22 @@ fn tick_at(fields: &[u8]) -> Result<What, LineFault>
     Ok(What::Tick(ticks))
 }
 
+// The fields of `setsecurity`.
+#[tactic(auto, unfolding(fsa_model::specs::Requests::set_security_at))]
+fn set_security_at(alloc: Global, fields: &[u8]) -> Result<What, LineFault>
+    ensures { Gives (λ what. what) result (set_security_at fields.now) }
+{
+    let (handle, rest) = id_at(fields)?;
+    let (owner, rest) = owner_at(rest)?;
+    let (dacl, rest) = dacl_at(alloc, rest)?;
+    ended(rest)?;
+    Ok(What::Ask(Request::SetSecurity {
+        handle,
+        owner,
+        dacl,
+    }))
+}
+
 /// What a verb and its fields say.
 #[tactic(auto, unfolding(fsa_model::specs::Requests::what_of))]
 pub fn what_of(alloc: Global, verb: &[u8], fields: &[u8]) -> Result<What, LineFault>
@@ -139,6 +156,8 @@ pub fn what_of(alloc: Global, verb: &[u8], fields: &[u8]) -> Result<What, LineFa
         write_at(alloc, fields)
     } else if verb == b"tick".as_slice() {
         tick_at(fields)
+    } else if verb == b"setsecurity".as_slice() {
+        set_security_at(alloc, fields)
     } else {
         Err(SYNTAX)
     }

@@ -362,6 +362,211 @@ const CASES: &[(&str, Option<(u32, ScriptKind)>)] = &[
         "fsa 1\nclient a 7\na 1 create =\\d 0x1 0x0 open 0x0 0x0 0 \n",
         Some((3, Syntax)),
     ),
+    // Security: the owner and the access list.
+    ("fsa 1\nclient a 7\na 1 setsecurity 1 keep keep\n", None),
+    (
+        "fsa 1\nclient a 7\na 1 setsecurity 4294967295 keep keep\n",
+        None,
+    ),
+    (
+        "fsa 1\nclient a 7\na 1 setsecurity 4294967296 keep keep\n",
+        Some((3, Syntax)),
+    ),
+    (
+        "fsa 1\nclient a 7\na 1 setsecurity 01 keep keep\n",
+        Some((3, Syntax)),
+    ),
+    ("fsa 1\nclient a 7\na 1 setsecurity 1 0 keep\n", None),
+    (
+        "fsa 1\nclient a 7\na 1 setsecurity 1 4294967295 keep\n",
+        None,
+    ),
+    (
+        "fsa 1\nclient a 7\na 1 setsecurity 1 4294967296 keep\n",
+        Some((3, Syntax)),
+    ),
+    (
+        "fsa 1\nclient a 7\na 1 setsecurity 1 00 keep\n",
+        Some((3, Syntax)),
+    ),
+    (
+        "fsa 1\nclient a 7\na 1 setsecurity 1 +7 keep\n",
+        Some((3, Syntax)),
+    ),
+    (
+        "fsa 1\nclient a 7\na 1 setsecurity 1 null keep\n",
+        Some((3, Syntax)),
+    ),
+    (
+        "fsa 1\nclient a 7\na 1 setsecurity 1 Keep keep\n",
+        Some((3, Syntax)),
+    ),
+    (
+        "fsa 1\nclient a 7\na 1 setsecurity 1 keeps keep\n",
+        Some((3, Syntax)),
+    ),
+    (
+        "fsa 1\nclient a 7\na 1 setsecurity 1  keep\n",
+        Some((3, Syntax)),
+    ),
+    ("fsa 1\nclient a 7\na 1 setsecurity 1 keep null\n", None),
+    (
+        "fsa 1\nclient a 7\na 1 setsecurity 1 keep Null\n",
+        Some((3, Syntax)),
+    ),
+    (
+        "fsa 1\nclient a 7\na 1 setsecurity 1 keep nulls\n",
+        Some((3, Syntax)),
+    ),
+    (
+        "fsa 1\nclient a 7\na 1 setsecurity 1 keep none\n",
+        Some((3, Syntax)),
+    ),
+    (
+        "fsa 1\nclient a 7\na 1 setsecurity 1 keep \n",
+        Some((3, Syntax)),
+    ),
+    (
+        "fsa 1\nclient a 7\na 1 setsecurity 1 keep\n",
+        Some((3, Syntax)),
+    ),
+    ("fsa 1\nclient a 7\na 1 setsecurity 1 keep acl\n", None),
+    (
+        "fsa 1\nclient a 7\na 1 setsecurity 1 keep ac\n",
+        Some((3, Syntax)),
+    ),
+    (
+        "fsa 1\nclient a 7\na 1 setsecurity 1 keep ACL\n",
+        Some((3, Syntax)),
+    ),
+    (
+        "fsa 1\nclient a 7\na 1 setsecurity 1 keep acl,+7:0x1\n",
+        None,
+    ),
+    (
+        "fsa 1\nclient a 7\na 1 setsecurity 1 keep acl,-0:0x0\n",
+        None,
+    ),
+    (
+        "fsa 1\nclient a 7\na 1 setsecurity 1 keep acl,+4294967295:0xffffffff\n",
+        None,
+    ),
+    (
+        "fsa 1\nclient a 7\na 1 setsecurity 1 keep acl,+7:0x1,-7:0x2,+7:0x1\n",
+        None,
+    ),
+    (
+        "fsa 1\nclient a 7\na 1 setsecurity 1 keep acl,+4294967296:0x1\n",
+        Some((3, Syntax)),
+    ),
+    (
+        "fsa 1\nclient a 7\na 1 setsecurity 1 keep acl,+7:0x100000000\n",
+        Some((3, Syntax)),
+    ),
+    (
+        "fsa 1\nclient a 7\na 1 setsecurity 1 keep acl,+07:0x1\n",
+        Some((3, Syntax)),
+    ),
+    (
+        "fsa 1\nclient a 7\na 1 setsecurity 1 keep acl,+7:0x1F\n",
+        Some((3, Syntax)),
+    ),
+    (
+        "fsa 1\nclient a 7\na 1 setsecurity 1 keep acl,+7:0X1\n",
+        Some((3, Syntax)),
+    ),
+    (
+        "fsa 1\nclient a 7\na 1 setsecurity 1 keep acl,+7:0x01\n",
+        Some((3, Syntax)),
+    ),
+    (
+        "fsa 1\nclient a 7\na 1 setsecurity 1 keep acl,+7:0x\n",
+        Some((3, Syntax)),
+    ),
+    (
+        "fsa 1\nclient a 7\na 1 setsecurity 1 keep acl,+7:1\n",
+        Some((3, Syntax)),
+    ),
+    (
+        "fsa 1\nclient a 7\na 1 setsecurity 1 keep acl,+7:\n",
+        Some((3, Syntax)),
+    ),
+    (
+        "fsa 1\nclient a 7\na 1 setsecurity 1 keep acl,+7\n",
+        Some((3, Syntax)),
+    ),
+    (
+        "fsa 1\nclient a 7\na 1 setsecurity 1 keep acl,+7 0x1\n",
+        Some((3, Syntax)),
+    ),
+    (
+        "fsa 1\nclient a 7\na 1 setsecurity 1 keep acl,+70x1\n",
+        Some((3, Syntax)),
+    ),
+    (
+        "fsa 1\nclient a 7\na 1 setsecurity 1 keep acl,+7::0x1\n",
+        Some((3, Syntax)),
+    ),
+    (
+        "fsa 1\nclient a 7\na 1 setsecurity 1 keep acl,+7:0x1:0x1\n",
+        Some((3, Syntax)),
+    ),
+    (
+        "fsa 1\nclient a 7\na 1 setsecurity 1 keep acl,+:0x1\n",
+        Some((3, Syntax)),
+    ),
+    (
+        "fsa 1\nclient a 7\na 1 setsecurity 1 keep acl,7:0x1\n",
+        Some((3, Syntax)),
+    ),
+    (
+        "fsa 1\nclient a 7\na 1 setsecurity 1 keep acl,*7:0x1\n",
+        Some((3, Syntax)),
+    ),
+    (
+        "fsa 1\nclient a 7\na 1 setsecurity 1 keep acl,+-7:0x1\n",
+        Some((3, Syntax)),
+    ),
+    (
+        "fsa 1\nclient a 7\na 1 setsecurity 1 keep acl,\n",
+        Some((3, Syntax)),
+    ),
+    (
+        "fsa 1\nclient a 7\na 1 setsecurity 1 keep acl,+7:0x1,\n",
+        Some((3, Syntax)),
+    ),
+    (
+        "fsa 1\nclient a 7\na 1 setsecurity 1 keep acl,+7:0x1,,-7:0x1\n",
+        Some((3, Syntax)),
+    ),
+    (
+        "fsa 1\nclient a 7\na 1 setsecurity 1 keep acl,,+7:0x1\n",
+        Some((3, Syntax)),
+    ),
+    (
+        "fsa 1\nclient a 7\na 1 setsecurity 1 keep acl+7:0x1\n",
+        Some((3, Syntax)),
+    ),
+    (
+        "fsa 1\nclient a 7\na 1 setsecurity 1 keep acl;+7:0x1\n",
+        Some((3, Syntax)),
+    ),
+    (
+        "fsa 1\nclient a 7\na 1 setsecurity 1 keep acl,+7:0x1-7:0x1\n",
+        Some((3, Syntax)),
+    ),
+    (
+        "fsa 1\nclient a 7\na 1 setsecurity 1 keep acl,+7:0x1 \n",
+        Some((3, Syntax)),
+    ),
+    (
+        "fsa 1\nclient a 7\na 1 setsecurity 1 keep keep \n",
+        Some((3, Syntax)),
+    ),
+    (
+        "fsa 1\nclient a 7\na 1 setsecurity 1 keep keep keep\n",
+        Some((3, Syntax)),
+    ),
     // Other requests.
     ("fsa 1\nclient a 7\na 1 close 4294967295\n", None),
     (
@@ -496,6 +701,54 @@ fn writes_have_16384_bytes_at_most(rt: HostRuntime) -> Result<(), Fail> {
         return Err(Fail::from("16,385 bytes"));
     };
     assert_eq!(rt; (fault.line, fault.kind), (3, Syntax));
+    Ok(())
+}
+
+// A script that puts an access list of so many entries.
+fn long_list(alloc: std::alloc::Global, count: u32) -> Result<String, std::alloc::AllocError> {
+    let mut text = String::from_str(alloc, "fsa 1\nclient a 7\na 1 setsecurity 1 keep acl")?;
+    for sid in 0..count {
+        let entry = format!(in alloc; ",+{sid}:0x1")?;
+        text.push_str(entry.as_str())?;
+    }
+    text.push_str("\n")?;
+    Ok(text)
+}
+
+#[test]
+fn access_lists_have_32_entries_at_most(rt: HostRuntime) -> Result<(), Fail> {
+    let most = long_list(rt.alloc(), 32)?;
+    let script = read_script(rt.alloc(), most.as_bytes())?;
+    assert_eq!(rt; script.lines().len(), 1);
+    let more = long_list(rt.alloc(), 33)?;
+    let answer = read_script(rt.alloc(), more.as_bytes());
+    let Err(ReadFault::Bad(fault)) = answer else {
+        return Err(Fail::from("33 entries"));
+    };
+    assert_eq!(rt; (fault.line, fault.kind), (3, Syntax));
+    Ok(())
+}
+
+#[test]
+fn what_access_lists_say(rt: HostRuntime) -> Result<(), Fail> {
+    let text = "fsa 1\nclient a 7\n\
+                a 1 setsecurity 1 keep keep\n\
+                a 2 setsecurity 2 0 null\n\
+                a 3 setsecurity 3 4294967295 acl\n\
+                a 4 setsecurity 4 keep acl,+7:0x1f01ff,-4294967295:0x0\n";
+    let script = read_script(rt.alloc(), text.as_bytes())?;
+    let said = format!(in rt.alloc(); "{:?}", script.lines().as_slice())?;
+    assert_eq!(rt;
+        said.as_str(),
+        "[\
+        Call { client: 0, number: 1, what: Ask(SetSecurity { handle: 1, owner: None, dacl: Keep }) }, \
+        Call { client: 0, number: 2, what: Ask(SetSecurity { handle: 2, owner: Some(0), dacl: Remove }) }, \
+        Call { client: 0, number: 3, what: Ask(SetSecurity { handle: 3, owner: Some(4294967295), \
+        dacl: Put(BoundedList { items: [], room: 0 }) }) }, \
+        Call { client: 0, number: 4, what: Ask(SetSecurity { handle: 4, owner: None, \
+        dacl: Put(BoundedList { items: [Ace { allow: true, sid: 7, mask: 2032127 }, \
+        Ace { allow: false, sid: 4294967295, mask: 0 }], room: 2 }) }) }]"
+    );
     Ok(())
 }
 

@@ -1,6 +1,6 @@
 //! The fields of a line: a space and a word each.
 
-ghost use Rattle.std.specs.Prelude.{◌≡◌, ◌==◌, ◌≤◌, ◌^◌, ◌<◌, IfOk, OnOk, IfErr, IfSome, false, length, position};
+ghost use Rattle.std.specs.Prelude.{◌≡◌, ◌==◌, ◌≤◌, ◌^◌, ◌<◌, ◌+◌, IfOk, OnOk, IfErr, IfSome, false, length, drop, position};
 ghost use Rattle.std.specs.List.{position_or_len, list_all};
 ghost use Rattle.fsa_model.specs.Words.{field_at, number_at, mask_of, mask_at, word_of, after_word, is_name, is_name_byte};
 ghost use Rattle.fsa_model.specs.Requests.{most_id};
@@ -9,22 +9,33 @@ ghost use Rattle.script_read.specs.Gives.{Gives};
 use crate::fault::{LineFault, SYNTAX, ScriptKind};
 use crate::number::number_of;
 
-// Where the first space stands.
-fn first_space(bytes: &[u8]) -> Option<usize>
-    ensures place { result ≡ position (λ byte. byte == 32) bytes.now }
+// Where the first byte of this value stands.
+fn place_of(mark: u8, bytes: &[u8]) -> Option<usize>
+    ensures place { result ≡ position (λ byte. byte == mark) bytes.now }
     ensures within { IfSome result (λ end. end < length bytes.now) }
 {
-    bytes.iter().position(|byte| *byte == b' ')
+    bytes.iter().position(|byte| *byte == mark)
 }
 
-// Where the first space stands, or the length.
-fn word_end(bytes: &[u8]) -> usize
-    ensures end { result ≡ position_or_len (λ byte. byte == 32) bytes.now }
+/// Where the first byte of this value stands, or the length.
+pub fn end_before(mark: u8, bytes: &[u8]) -> usize
+    ensures end { result ≡ position_or_len (λ byte. byte == mark) bytes.now }
     ensures within { result ≤ length bytes.now }
 {
-    match first_space(bytes) {
+    match place_of(mark, bytes) {
         Some(end) => end,
         None => bytes.len(),
+    }
+}
+
+/// What stands behind the first byte of this value; nothing where there is none.
+pub fn after_first(mark: u8, bytes: &[u8]) -> &[u8]
+    ensures { result.now ≡ drop (position_or_len (λ byte. byte == mark) bytes.now + 1) bytes.now }
+{
+    let (_, rest) = bytes.split_at(end_before(mark, bytes));
+    match rest {
+        [_, after @ ..] => after,
+        [] => rest,
     }
 }
 
@@ -34,7 +45,7 @@ pub fn split_word(bytes: &[u8]) -> (&[u8], &[u8])
     ensures rest { result.1.now ≡ after_word bytes.now }
     ensures shorter { length result.1.now ≤ length bytes.now }
 {
-    bytes.split_at(word_end(bytes))
+    bytes.split_at(end_before(b' ', bytes))
 }
 
 /// The field at the front, and what follows it.
@@ -75,9 +86,9 @@ pub fn id_at(bytes: &[u8]) -> Result<(u32, &[u8]), LineFault>
     Ok((number as u32, rest))
 }
 
-// The mask that a word writes.
+/// The mask that a word writes.
 #[tactic(auto, unfolding(fsa_model::specs::Words::mask_of))]
-fn mask_of(word: &[u8]) -> Result<u32, LineFault>
+pub fn mask_of(word: &[u8]) -> Result<u32, LineFault>
     ensures { Gives (λ mask. mask) result (mask_of word.now) }
 {
     let [b'0', b'x', digits @ ..] = word else {
