@@ -10,17 +10,12 @@
 //! the bytes, the source or the sink. The script is held in memory whole, and so are all replies.
 #![tactic(auto)]
 
-mod bytes;
-mod closes;
-mod ends;
-mod growth;
 mod limits;
 mod lines;
 mod machine;
 mod run;
 mod text;
 mod top;
-mod written;
 
 pub use limits::{MOST_CLIENT_LINES, MOST_LINE_FEEDS, MOST_SCRIPT_BYTES};
 pub use top::{fsa_main, fsa_single};

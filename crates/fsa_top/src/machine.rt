@@ -3,24 +3,24 @@
 ghost use Rattle.std.specs.Prelude.{◌≡◌, ◌≤◌, ◌<◌, ◌+◌, ◌*◌, ◌-◌, ◌^◌, ℕ, [], IfOk, OnOk, OnErr, Some, None, IsTrue, length};
 ghost use Rattle.fsa_types.specs.Reply.{bytes_of_body, units_of_body};
 ghost use Rattle.fsa_model.proofs.Quiet.{most_reply};
-ghost use Rattle.fsa_model.specs.Edits.{with_end};
-ghost use Rattle.fsa_model.specs.Outcome.{out_of};
+ghost use Rattle.fsa_model.specs.Edits.{with_end, with_ticks};
+ghost use Rattle.fsa_model.specs.Outcome.{ends_with, out_of};
 ghost use Rattle.fsa_model.specs.Turn.{try, try_request, try_what, turn, turn_number};
-ghost use Rattle.op_open.specs.Calls.{IsCreate, asked_try};
 ghost use Rattle.fsa_top.specs.Try.{Gives, Goes, MayTurn};
+ghost use Rattle.volume_state.specs.Tried.{Gives as Tries};
 ghost use Rattle.fsa_types.specs.declared.request.What.TheVariants.{Ask};
 
-use crate::bytes::{try_read, try_write};
-use crate::closes::{try_close, try_leave, try_tick};
-use crate::ends::bare;
 use fsa_types::{
     Answer, Call, CallIdList, EndList, NoMemory, Out, Reply, ReplyRoom, Request, Status, What,
 };
+use op_data::{try_read, try_write};
+use op_delete::{try_close, try_leave};
+use op_info::try_set_security;
 use op_open::try_create;
 use std::alloc::Global;
 use volume_state::{Need, Tried, Volume};
 
-// The most bytes that the reply to a call holds.
+// The most bytes that the reply to a call holds, on a quiet volume.
 fn reply_bytes(what: &What) -> usize
     ensures { result ≡ most_reply what.now }
 {
@@ -30,96 +30,76 @@ fn reply_bytes(what: &What) -> usize
     }
 }
 
-// One try of a Create. On a quiet volume it is never held.
-fn try_open(alloc: Global, volume: &mut Volume, call: &Call) -> Result<Reply, NoMemory>
-    requires verb { IsCreate call.now.what }
-    requires may { MayTurn volume.old.content call.now }
-    ensures gives { Gives (asked_try volume.old.content call.now.client call.now.number call.now.what) volume.old.content volume.new.content result }
-    ensures ends { volume.old.spare.ends ≤ volume.new.spare.ends }
-{
-    match try_create(alloc, volume, call, 0) {
-        Tried::Done(reply) => Ok(reply),
-        Tried::NoMemory => Err(NoMemory),
-        Tried::Stay(_) | Tried::Hold { .. } => unreachable!(),
-    }
-}
-
 // One try of a request.
 fn try_request(
     alloc: Global,
     volume: &mut Volume,
     call: &Call,
     request: &Request,
-) -> Result<Reply, NoMemory>
+    turn: u64,
+) -> Tried
     requires is { call.now.what ≡ Ask request.now }
     requires may { MayTurn volume.old.content call.now }
-    ensures gives { Gives (try_request volume.old.content call.now.client call.now.number request.now) volume.old.content volume.new.content result }
+    ensures gives { Tries (try_request volume.old.content call.now.client call.now.number request.now) volume.old.content volume.new.content result }
     ensures ends { volume.old.spare.ends ≤ volume.new.spare.ends }
 {
-    let client = call.client;
     match request {
-        Request::Create { .. } => try_open(alloc, volume, call),
-        Request::Close { handle } => Ok(try_close(volume, client, *handle)),
-        Request::Read { handle, at, count } => {
-            try_read(alloc, volume, client, *handle, *at, *count)
-        }
-        Request::Write { handle, at, bytes } => {
-            try_write(volume, client, *handle, *at, bytes.bytes())
-        }
-        _ => Ok(bare(Status::InvalidDeviceRequest)),
+        Request::Create { .. } => try_create(alloc, volume, call, turn),
+        Request::Close { .. } => try_close(alloc, volume, call, turn),
+        Request::Read { .. } => try_read(alloc, volume, call, turn),
+        Request::Write { .. } => try_write(alloc, volume, call, turn),
+        Request::SetSecurity { .. } => try_set_security(alloc, volume, call, turn),
+        _ => Tried::ends(Status::InvalidDeviceRequest),
     }
 }
 
+// The clock goes on by so many ticks.
+fn try_tick(volume: &mut Volume, ticks: u32) -> Tried
+    requires fits { volume.old.content.clock + ticks < 2 ^ 64 }
+    ensures gives { Tries (ends_with (with_ticks volume.old.content ticks) Status.Success) volume.old.content volume.new.content result }
+    ensures ends { volume.old.spare.ends ≤ volume.new.spare.ends }
+{
+    volume.advance(ticks);
+    Tried::ends(Status::Success)
+}
+
 // One try of what a call does.
-fn try_what(alloc: Global, volume: &mut Volume, call: &Call) -> Result<Reply, NoMemory>
+fn try_what(alloc: Global, volume: &mut Volume, call: &Call, turn: u64) -> Tried
     requires may { MayTurn volume.old.content call.now }
-    ensures gives { Gives (try_what volume.old.content call.now.client call.now.number call.now.what) volume.old.content volume.new.content result }
+    ensures gives { Tries (try_what volume.old.content call.now.client call.now.number call.now.what) volume.old.content volume.new.content result }
     ensures ends { volume.old.spare.ends ≤ volume.new.spare.ends }
 {
     match &call.what {
-        What::Ask(request) => try_request(alloc, volume, call, request),
-        What::Tick(ticks) => Ok(try_tick(volume, *ticks)),
-        What::Leave => Ok(try_leave(volume, call.client)),
-        What::WaitFor(_) => Ok(bare(Status::InvalidDeviceRequest)),
+        What::Ask(request) => try_request(alloc, volume, call, request, turn),
+        What::Tick(ticks) => try_tick(volume, *ticks),
+        What::Leave => try_leave(alloc, volume, call, turn),
+        What::WaitFor(_) => Tried::ends(Status::InvalidDeviceRequest),
     }
 }
 
 // One try of a call; a client that has left has no handle.
-fn try_call(alloc: Global, volume: &mut Volume, call: &Call) -> Result<Reply, NoMemory>
+fn try_call(alloc: Global, volume: &mut Volume, call: &Call, turn: u64) -> Tried
+    requires may { MayTurn volume.old.content call.now }
+    ensures gives { Tries (try volume.old.content call.now (turn_number volume.old.content)) volume.old.content volume.new.content result }
+    ensures ends { volume.old.spare.ends ≤ volume.new.spare.ends }
+{
+    if volume.has_left(call.client) {
+        return Tried::ends(Status::InvalidHandle);
+    }
+    try_what(alloc, volume, call, turn)
+}
+
+// How the call ended. On a quiet volume it is never held, and it never stays.
+fn reply_to(alloc: Global, volume: &mut Volume, call: &Call, turn: u64) -> Result<Reply, NoMemory>
     requires may { MayTurn volume.old.content call.now }
     ensures gives { Gives (try volume.old.content call.now (turn_number volume.old.content)) volume.old.content volume.new.content result }
     ensures ends { volume.old.spare.ends ≤ volume.new.spare.ends }
 {
-    if volume.has_left(call.client) {
-        return Ok(bare(Status::InvalidHandle));
+    match try_call(alloc, volume, call, turn) {
+        Tried::Done(reply) => Ok(reply),
+        Tried::NoMemory => Err(NoMemory),
+        Tried::Stay(_) | Tried::Hold { .. } => unreachable!(),
     }
-    try_what(alloc, volume, call)
-}
-
-// Room for one end.
-fn room_to_end(volume: &mut Volume) -> Result<(), NoMemory>
-    ensures content { volume.new.content ≡ volume.old.content }
-    ensures room { OnOk result (1 ≤ volume.new.spare.ends) }
-{
-    volume.reserve(&Need {
-        files: 0,
-        links: 0,
-        streams: 0,
-        handles: 0,
-        owners: 0,
-        locks: 0,
-        oplocks: 0,
-        watches: 0,
-        limits: 0,
-        pending: 0,
-        blockers: 0,
-        changes: 0,
-        ends: 1,
-        units: 0,
-        dirs: 0,
-        parent: 0,
-        handle: 0,
-    })
 }
 
 /// Makes a turn: tries the call, and keeps how it ended. `NoMemory` changes nothing.
@@ -129,7 +109,10 @@ pub fn turn(alloc: Global, volume: &mut Volume, call: &Call) -> Result<Out, NoMe
     ensures err { OnErr result (volume.new.content ≡ volume.old.content) }
     ensures goes { OnOk result (Goes volume.old.content call.now.client call.now.number volume.new.content) }
 {
-    room_to_end(volume)?;
+    volume.reserve(&Need {
+        ends: 1,
+        ..Need::nothing()
+    })?;
     let room = ReplyRoom::new(alloc, reply_bytes(&call.what), 0)?;
     turn_in_room(alloc, volume, call, room)
 }
@@ -150,7 +133,7 @@ fn turn_in_room(
 {
     let ended = EndList::with_room(alloc, 0)?;
     let starved = CallIdList::with_room(alloc, 0)?;
-    let reply = try_call(alloc, volume, call)?;
+    let reply = reply_to(alloc, volume, call, 0)?;
     keep_end(volume, call, &reply, room);
     Ok(Out {
         answer: Answer::Ended(reply),
