@@ -9,6 +9,8 @@ mod limits;
 #[cfg(test)]
 mod program;
 #[cfg(test)]
+mod security;
+#[cfg(test)]
 mod streams;
 #[cfg(test)]
 mod tests;
