@@ -1,6 +1,6 @@
 //! The break of oplocks by a read or a write, and a call that is held.
 
-ghost use Rattle.std.specs.Prelude.{◌≡◌, ◌<◌, ◌≤◌, ◌+◌, ◌-◌, ◌^◌, ◌==◌, not, Some, length, map};
+ghost use Rattle.std.specs.Prelude.{◌≡◌, ◌≤◌, ◌+◌, Some, length, map};
 ghost use Rattle.fsa_types.specs.declared.oplock.HandleSet.TheVariants.{Stream};
 ghost use Rattle.fsa_types.specs.declared.reply.Blocker.TheVariants.{Break};
 ghost use Rattle.fsa_model.specs.Breaks.{awaited, with_breaks};

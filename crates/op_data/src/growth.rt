@@ -1,6 +1,6 @@
 //! Whether a stream may grow.
 
-ghost use Rattle.std.specs.Prelude.{◌≡◌, ◌≤◌, ◌<◌, ◌+◌, ◌-◌, ◌*◌, ◌^◌, nat_lt, IfNone, IsTrue};
+ghost use Rattle.std.specs.Prelude.{◌≡◌, ◌≤◌, ◌+◌, ◌^◌, nat_lt, IfNone, IsTrue};
 ghost use Rattle.fsa_types.specs.Rows.{lives};
 ghost use Rattle.fsa_model.specs.Charge.{clusters_for};
 ghost use Rattle.fsa_model.specs.Growth.{growth_fault, owner_of_stream};

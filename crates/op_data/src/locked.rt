@@ -18,7 +18,7 @@ pub fn read_is_locked(volume: &Volume, handle: u64, stream: u64, at: u64, count:
     locks.conflict(Want::Read, handle, at, count).is_some()
 }
 
-/// Whether a write does.
+/// Whether a write of this range does. There has to be such a stream.
 #[tactic(auto, using(crate::proofs::LockLaws::write_locked))]
 pub fn write_is_locked(volume: &Volume, handle: u64, stream: u64, at: u64, count: u64) -> bool
     requires lives { IsTrue (lives volume.now.content.streams stream) }

@@ -1,9 +1,9 @@
 //! A read, in the order of its checks.
 
-ghost use Rattle.std.specs.Prelude.{◌≡◌, ◌≤◌, ◌+◌, ◌<◌, ◌-◌, ◌^◌, length, option_map, IfOk, IsTrue};
+ghost use Rattle.std.specs.Prelude.{◌≡◌, ◌≤◌, ◌+◌, length, IfOk, IsTrue};
 ghost use Rattle.fsa_types.specs.Rows.{lives};
 ghost use Rattle.fsa_model.specs.Outcome.{Done};
-ghost use Rattle.fsa_model.specs.Read.{largest_end, read_at, read_bytes, read_range, read_unlocked, try_read};
+ghost use Rattle.fsa_model.specs.Read.{read_at, read_bytes, read_range, read_unlocked, try_read};
 ghost use Rattle.op_data.specs.Calls.{IsRead, asked_read};
 ghost use Rattle.op_data.specs.Conditions.{HasWaitRoom, MayUse, part_at};
 ghost use Rattle.volume_state.specs.Tried.{Gives, HasHoldRoom};

@@ -1,6 +1,6 @@
 //! The room that a read or a write takes before it changes anything.
 
-ghost use Rattle.std.specs.Prelude.{◌≡◌, ◌<◌, ◌≤◌, ◌+◌, ◌^◌, IfNone, IfOk, IsTrue, OnOk, length};
+ghost use Rattle.std.specs.Prelude.{◌≡◌, ◌≤◌, ◌+◌, ◌^◌, IfNone, IfOk, IsTrue, OnOk, length};
 ghost use Rattle.fsa_types.specs.Rows.{lives};
 ghost use Rattle.op_data.specs.Conditions.{HasWaitRoom, HasWriteRoom};
 

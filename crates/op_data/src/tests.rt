@@ -1,6 +1,6 @@
 //! One read and one write each of a file in a new volume, with ample memory.
 
-ghost use Rattle.std.specs.Prelude.{◌≡◌, ◌<◌, ◌≤◌, ◌+◌, ◌-◌, ◌^◌, [], false, IfOk, IsTrue, None, OnOk, All, length};
+ghost use Rattle.std.specs.Prelude.{◌≡◌, ◌<◌, ◌≤◌, ◌-◌, ◌^◌, [], false, IfOk, IsTrue, None, OnOk, All, length};
 ghost use Rattle.fsa_types.specs.Rows.{lives};
 ghost use Rattle.fsa_model.specs.Lookups.{child_of, handle_of};
 ghost use Rattle.fsa_model.specs.Sound.{PointFits};

@@ -1,10 +1,10 @@
 //! What a write changes.
 
-ghost use Rattle.std.specs.Prelude.{◌≡◌, ◌≤◌, ◌<◌, ◌+◌, ◌-◌, ◌^◌, length, Some, None, if◌then◌else◌, IsTrue};
+ghost use Rattle.std.specs.Prelude.{◌≡◌, ◌≤◌, ◌+◌, ◌^◌, length, IsTrue};
 ghost use Rattle.fsa_types.specs.Rows.{lives};
 ghost use Rattle.fsa_model.specs.Changes.{units_noted, dirs_noted};
 ghost use Rattle.fsa_model.specs.Open.{attributes_of, creation_time, access_time};
-ghost use Rattle.fsa_model.specs.Write.{file_of_stream, is_named_stream, lengthens, with_file_written, with_write_noted, with_written};
+ghost use Rattle.fsa_model.specs.Write.{file_of_stream, lengthens, with_file_written, with_write_noted, with_written};
 ghost use Rattle.op_data.specs.Conditions.{HasWriteRoom, noted_stream};
 
 use volume_state::Volume;
@@ -106,7 +106,7 @@ fn note_write(volume: &mut Volume, link: u64, stream: u64, longer: bool)
 
 // A write is noted, of this stream of the file or else of the file.
 fn note_write_of(volume: &mut Volume, link: u64, stream: u64, noted: Option<u64>, longer: bool)
-    requires noted { noted ≡ (if is_named_stream volume.old.content stream then Some stream else None) }
+    requires noted { noted ≡ noted_stream volume.old.content stream }
     requires changes { 1 ≤ volume.old.spare.changes }
     requires units { units_noted volume.old.content link noted ≤ volume.old.spare.units }
     requires dirs { dirs_noted volume.old.content link noted ≤ volume.old.spare.dirs }
