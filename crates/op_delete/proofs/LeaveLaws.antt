@@ -1,25 +1,25 @@
 -- A client's handles, by rising number.
-use Rattle.std.proofs.Common.{◌≡◌, ℕ, ◌+◌, ◌*◌, ◌<◌, ◌≤◌, Bool, List, [], ◌∷◌, length, get_or, refl, ap, sym, ◌∙◌, arith, inl, inr, Some, None, true, false}
+use Rattle.std.proofs.Common.{◌≡◌, ℕ, ◌+◌, ◌*◌, ◌<◌, ◌≤◌, Bool, List, [], ◌∷◌, length, get_or, refl, ap, sym, ◌∙◌, arith, inl, inr, Option, Some, None, true, false}
 use Rattle.std.specs.List.{All, AllPairs, filter, find, list_any}
 use Rattle.std.specs.Option.{option_map_or}
 use Rattle.std.specs.Prelude.{◌==◌, ◌&&◌, not, nat_lt, IfSome}
-use Rattle.std.proofs.lemmas.Bool.{and_cases, and_from, and_left, and_parts, and_right, cases_Bool, eq-eqb, eqb-false, eqb-true, false_from_ne_true, le-ltb, lt-ltb, ltb-true, not-true}
-use Rattle.std.proofs.lemmas.List.Elements.{All-filter}
+use Rattle.std.proofs.lemmas.Bool.{and_from, and_parts, and_right, cases_Bool, eq-eqb, eqb-false, eqb-true, false_from_ne_true, le-ltb, lt-ltb, ltb-false, ltb-true, not-true}
+use Rattle.std.proofs.lemmas.List.Folds.{list_any_none}
 use Rattle.fsa_types.specs.Rows.{IsNumbered, lives, row_of, without_row}
 use Rattle.fsa_types.specs.Sorting.{in_order}
 use Rattle.fsa_model.specs.Close.{handles_of_client, with_all_closed, with_client_gone, with_closed}
 use Rattle.fsa_model.specs.Edits.{with_left}
-use Rattle.fsa_model.specs.Lookups.{has_row, is_after, is_opened_by, next_handle_of}
+use Rattle.fsa_model.specs.Lookups.{handle_of, has_row, is_after, is_opened_by, next_handle_of}
 use Rattle.fsa_model.specs.Volume.{Handle, Volume}
-use Rattle.fsa_model.proofs.RowLaws.{find-all, find-any, lives-found, none-all, option_cases, row_of-here}
-use Rattle.volume_state.proofs.OpenLaws.{find-passes}
+use Rattle.fsa_model.proofs.RowLaws.{find-all, find-any, lives-found, none-all, number_of-none, option_cases, row_of-here}
+use Rattle.volume_state.proofs.OpenLaws.{IfSome-map, find-passes}
 use Rattle.volume_state.specs.Seen.{Spare}
 use Rattle.op_delete.specs.Ends.{with_ended}
 use Rattle.op_delete.specs.declared.ends.Ending.TheVariants.{OfClient}
 use Rattle.op_delete.specs.declared.leave.Sum.{Sum}
-use Rattle.op_delete.specs.Room.{CountsOne, HasRoomForAll, HasSweepRoom, KeepsRoom, NotesTakeNoMore, all_dirs, all_units, close_dirs, close_units, later_handles}
-use Rattle.op_delete.proofs.EndLaws.{later-same}
-use Rattle.op_delete.proofs.ListLaws.{Picks, alone, alone-pairs, by_key, fewer, filter-agree, filter-both, filter-none, find-row, first-picked, only-found}
+use Rattle.op_delete.specs.Room.{CountsOne, HasRoomForAll, HasSweepRoom, IsFirst, KeepsRoom, NotesTakeNoMore, all_dirs, all_units, close_dirs, close_units, later_handles}
+use Rattle.op_delete.proofs.EndLaws.{above-up, later-same}
+use Rattle.op_delete.proofs.ListLaws.{Picks, alone, alone-pairs, by_key, fewer, filter-both, filter-none, find-row, first-picked, only-found}
 
 -- the number by which handles are in order
 abbrev pub number : ℕ × Handle → ℕ
@@ -116,7 +116,7 @@ above-next client after row other next smaller = elim (cases_Bool (other.client 
     numbers less = elim (cases_Bool (other.number == row.number)) [
       | inl same ↦ (let equal : other.number ≡ row.number = eqb-true other.number row.number same in
           rw (same, le-ltb row.number other.number (omega arith)) (sym (and_right (nat_lt after other.number) false refl)))
-      | inr differs ↦ rw (differs, later-same after row.number other.number above less differs) (sym (and_true (nat_lt after other.number)))
+      | inr differs ↦ rw (differs, later-same (λ n. nat_lt after n) row.number other.number (above-up after row.number other.number above) less differs) (sym (and_true (nat_lt after other.number)))
     ]
 
 pub later_handles-next : (v : Volume) (client after id : ℕ) (row : Handle) → IsNextHandle v client after id row → later_handles v client after ≡ (id, row) ∷ later_handles v client row.number
@@ -125,17 +125,7 @@ later_handles-next v client after id row next =
     (λ k d within. above-next client after row (get_or v.handles k d).1 (next-after v client after id row next)
     (none-all (λ (entry : ℕ × Handle). is_after client after entry.1 && nat_lt entry.1.number row.number) v.handles (none_smaller v client after id row next) k d within))
 
--- at first they are all, and in the end none
-pub later_handles-first : (v : Volume) (client : ℕ) → All (λ entry. 0 < entry.1.number) v.handles → later_handles v client 0 ≡ handles_of_client v client
-later_handles-first v client numbers =
-    ap (λ (handles : List (ℕ × Handle)). in_order (by_key number) handles)
-    (filter-agree (λ (entry : ℕ × Handle). is_after client 0 entry.1) (λ entry. entry.1.client == client) v.handles (λ k d within.
-    both ((get_or v.handles k d).1.client == client) (nat_lt 0 (get_or v.handles k d).1.number) (lt-ltb 0 (get_or v.handles k d).1.number (numbers k d within))))
-  where
-    both : (a b : Bool) → b ≡ true → (a && b) ≡ a
-    both true b yes_b = yes_b
-    both false b yes_b = refl
-
+-- in the end they are none
 pub later_handles-last : (v : Volume) (client after : ℕ) → has_row (is_after client after) v.handles ≡ false → later_handles v client after ≡ []
 later_handles-last v client after none =
     ap (λ (handles : List (ℕ × Handle)). in_order (by_key number) handles)
@@ -157,32 +147,160 @@ only_row v id row numbered found =
         let of_b : b ≡ id = eqb-true b id parts.1 in
         omega arith)
 
+-- ---- the first handle of a client
+
+-- it has no lesser number than another, with what is true of the handles of the volume
+pub record IsFirstHandle (v : Volume) (client id : ℕ) (row : Handle) : Type 0 where
+  pub numbered : IsNumbered v.handles v.last_handle
+  pub differ : AllPairs (λ a b. is_opened_by b.1.client b.1.number a.1 ≡ false) v.handles
+  pub found : row_of v.handles id ≡ Some row
+  pub first : IsFirst v client row
+
+-- of the client's handles it comes first
+first_handle_picked : (v : Volume) (client id : ℕ) (row : Handle) → IsFirstHandle v client id row → Picks number (λ entry. entry.1.client == client) v.handles (id, row)
+first_handle_picked v client id row is = record {
+  some = find-any (λ (entry : ℕ × Handle). entry.0 == id) (λ entry. entry.1.client == client && entry.1.number == row.number) v.handles (id, row) (find-row v.handles id row is.found) own;
+  only = only-found (λ (entry : ℕ × Handle). entry.0 == id) (λ entry. entry.1.client == client && entry.1.number == row.number) v.handles (id, row) single (find-row v.handles id row is.found) own;
+  single = single;
+  least = is.first.least;
+}
+  where
+    own : (row.client == client && row.number == row.number) ≡ true
+    own = and_from (row.client == client) (row.number == row.number) is.first.of_client (eq-eqb row.number row.number refl)
+
+    two : (a b : Handle) → is_opened_by b.client b.number a ≡ false
+        → ((a.client == client && a.number == row.number) && (b.client == client && b.number == row.number)) ≡ false
+    two a b differ = false_from_ne_true _ (λ both.
+        let parts = and_parts (a.client == client && a.number == row.number) (b.client == client && b.number == row.number) both in
+        let of_a = and_parts (a.client == client) (a.number == row.number) parts.0 in
+        let of_b = and_parts (b.client == client) (b.number == row.number) parts.1 in
+        let one_client : a.client ≡ b.client = eqb-true a.client client of_a.0 ∙ sym (eqb-true b.client client of_b.0) in
+        let one_number : a.number ≡ b.number = eqb-true a.number row.number of_a.1 ∙ sym (eqb-true b.number row.number of_b.1) in
+        let opened : is_opened_by b.client b.number a ≡ true = and_from (a.client == b.client) (a.number == b.number) (eq-eqb a.client b.client one_client) (eq-eqb a.number b.number one_number) in
+        cc)
+
+    single : alone (λ entry. entry.1.client == client && entry.1.number == row.number) v.handles ≡ true
+    single = alone-pairs (λ (entry : ℕ × Handle). entry.1.client == client && entry.1.number == row.number) v.handles
+        (λ i j d below within. two (get_or v.handles i d).1 (get_or v.handles j d).1 (is.differ i j d below within))
+
+-- those above its number are the client's others
+above-first : (client : ℕ) (row other : Handle) → (other.client == client && nat_lt other.number row.number) ≡ false → is_after client row.number other ≡ (other.client == client && not (other.number == row.number))
+above-first client row other smaller = elim (cases_Bool (other.client == client)) [
+  | inl own ↦ (let not_below : nat_lt other.number row.number ≡ false = rw own at smaller in
+      let most : row.number ≤ other.number = ltb-false other.number row.number not_below in
+      rw own (numbers most))
+  | inr foreign ↦ rw foreign refl
+]
+  where
+    numbers : row.number ≤ other.number → nat_lt row.number other.number ≡ not (other.number == row.number)
+    numbers most = elim (cases_Bool (other.number == row.number)) [
+      | inl same ↦ (let equal : other.number ≡ row.number = eqb-true other.number row.number same in
+          rw (same, le-ltb row.number other.number (omega arith)) refl)
+      | inr differs ↦ (let not_equal : other.number ≡ row.number → ⊥ = eqb-false other.number row.number differs in
+          rw (differs, lt-ltb row.number other.number (omega (arith, most, not_equal))) refl)
+    ]
+
+-- the client's handles are it and those above its number
+pub handles_of_client-first : (v : Volume) (client id : ℕ) (row : Handle) → IsFirstHandle v client id row → handles_of_client v client ≡ (id, row) ∷ later_handles v client row.number
+handles_of_client-first v client id row is =
+    first-picked number (λ entry. entry.1.client == client) (λ entry. is_after client row.number entry.1) v.handles (id, row) (first_handle_picked v client id row is)
+    (λ k d within. above-first client row (get_or v.handles k d).1
+    (none-all (λ (entry : ℕ × Handle). entry.1.client == client && nat_lt entry.1.number row.number) v.handles is.first.least k d within))
+
 -- the others of the client are its others
-others-next : (client id : ℕ) (row : Handle) (entry : ℕ × Handle) → 0 < entry.1.number → ((entry.0 == id) ≡ true → entry ≡ (id, row))
-    → ((is_after client 0 entry.1 && entry.1.number == row.number) ≡ true → entry ≡ (id, row))
-    → (not (entry.0 == id) && entry.1.client == client) ≡ (is_after client 0 entry.1 && not (entry.1.number == row.number))
-others-next client id row entry positive of_id of_number = elim (cases_Bool (entry.0 == id)) [
+others-first : (client id : ℕ) (row : Handle) (entry : ℕ × Handle) → ((entry.0 == id) ≡ true → entry ≡ (id, row))
+    → ((entry.1.client == client && entry.1.number == row.number) ≡ true → entry ≡ (id, row))
+    → (not (entry.0 == id) && entry.1.client == client) ≡ (entry.1.client == client && not (entry.1.number == row.number))
+others-first client id row entry of_id of_number = elim (cases_Bool (entry.0 == id)) [
   | inl here ↦ (let same : entry ≡ (id, row) = of_id here in
       let number_same : (entry.1.number == row.number) ≡ true = eq-eqb entry.1.number row.number (ap (λ (e : ℕ × Handle). e.1.number) same) in
-      rw (here, number_same) (sym (and_right (is_after client 0 entry.1) false refl)))
+      rw (here, number_same) (sym (and_right (entry.1.client == client) false refl)))
   | inr other ↦ rw other (elim (cases_Bool (entry.1.client == client)) [
-    | inl own ↦ (let above : nat_lt 0 entry.1.number ≡ true = lt-ltb 0 entry.1.number positive in
-        let differs : (entry.1.number == row.number) ≡ false = false_from_ne_true _ (λ same. eqb-false entry.0 id other (ap (λ (e : ℕ × Handle). e.0)
-        (of_number (and_from (is_after client 0 entry.1) (entry.1.number == row.number) (and_from (entry.1.client == client) (nat_lt 0 entry.1.number) own above) same)))) in
-        rw (own, above, differs) refl)
+    | inl own ↦ (let differs : (entry.1.number == row.number) ≡ false = false_from_ne_true _ (λ same. eqb-false entry.0 id other (ap (λ (e : ℕ × Handle). e.0)
+        (of_number (and_from (entry.1.client == client) (entry.1.number == row.number) own same)))) in
+        rw (own, differs) refl)
     | inr foreign ↦ rw foreign refl
   ])
 ]
 
 -- the client's handle of the least number is closed first, and then those that are left
-pub handles_of_client-next : (v : Volume) (client id : ℕ) (row : Handle) → IsNextHandle v client 0 id row → All (λ entry. 0 < entry.1.number) v.handles
+pub handles_of_client-next : (v : Volume) (client id : ℕ) (row : Handle) → IsFirstHandle v client id row
     → handles_of_client v client ≡ (id, row) ∷ in_order (by_key number) (filter (λ entry. entry.1.client == client) (without_row v.handles id))
-handles_of_client-next v client id row next numbers =
-    let picks = next_picked v client 0 id row next in
-    sym (later_handles-first v client numbers)
-    ∙ first-picked number (λ entry. is_after client 0 entry.1) (λ entry. not (entry.0 == id) && entry.1.client == client) v.handles (id, row) picks
-    (λ k d within. others-next client id row (get_or v.handles k d) (numbers k d within) (only_row v id row next.numbered next.found k d within) (picks.only k d within))
+handles_of_client-next v client id row is =
+    let picks = first_handle_picked v client id row is in
+    first-picked number (λ entry. entry.1.client == client) (λ entry. not (entry.0 == id) && entry.1.client == client) v.handles (id, row) picks
+    (λ k d within. others-first client id row (get_or v.handles k d) (only_row v id row is.numbered is.found k d within) (picks.only k d within))
     ∙ ap (λ (handles : List (ℕ × Handle)). (id, row) ∷ in_order (by_key number) handles) (sym (filter-both (λ entry. not (entry.0 == id)) (λ entry. entry.1.client == client) v.handles))
+
+-- where the client has no handle there is none
+pub handles_of_client-none : (v : Volume) (client : ℕ) → has_row (λ row. row.client == client) v.handles ≡ false → handles_of_client v client ≡ []
+handles_of_client-none v client none =
+    ap (λ (handles : List (ℕ × Handle)). in_order (by_key number) handles)
+    (filter-none (λ (entry : ℕ × Handle). entry.1.client == client) v.handles (none-all (λ (entry : ℕ × Handle). entry.1.client == client) v.handles none))
+
+-- the handle of number 0 is the first
+pub IsFirst-0 : (v : Volume) (client id : ℕ) → IfSome (row_of v.handles id) (λ row. is_opened_by client 0 row ≡ true) → IfSome (row_of v.handles id) (λ row. IsFirst v client row)
+IsFirst-0 v client id opened = IfSome-map (λ row. is_opened_by client 0 row ≡ true) (λ row. IsFirst v client row) (row_of v.handles id) one opened
+  where
+    one : (row : Handle) → is_opened_by client 0 row ≡ true → IsFirst v client row
+    one row opens =
+        let parts = and_parts (row.client == client) (row.number == 0) opens in
+        let is_0 : row.number ≡ 0 = eqb-true row.number 0 parts.1 in
+        record {
+          of_client = parts.0;
+          least = list_any_none (λ (entry : ℕ × Handle). entry.1.client == client && nat_lt entry.1.number row.number) v.handles (λ k d within.
+              and_right ((get_or v.handles k d).1.client == client) (nat_lt (get_or v.handles k d).1.number row.number) (le-ltb (get_or v.handles k d).1.number row.number (omega (arith, is_0))));
+        }
+
+-- where it has none of number 0 it is the next above
+IsFirst-next : (v : Volume) (client id : ℕ) → IsNumbered v.handles v.last_handle → AllPairs (λ a b. is_opened_by b.1.client b.1.number a.1 ≡ false) v.handles
+    → handle_of v client 0 ≡ None → next_handle_of v client 0 ≡ Some id → IfSome (row_of v.handles id) (λ row. IsFirst v client row)
+IsFirst-next v client id numbered differ none_0 next = elim (option_cases (row_of v.handles id)) [
+  | inl none ↦ rw none tt
+  | inr some ↦ rw some.1 (one some.0 some.1)
+]
+  where
+    lesser : (row other : Handle) → (is_after client 0 other && nat_lt other.number row.number) ≡ false → is_opened_by client 0 other ≡ false → (other.client == client && nat_lt other.number row.number) ≡ false
+    lesser row other smaller not_0 = elim (cases_Bool (other.client == client)) [
+      | inl own ↦ (let differs : (other.number == 0) ≡ false = rw own at not_0 in
+          let not_equal : other.number ≡ 0 → ⊥ = eqb-false other.number 0 differs in
+          let above : nat_lt 0 other.number ≡ true = lt-ltb 0 other.number (omega (arith, not_equal)) in
+          let not_below : nat_lt other.number row.number ≡ false = rw (own, above) at smaller in
+          rw own not_below)
+      | inr foreign ↦ rw foreign refl
+    ]
+
+    one : (row : Handle) → row_of v.handles id ≡ Some row → IsFirst v client row
+    one row found =
+        let is : IsNextHandle v client 0 id row = record { numbered = numbered; differ = differ; found = found; next = next } in
+        record {
+          of_client = (and_parts (row.client == client) (nat_lt 0 row.number) (next-after v client 0 id row is)).0;
+          least = list_any_none (λ (entry : ℕ × Handle). entry.1.client == client && nat_lt entry.1.number row.number) v.handles (λ k d within.
+              lesser row (get_or v.handles k d).1 (none-all (λ (entry : ℕ × Handle). is_after client 0 entry.1 && nat_lt entry.1.number row.number) v.handles (none_smaller v client 0 id row is) k d within)
+              (number_of-none (is_opened_by client 0) v.handles none_0 k d within));
+        }
+
+pub IsFirst-later : (v : Volume) (client : ℕ) (later : Option ℕ) → IsNumbered v.handles v.last_handle → AllPairs (λ a b. is_opened_by b.1.client b.1.number a.1 ≡ false) v.handles
+    → handle_of v client 0 ≡ None → later ≡ next_handle_of v client 0 → IfSome later (λ id. IfSome (row_of v.handles id) (λ row. IsFirst v client row))
+IsFirst-later v client later numbered differ none_0 found = elim (option_cases later) [
+  | inl none ↦ rw none tt
+  | inr some ↦ rw some.1 (IsFirst-next v client some.0 numbered differ none_0 (sym found ∙ some.1))
+]
+
+-- and where there is no next, it has none
+pub none_of_client : (v : Volume) (client : ℕ) → handle_of v client 0 ≡ None → has_row (is_after client 0) v.handles ≡ false → has_row (λ row. row.client == client) v.handles ≡ false
+none_of_client v client none_0 none_above = list_any_none (λ (entry : ℕ × Handle). entry.1.client == client) v.handles (λ k d within.
+    one (get_or v.handles k d).1 (number_of-none (is_opened_by client 0) v.handles none_0 k d within) (none-all (λ (entry : ℕ × Handle). is_after client 0 entry.1) v.handles none_above k d within))
+  where
+    one : (other : Handle) → is_opened_by client 0 other ≡ false → is_after client 0 other ≡ false → (other.client == client) ≡ false
+    one other not_0 not_after = false_from_ne_true _ (λ own.
+        let differs : (other.number == 0) ≡ false = rw own at not_0 in
+        let not_above : nat_lt 0 other.number ≡ false = rw own at not_after in
+        let most : other.number ≤ 0 = ltb-false 0 other.number not_above in
+        let is_0 : other.number ≡ 0 = omega (arith, most) in
+        eqb-false other.number 0 differs is_0)
+
+-- ---- the room that is left
 
 -- where notes take no more room, closes don't
 close_units-less : (old new : Volume) (handle : Handle) → NotesTakeNoMore old new → close_units new handle ≤ close_units old handle
@@ -222,8 +340,6 @@ HasRoomForAll-one old new spare left entry entries room kept notes =
 -- of the handles of the client that there were some are closed, and the others are still to be
 pub record IsClosing (client : ℕ) (old now : Volume) (before spare : Spare) : Type 0 where
   pub goes : with_all_closed (handles_of_client now client) now ≡ with_all_closed (handles_of_client old client) old
-  pub numbers : All (λ entry. 0 < entry.1.number) now.handles
-  pub turns : All (λ entry. 0 < entry.0) now.pending
   pub clients : now.clients ≡ old.clients
   pub room : HasRoomForAll now spare (handles_of_client now client)
   pub ends : length now.pending ≤ spare.ends
@@ -231,16 +347,16 @@ pub record IsClosing (client : ℕ) (old now : Volume) (before spare : Spare) : 
 
 -- there is room for the next close
 pub IsClosing-room : (client : ℕ) (old now : Volume) (before spare : Spare) (id : ℕ) → IsClosing client old now before spare → IsNumbered now.handles now.last_handle
-    → AllPairs (λ a b. is_opened_by b.1.client b.1.number a.1 ≡ false) now.handles → next_handle_of now client 0 ≡ Some id
+    → AllPairs (λ a b. is_opened_by b.1.client b.1.number a.1 ≡ false) now.handles → IfSome (row_of now.handles id) (λ row. IsFirst now client row)
     → IfSome (row_of now.handles id) (λ row. HasSweepRoom now spare row)
-IsClosing-room client old now before spare id closing numbered differ next = elim (option_cases (row_of now.handles id)) [
+IsClosing-room client old now before spare id closing numbered differ first = elim (option_cases (row_of now.handles id)) [
   | inl none ↦ rw none tt
-  | inr some ↦ rw some.1 (room some.0 some.1)
+  | inr some ↦ rw some.1 (room some.0 some.1 (rw some.1 at first))
 ]
   where
-    room : (row : Handle) → row_of now.handles id ≡ Some row → HasSweepRoom now spare row
-    room row found =
-        let list = handles_of_client-next now client id row (record { numbered = numbered; differ = differ; found = found; next = next }) closing.numbers in
+    room : (row : Handle) → row_of now.handles id ≡ Some row → IsFirst now client row → HasSweepRoom now spare row
+    room row found is_first =
+        let list = handles_of_client-next now client id row (record { numbered = numbered; differ = differ; found = found; first = is_first }) in
         let all = rw list at closing.room in
         record {
           changes = omega (arith, all.changes);
@@ -250,26 +366,23 @@ IsClosing-room client old now before spare id closing numbered differ next = eli
 
 -- one more is closed
 pub IsClosing-one : (client : ℕ) (old now new : Volume) (before spare left : Spare) (id : ℕ) → IsClosing client old now before spare → IsNumbered now.handles now.last_handle
-    → AllPairs (λ a b. is_opened_by b.1.client b.1.number a.1 ≡ false) now.handles → next_handle_of now client 0 ≡ Some id → lives now.handles id ≡ true
+    → AllPairs (λ a b. is_opened_by b.1.client b.1.number a.1 ≡ false) now.handles → IfSome (row_of now.handles id) (λ row. IsFirst now client row) → lives now.handles id ≡ true
     → new ≡ option_map_or (λ row. with_closed now id row) (row_of now.handles id) now → new.handles ≡ without_row now.handles id → new.clients ≡ now.clients
-    → IfSome (row_of now.handles id) (λ row. KeepsRoom now row spare left) → NotesTakeNoMore now new → spare.ends + length new.pending ≤ left.ends + length now.pending
-    → All (λ entry. 0 < entry.0) new.pending → IsClosing client old new before left
-IsClosing-one client old now new before spare left id closing numbered differ next live closed handles clients kept notes count turns = elim (option_cases (row_of now.handles id)) [
+    → IfSome (row_of now.handles id) (λ row. KeepsRoom now row spare left) → NotesTakeNoMore now new → spare.ends + length new.pending ≤ left.ends + length now.pending → IsClosing client old new before left
+IsClosing-one client old now new before spare left id closing numbered differ first live closed handles clients kept notes count = elim (option_cases (row_of now.handles id)) [
   | inl none ↦ absurd (lives-found now.handles id live none)
-  | inr some ↦ one some.0 some.1 (closed ∙ rw some.1 refl) (rw some.1 at kept)
+  | inr some ↦ one some.0 some.1 (rw some.1 at first) (closed ∙ rw some.1 refl) (rw some.1 at kept)
 ]
   where
-    one : (row : Handle) → row_of now.handles id ≡ Some row → new ≡ with_closed now id row → KeepsRoom now row spare left → IsClosing client old new before left
-    one row found is keeps =
-        let list = handles_of_client-next now client id row (record { numbered = numbered; differ = differ; found = found; next = next }) closing.numbers in
+    one : (row : Handle) → row_of now.handles id ≡ Some row → IsFirst now client row → new ≡ with_closed now id row → KeepsRoom now row spare left → IsClosing client old new before left
+    one row found is_first is keeps =
+        let list = handles_of_client-next now client id row (record { numbered = numbered; differ = differ; found = found; first = is_first }) in
         let rest : handles_of_client new client ≡ in_order (by_key number) (filter (λ entry. entry.1.client == client) (without_row now.handles id))
         = ap (λ (rows : List (ℕ × Handle)). in_order (by_key number) (filter (λ entry. entry.1.client == client) rows)) handles in
         let goes : with_all_closed (in_order (by_key number) (filter (λ entry. entry.1.client == client) (without_row now.handles id))) (with_closed now id row) ≡ with_all_closed (handles_of_client old client) old
         = rw list at closing.goes in
         record {
           goes = rw rest (ap (λ (w : Volume). with_all_closed (in_order (by_key number) (filter (λ entry. entry.1.client == client) (without_row now.handles id))) w) is ∙ goes);
-          numbers = rw handles (All-filter (λ (entry : ℕ × Handle). not (entry.0 == id)) (λ (entry : ℕ × Handle). 0 < entry.1.number) now.handles closing.numbers);
-          turns = turns;
           clients = clients ∙ closing.clients;
           room = rw rest (HasRoomForAll-one now new spare left (id, row) (in_order (by_key number) (filter (λ entry. entry.1.client == client) (without_row now.handles id))) (rw list at closing.room) keeps notes);
           ends = omega (arith, count, closing.ends);
@@ -277,10 +390,10 @@ IsClosing-one client old now new before spare left id closing numbered differ ne
         }
 
 -- none is left
-pub IsClosing-last : (client : ℕ) (old now : Volume) (before spare : Spare) → IsClosing client old now before spare → has_row (is_after client 0) now.handles ≡ false
+pub IsClosing-last : (client : ℕ) (old now : Volume) (before spare : Spare) → IsClosing client old now before spare → has_row (λ row. row.client == client) now.handles ≡ false
     → now ≡ with_all_closed (handles_of_client old client) old
 IsClosing-last client old now before spare closing none =
-    sym (ap (λ (handles : List (ℕ × Handle)). with_all_closed handles now) (sym (later_handles-first now client closing.numbers) ∙ later_handles-last now client 0 none)) ∙ closing.goes
+    sym (ap (λ (handles : List (ℕ × Handle)). with_all_closed handles now) (handles_of_client-none now client none)) ∙ closing.goes
 
 -- without a row that lives there are fewer
 pub fewer-rows : (rows : List (ℕ × Handle)) (id : ℕ) → lives rows id ≡ true → length (without_row rows id) < length rows
@@ -297,12 +410,30 @@ pub record IsSummed (v : Volume) (client : ℕ) (sum : Sum) : Type 0 where
   pub units : sum.units + all_units v (later_handles v client sum.after) ≡ all_units v (handles_of_client v client)
   pub dirs : sum.dirs + all_dirs v (later_handles v client sum.after) ≡ all_dirs v (handles_of_client v client)
 
-pub IsSummed-first : (v : Volume) (client : ℕ) → All (λ entry. 0 < entry.1.number) v.handles → IsSummed v client (record { after = 0; changes = 0; units = 0; dirs = 0 })
-IsSummed-first v client numbers = let all = later_handles-first v client numbers in record {
-  changes = rw all (omega arith);
-  units = rw all (omega arith);
-  dirs = rw all (omega arith);
-}
+-- the close of the first handle is counted
+pub IsSummed-first : (v : Volume) (client id : ℕ) (sum : Sum) → IsNumbered v.handles v.last_handle → AllPairs (λ a b. is_opened_by b.1.client b.1.number a.1 ≡ false) v.handles
+    → IfSome (row_of v.handles id) (λ row. IsFirst v client row) → lives v.handles id ≡ true
+    → IfSome (row_of v.handles id) (λ row. CountsOne v (record { after = 0; changes = 0; units = 0; dirs = 0 }) sum row) → IsSummed v client sum
+IsSummed-first v client id sum numbered differ first live counts = elim (option_cases (row_of v.handles id)) [
+  | inl none ↦ absurd (lives-found v.handles id live none)
+  | inr some ↦ one some.0 some.1 (rw some.1 at first) (rw some.1 at counts)
+]
+  where
+    one : (row : Handle) → row_of v.handles id ≡ Some row → IsFirst v client row → CountsOne v (record { after = 0; changes = 0; units = 0; dirs = 0 }) sum row → IsSummed v client sum
+    one row found is_first count =
+        let all : handles_of_client v client ≡ (id, row) ∷ later_handles v client sum.after
+        = handles_of_client-first v client id row (record { numbered = numbered; differ = differ; found = found; first = is_first })
+        ∙ ap (λ (after : ℕ). (id, row) ∷ later_handles v client after) (sym count.after) in
+        record {
+          changes = rw all (omega (arith, count.changes));
+          units = rw all (omega (arith, count.units));
+          dirs = rw all (omega (arith, count.dirs));
+        }
+
+-- where the client has no handle there is nothing to sum
+pub none-summed : (v : Volume) (client : ℕ) → has_row (λ row. row.client == client) v.handles ≡ false
+    → (0 ≡ 2 * length (handles_of_client v client)) × (0 ≡ all_units v (handles_of_client v client)) × (0 ≡ all_dirs v (handles_of_client v client))
+none-summed v client none = let all = handles_of_client-none v client none in (rw all refl, rw all refl, rw all refl)
 
 -- the close of the next handle is counted
 pub counted : (v : Volume) (client id : ℕ) (sum more : Sum) → IsNumbered v.handles v.last_handle → AllPairs (λ a b. is_opened_by b.1.client b.1.number a.1 ≡ false) v.handles

@@ -1,9 +1,9 @@
 -- Lists in order: which item comes first, and what filters keep.
-use Rattle.std.proofs.Common.{◌≡◌, ℕ, zero, suc, ◌+◌, ◌<◌, ◌≤◌, Bool, true, false, cond, not, List, [], ◌∷◌, length, get_or, refl, ap, sym, ◌∙◌, arith, inl, inr, Option, Some, None}
+use Rattle.std.proofs.Common.{◌≡◌, ℕ, zero, suc, ◌+◌, ◌<◌, ◌≤◌, Bool, true, false, cond, not, List, [], ◌∷◌, length, get_or, refl, ap, sym, ◌∙◌, arith, inl, inr, Some}
 use Rattle.std.specs.List.{All, AllPairs, filter, find, list_any}
 use Rattle.std.specs.Prelude.{◌==◌, ◌&&◌, ◌||◌, nat_lt}
-use Rattle.std.proofs.lemmas.Bool.{both_ways, cases_Bool, and_cases, and_from, and_parts, or_parts, or_from, not-true, ltb-false, lt-ltb, eqb-false, eqb-true, ne_eqb}
-use Rattle.std.proofs.lemmas.List.Folds.{list_any_at, list_any_none}
+use Rattle.std.proofs.lemmas.Bool.{both_ways, cases_Bool, and_from, or_parts, not-true, ltb-false, lt-ltb, eqb-false, eqb-true, ne_eqb}
+use Rattle.std.proofs.lemmas.List.Folds.{list_any_none}
 use Rattle.fsa_types.specs.Rows.{row_of}
 use Rattle.fsa_types.specs.Sorting.{in_order, put_in_order}
 use Rattle.fsa_model.proofs.RowLaws.{find-any, none-all}

@@ -1,9 +1,9 @@
 -- The room that closes take.
-use Rattle.std.specs.Prelude.{◌≡◌, ℕ, ◌≤◌, ◌+◌, ◌*◌, List, [], ◌∷◌, Option, None, Some, filter, length, nat_lt}
+use Rattle.std.specs.Prelude.{◌≡◌, ℕ, ◌≤◌, ◌+◌, ◌*◌, ◌==◌, ◌&&◌, false, List, [], ◌∷◌, Option, None, Some, filter, length, nat_lt, IsTrue}
 use Rattle.std.specs.Option.{option_map_or}
 use Rattle.fsa_types.specs.Sorting.{in_order}
 use Rattle.fsa_model.specs.Changes.{units_noted, dirs_noted}
-use Rattle.fsa_model.specs.Lookups.{is_after}
+use Rattle.fsa_model.specs.Lookups.{has_row, is_after}
 use Rattle.fsa_model.specs.Volume.{Handle, Volume}
 use Rattle.op_delete.specs.declared.leave.Sum.{Sum}
 use Rattle.volume_state.specs.Seen.{Spare}
@@ -57,6 +57,11 @@ pub record HasRoomForAll (v : Volume) (spare : Spare) (entries : List (ℕ × Ha
 -- the client's handles whose numbers are above this one, by rising number
 abbrev pub later_handles : Volume → ℕ → ℕ → List (ℕ × Handle)
 later_handles v client after = in_order (λ a b. nat_lt a.1.number b.1.number) (filter (λ entry. is_after client after entry.1) v.handles)
+
+-- the handle is the client's, and none of the client's has a lesser number
+pub record IsFirst (v : Volume) (client : ℕ) (row : Handle) : Type 0 where
+  pub of_client : IsTrue (row.client == client)
+  pub least : has_row (λ other. other.client == client && nat_lt other.number row.number) v.handles ≡ false
 
 -- this sum counts one close more, of the handle of this number
 pub record CountsOne (v : Volume) (old new : Sum) (row : Handle) : Type 0 where

@@ -1,6 +1,6 @@
 //! The close of a handle.
 
-ghost use Rattle.std.specs.Prelude.{◌≡◌, ◌≤◌, ◌<◌, ◌+◌, All, IsTrue, None, length};
+ghost use Rattle.std.specs.Prelude.{◌≡◌, ◌≤◌, ◌+◌, IsTrue, None, length};
 ghost use Rattle.fsa_types.specs.Rows.{lives, without_row};
 ghost use Rattle.fsa_model.specs.Close.{close_at, closed_status, is_call_on, pending_by_turn, try_close, with_calls_ended, with_closed, with_mark_on_close, with_swept};
 ghost use Rattle.fsa_model.specs.Edits.{without_handle};
@@ -38,7 +38,6 @@ pub fn bare(row: &HandleRow) -> HandleRow
 
 // The pending calls that name a handle end, and it goes.
 fn take_out(volume: &mut Volume, id: u64, handle: &HandleRow)
-    requires turns { All (λ entry. 0 < entry.0) volume.old.content.pending }
     requires ends { length volume.old.content.pending ≤ volume.old.spare.ends }
     ensures content { volume.new.content ≡ without_handle (with_calls_ended closed_status (pending_by_turn (is_call_on handle.now) volume.old.content) volume.old.content) id }
     ensures handles { volume.new.content.handles ≡ without_row volume.old.content.handles id }
@@ -47,7 +46,6 @@ fn take_out(volume: &mut Volume, id: u64, handle: &HandleRow)
     ensures units { volume.old.spare.units ≤ volume.new.spare.units }
     ensures dirs { volume.old.spare.dirs ≤ volume.new.spare.dirs }
     ensures count { volume.old.spare.ends + length volume.new.content.pending ≤ volume.new.spare.ends + length volume.old.content.pending }
-    ensures turns { All (λ entry. 0 < entry.0) volume.new.content.pending }
 {
     let ending = Ending::OfHandle {
         client: handle.client,
@@ -71,10 +69,9 @@ fn mark_and_sweep(volume: &mut Volume, handle: &HandleRow)
 }
 
 /// Closes a handle: its pending calls end in order of turns, it goes, and then what was to be deleted
-/// with it. Turns count from 1, and there has to be room for all pending calls to end and for two notes.
+/// with it. There has to be room for all pending calls to end and for two notes.
 #[tactic(auto, unfolding(fsa_model::specs::Close::with_closed))]
 pub fn close(volume: &mut Volume, id: u64, handle: &HandleRow)
-    requires turns { All (λ entry. 0 < entry.0) volume.old.content.pending }
     requires ends { length volume.old.content.pending ≤ volume.old.spare.ends }
     requires room { HasSweepRoom volume.old.content volume.old.spare handle.now }
     ensures content { volume.new.content ≡ with_closed volume.old.content id handle.now }
@@ -83,7 +80,6 @@ pub fn close(volume: &mut Volume, id: u64, handle: &HandleRow)
     ensures left { KeepsRoom volume.old.content handle.now volume.old.spare volume.new.spare }
     ensures notes { NotesTakeNoMore volume.old.content volume.new.content }
     ensures count { volume.old.spare.ends + length volume.new.content.pending ≤ volume.new.spare.ends + length volume.old.content.pending }
-    ensures turns { All (λ entry. 0 < entry.0) volume.new.content.pending }
 {
     take_out(volume, id, handle);
     mark_and_sweep(volume, handle);
@@ -91,7 +87,6 @@ pub fn close(volume: &mut Volume, id: u64, handle: &HandleRow)
 
 // This handle is closed, once there is room.
 fn close_row(volume: &mut Volume, id: u64, handle: &HandleRow) -> Tried
-    requires turns { All (λ entry. 0 < entry.0) volume.old.content.pending }
     ensures gives { Gives (ends_with (with_closed volume.old.content id handle.now) status.Success) volume.old.content volume.new.content result }
     ensures room { HasHoldRoom result volume.new.spare }
     ensures ends { volume.old.spare.ends ≤ volume.new.spare.ends + length volume.old.content.pending }
@@ -106,7 +101,6 @@ fn close_row(volume: &mut Volume, id: u64, handle: &HandleRow) -> Tried
 // The handle of this number is closed.
 #[tactic(auto, unfolding(fsa_model::specs::Close::close_at))]
 fn close_at(volume: &mut Volume, id: u64) -> Tried
-    requires turns { All (λ entry. 0 < entry.0) volume.old.content.pending }
     ensures gives { Gives (close_at volume.old.content id) volume.old.content volume.new.content result }
     ensures room { HasHoldRoom result volume.new.spare }
     ensures ends { volume.old.spare.ends ≤ volume.new.spare.ends + length volume.old.content.pending }
@@ -121,7 +115,6 @@ fn close_at(volume: &mut Volume, id: u64) -> Tried
 // A client's handle of this number is closed.
 #[tactic(auto, unfolding(fsa_model::specs::Close::try_close))]
 fn close_named(volume: &mut Volume, client: u32, number: u32) -> Tried
-    requires turns { All (λ entry. 0 < entry.0) volume.old.content.pending }
     ensures gives { Gives (try_close volume.old.content client number) volume.old.content volume.new.content result }
     ensures room { HasHoldRoom result volume.new.spare }
     ensures ends { volume.old.spare.ends ≤ volume.new.spare.ends + length volume.old.content.pending }
@@ -132,8 +125,8 @@ fn close_named(volume: &mut Volume, client: u32, number: u32) -> Tried
     }
 }
 
-/// One try of a close, after [MS-FSA] 'Server Requests Closing an Open'. The call has to be a Close, its
-/// client one of the volume's, and turns count from 1.
+/// One try of a close, after [MS-FSA] 'Server Requests Closing an Open'. The call has to be a Close, and
+/// its client one of the volume's.
 ///
 /// `Done` with the reply, as the definition says; never `Hold` or `Stay`. Of the room for ends it uses no
 /// more than one for each call that was pending. `NoMemory` changes nothing. A close needs neither

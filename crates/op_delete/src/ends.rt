@@ -1,8 +1,10 @@
 //! Pending calls that end with a handle, or with a client that leaves.
 
-ghost use Rattle.std.specs.Prelude.{◌≡◌, ◌≤◌, ◌<◌, ◌+◌, ◌==◌, ◌&&◌, All, IsTrue, length};
+ghost use Rattle.std.specs.Prelude.{◌≡◌, ◌≤◌, ◌+◌, ◌==◌, ◌&&◌, [], false, nat_lt, IfNone, IfSome, IsTrue, length};
+ghost use Rattle.std.specs.List.{list_any};
 ghost use Rattle.fsa_types.specs.Rows.{lives};
 ghost use Rattle.fsa_model.specs.Close.{closed_status, handle_named, is_open_or_wait, names};
+ghost use Rattle.fsa_model.specs.Sound.{ArePending};
 ghost use Rattle.op_delete.specs.Ends.{end_status, ends_call, with_ended, with_turn_ended};
 
 use fsa_types::{Body, Call, Reply, Request, Status, What};
@@ -142,18 +144,35 @@ fn end_turn(volume: &mut Volume, ending: Ending, turn: u64)
     );
 }
 
-/// The pending calls of this kind end, in order of turns. Turns count from 1, and there has to be room
-/// for as many ends as there are pending calls.
+// The least turn under which a call is pending; `None` exactly where none is. `next_pending` looks above
+// a turn, so turn 0 is asked for by itself.
+fn first_pending(volume: &Volume) -> Option<u64>
+    ensures sound { ArePending volume.now.content.clients volume.now.content.pending }
+    ensures lives { IfSome result (λ turn. IsTrue (lives volume.now.content.pending turn)) }
+    ensures least { IfSome result (λ turn. list_any (λ entry. nat_lt entry.0 turn) volume.now.content.pending ≡ false) }
+    ensures none { IfNone result (volume.now.content.pending ≡ []) }
+{
+    let later = volume.next_pending(0);
+    match volume.pending(0) {
+        Some(_) => Some(0),
+        None => later,
+    }
+}
+
+/// The pending calls of this kind end, in order of turns. There has to be room for as many ends as there
+/// are pending calls.
 pub fn end_calls(volume: &mut Volume, ending: Ending)
-    requires turns { All (λ entry. 0 < entry.0) volume.old.content.pending }
     requires room { length volume.old.content.pending ≤ volume.old.spare.ends }
     ensures content { volume.new.content ≡ with_ended ending volume.old.content }
     ensures rest { volume.new.content ≡ record volume.old.content { pending = volume.new.content.pending; ended = volume.new.content.ended } }
     ensures others { volume.new.spare ≡ record volume.old.spare { ends = volume.new.spare.ends; pending = volume.new.spare.pending; blockers = volume.new.spare.blockers } }
     ensures count { volume.old.spare.ends + length volume.new.content.pending ≤ volume.new.spare.ends + length volume.old.content.pending }
-    ensures turns { All (λ entry. 0 < entry.0) volume.new.content.pending }
 {
-    let mut after = 0;
+    let Some(first) = first_pending(volume) else {
+        return;
+    };
+    end_turn(volume, ending, first);
+    let mut after = first;
     'turns: while let Some(turn) = volume.next_pending(after) {
         end_turn(volume, ending, turn);
         after = turn;

@@ -1,13 +1,14 @@
 //! A client that leaves.
 
-ghost use Rattle.std.specs.Prelude.{◌≡◌, ◌≤◌, ◌<◌, ◌+◌, ◌*◌, All, IsTrue, IfSome, OnOk, length};
+ghost use Rattle.std.specs.Prelude.{◌≡◌, ◌≤◌, ◌<◌, ◌+◌, ◌*◌, ◌==◌, false, AllPairs, IsTrue, IfNone, IfSome, OnOk, length};
 ghost use Rattle.std.specs.Option.{option_map_or};
-ghost use Rattle.fsa_types.specs.Rows.{lives, row_of, without_row};
+ghost use Rattle.fsa_types.specs.Rows.{IsNumbered, lives, row_of, without_row};
 ghost use Rattle.fsa_model.specs.Close.{handles_of_client, try_leave, with_all_closed, with_client_gone, with_closed};
+ghost use Rattle.fsa_model.specs.Lookups.{has_row, is_opened_by};
 ghost use Rattle.fsa_model.specs.Outcome.{ends_with};
 ghost use Rattle.op_delete.specs.Calls.{IsLeave, asked_leave};
 ghost use Rattle.op_delete.specs.Conditions.{MayLeave};
-ghost use Rattle.op_delete.specs.Room.{CountsOne, HasRoomForAll, HasSweepRoom, KeepsRoom, NotesTakeNoMore, all_dirs, all_units, close_dirs, close_units};
+ghost use Rattle.op_delete.specs.Room.{CountsOne, HasRoomForAll, HasSweepRoom, IsFirst, KeepsRoom, NotesTakeNoMore, all_dirs, all_units, close_dirs, close_units};
 ghost use Rattle.volume_state.specs.Tried.{Gives, HasHoldRoom};
 
 use crate::close::{bare, close};
@@ -47,19 +48,38 @@ fn with_close_of(volume: &Volume, sum: Sum, id: u64) -> Option<Sum>
     with_close(volume, sum, row)
 }
 
+// The client's handle of the least number; `None` exactly where it has none. `next_handle_of` looks above
+// a number, so number 0 is asked for by itself.
+fn first_handle_of(volume: &Volume, client: u32) -> Option<u64>
+    ensures numbers { IsNumbered volume.now.content.handles volume.now.content.last_handle }
+    ensures differ { AllPairs (λ a b. is_opened_by b.1.client b.1.number a.1 ≡ false) volume.now.content.handles }
+    ensures lives { IfSome result (λ id. IsTrue (lives volume.now.content.handles id)) }
+    ensures first { IfSome result (λ id. IfSome (row_of volume.now.content.handles id) (λ row. IsFirst volume.now.content client row)) }
+    ensures none { IfNone result (has_row (λ row. row.client == client) volume.now.content.handles ≡ false) }
+{
+    let later = volume.next_handle_of(client, 0);
+    match volume.handle_of(client, 0) {
+        Some(id) => Some(id),
+        None => later,
+    }
+}
+
 // The room for the closes of all handles of a client; `None` where it is more than can be told.
 fn sum_of_closes(volume: &Volume, client: u32) -> Option<Sum>
-    requires numbers { All (λ entry. 0 < entry.1.number) volume.now.content.handles }
     ensures changes { IfSome result (λ sum. sum.changes ≡ 2 * length (handles_of_client volume.now.content client)) }
     ensures units { IfSome result (λ sum. sum.units ≡ all_units volume.now.content (handles_of_client volume.now.content client)) }
     ensures dirs { IfSome result (λ sum. sum.dirs ≡ all_dirs volume.now.content (handles_of_client volume.now.content client)) }
 {
-    let mut sum = Sum {
+    let nothing = Sum {
         after: 0,
         changes: 0,
         units: 0,
         dirs: 0,
     };
+    let Some(first) = first_handle_of(volume, client) else {
+        return Some(nothing);
+    };
+    let mut sum = with_close_of(volume, nothing, first)?;
     'handles: while let Some(id) = volume.next_handle_of(client, sum.after) {
         sum = with_close_of(volume, sum, id)?;
     }
@@ -68,7 +88,6 @@ fn sum_of_closes(volume: &Volume, client: u32) -> Option<Sum>
 
 // What a leaving needs.
 fn need_to_leave(volume: &Volume, client: u32) -> Option<Need>
-    requires numbers { All (λ entry. 0 < entry.1.number) volume.now.content.handles }
     ensures ends { IfSome result (λ need. need.ends ≡ length volume.now.content.pending) }
     ensures changes { IfSome result (λ need. need.changes ≡ 2 * length (handles_of_client volume.now.content client)) }
     ensures units { IfSome result (λ need. need.units ≡ all_units volume.now.content (handles_of_client volume.now.content client)) }
@@ -87,7 +106,6 @@ fn need_to_leave(volume: &Volume, client: u32) -> Option<Need>
 
 // Takes the room for a leaving: for the ends of all pending calls, and for two notes of each handle.
 fn room_to_leave(volume: &mut Volume, client: u32) -> Result<(), NoMemory>
-    requires numbers { All (λ entry. 0 < entry.1.number) volume.old.content.handles }
     ensures content { volume.new.content ≡ volume.old.content }
     ensures kept { volume.old.spare.ends ≤ volume.new.spare.ends }
     ensures ends { OnOk result (length volume.new.content.pending ≤ volume.new.spare.ends) }
@@ -102,7 +120,6 @@ fn room_to_leave(volume: &mut Volume, client: u32) -> Result<(), NoMemory>
 // Closes the handle of this number, which there has to be.
 fn close_one(volume: &mut Volume, id: u64)
     requires lives { IsTrue (lives volume.old.content.handles id) }
-    requires turns { All (λ entry. 0 < entry.0) volume.old.content.pending }
     requires ends { length volume.old.content.pending ≤ volume.old.spare.ends }
     requires room { IfSome (row_of volume.old.content.handles id) (λ row. HasSweepRoom volume.old.content volume.old.spare row) }
     ensures content { volume.new.content ≡ option_map_or (λ row. with_closed volume.old.content id row) (row_of volume.old.content.handles id) volume.old.content }
@@ -111,7 +128,6 @@ fn close_one(volume: &mut Volume, id: u64)
     ensures left { IfSome (row_of volume.old.content.handles id) (λ row. KeepsRoom volume.old.content row volume.old.spare volume.new.spare) }
     ensures notes { NotesTakeNoMore volume.old.content volume.new.content }
     ensures count { volume.old.spare.ends + length volume.new.content.pending ≤ volume.new.spare.ends + length volume.old.content.pending }
-    ensures turns { All (λ entry. 0 < entry.0) volume.new.content.pending }
 {
     let Some(row) = volume.handle(id) else {
         unreachable!()
@@ -122,15 +138,13 @@ fn close_one(volume: &mut Volume, id: u64)
 
 // Closes a client's handles, by rising number.
 fn close_all(volume: &mut Volume, client: u32)
-    requires numbers { All (λ entry. 0 < entry.1.number) volume.old.content.handles }
-    requires turns { All (λ entry. 0 < entry.0) volume.old.content.pending }
     requires ends { length volume.old.content.pending ≤ volume.old.spare.ends }
     requires room { HasRoomForAll volume.old.content volume.old.spare (handles_of_client volume.old.content client) }
     ensures content { volume.new.content ≡ with_all_closed (handles_of_client volume.old.content client) volume.old.content }
     ensures clients { volume.new.content.clients ≡ volume.old.content.clients }
     ensures count { volume.old.spare.ends + length volume.new.content.pending ≤ volume.new.spare.ends + length volume.old.content.pending }
 {
-    'handles: while let Some(id) = volume.next_handle_of(client, 0) {
+    'handles: while let Some(id) = first_handle_of(volume, client) {
         close_one(volume, id);
     }
 }
@@ -138,8 +152,6 @@ fn close_all(volume: &mut Volume, client: u32)
 // The client's opens and waits end, its handles are closed, and it has left.
 fn client_gone(volume: &mut Volume, client: u32)
     requires client { client < length volume.old.content.clients }
-    requires numbers { All (λ entry. 0 < entry.1.number) volume.old.content.handles }
-    requires turns { All (λ entry. 0 < entry.0) volume.old.content.pending }
     requires ends { length volume.old.content.pending ≤ volume.old.spare.ends }
     requires room { HasRoomForAll volume.old.content volume.old.spare (handles_of_client volume.old.content client) }
     ensures content { volume.new.content ≡ with_client_gone volume.old.content client }
@@ -166,8 +178,8 @@ fn leave(volume: &mut Volume, client: u32) -> Tried
 }
 
 /// One try of a leaving: the client's pending opens and waits end, and its handles are closed, which is
-/// [MS-FSA] 'Server Requests Closing an Open' for each. The call has to be a `Leave`, its client one of
-/// the volume's, and turns and numbers count from 1.
+/// [MS-FSA] 'Server Requests Closing an Open' for each. The call has to be a `Leave`, and its client one
+/// of the volume's.
 ///
 /// `Done` with the reply, as the definition says; never `Hold` or `Stay`. Of the room for ends it uses no
 /// more than one for each call that was pending. `NoMemory` changes nothing. A leaving needs neither

@@ -13,13 +13,12 @@
 //! handle or a client (`ends`), what DELETE_ON_CLOSE marks (`marks`), what goes with its last handle
 //! (`sweep`), the room that is taken first (`room`), a close (`close`), and a leaving (`leave`).
 //!
-//! - The call has to be a Close, or a `Leave`, its client one of the volume's, and turns and the numbers of
-//!   handles count from 1. Pending calls, locks, oplocks, watches and marks may be there.
+//! - The call has to be a Close, or a `Leave`, and its client one of the volume's. Pending calls, locks,
+//!   oplocks, watches and marks may be there.
 //! - All room is taken before the first change: as many ends as calls are pending, and two notes for each
 //!   handle that is closed. What is noted later takes no more room than it would have taken then.
-//! - A close costs a look through the pending calls for each of them, a few through the other tables, and
-//!   its notes a look through the links for each directory above; a leaving costs that for each handle of
-//!   the client.
+//! - A close costs a look through the pending calls for each of them, and a few through the other tables;
+//!   a leaving costs that for each handle of the client.
 #![tactic(auto)]
 
 mod close;

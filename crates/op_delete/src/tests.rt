@@ -31,7 +31,7 @@ fn setup(alloc: Global) -> Result<Setup, NoMemory>
 // A volume with the root alone, and one client.
 fn fresh_volume(alloc: Global) -> Result<Volume, NoMemory>
     ensures numbers { IfOk result (λ v. (v.content.last_file ≡ 1) × (v.content.last_link ≡ 0) × (v.content.last_stream ≡ 0) × (v.content.last_handle ≡ 0)) }
-    ensures rows { IfOk result (λ v. (v.content.handles ≡ []) × (v.content.pending ≡ [])) }
+    ensures rows { IfOk result (λ v. v.content.handles ≡ []) }
     ensures client { IfOk result (λ v. length v.content.clients ≡ 1) }
 {
     let setup = setup(alloc)?;
@@ -58,11 +58,9 @@ fn file() -> FileRow
 // A file of this name in the root, opened with DELETE_ON_CLOSE by the client's first call.
 fn open_file(volume: &mut Volume, name: Name, default: Name) -> Result<(), NoMemory>
     requires ids_left { (volume.old.content.last_file < 2 ^ 32 - 4) × (volume.old.content.last_link < 2 ^ 32 - 4) × (volume.old.content.last_stream < 2 ^ 32 - 4) × (volume.old.content.last_handle < 2 ^ 32 - 4) }
-    requires rows { (volume.old.content.handles ≡ []) × (volume.old.content.pending ≡ []) }
+    requires rows { volume.old.content.handles ≡ [] }
     requires client { length volume.old.content.clients ≡ 1 }
     requires new { child_of volume.old.content 1 name ≡ None }
-    ensures pending { OnOk result (volume.new.content.pending ≡ []) }
-    ensures handles { OnOk result (All (λ entry. 0 < entry.1.number) volume.new.content.handles) }
     ensures client { OnOk result (length volume.new.content.clients ≡ 1) }
 {
     let root = volume.root();

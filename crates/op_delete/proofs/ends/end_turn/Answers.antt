@@ -1,4 +1,4 @@
-use Rattle.std.proofs.Common.{◌≡◌, ◌≤◌, ◌+◌, sym, arith, length}
+use Rattle.std.proofs.Common.{sym, arith}
 use Rattle.op_delete.proofs.EndLaws.{pending-fewer}
 use Rattle.op_delete.proofs.ends.end_turn.Goals as goal
 
