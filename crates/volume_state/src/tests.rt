@@ -46,8 +46,8 @@ fn row(is_directory: bool) -> FileRow
 
 // A volume with the root alone, and one client.
 fn fresh_volume(alloc: Global) -> Result<Volume, NoMemory>
-    ensures numbers { IfOk result (λ v. (v.content.last_file ≡ 1) × (v.content.last_link ≡ 0) × (v.content.last_stream ≡ 0) × (v.content.last_handle ≡ 0)) }
-    ensures client { IfOk result (λ v. length v.content.clients ≡ 1) }
+    ensures numbers { IfOk result (λ v. (v.content.last_file < 2 ^ 32 - 8) × (v.content.last_link < 2 ^ 32 - 8) × (v.content.last_stream < 2 ^ 32 - 8) × (v.content.last_handle < 2 ^ 32 - 8)) }
+    ensures client { IfOk result (λ v. 0 < length v.content.clients) }
 {
     let setup = setup(alloc)?;
     Volume::new(alloc, setup)
@@ -125,11 +125,12 @@ fn file_in(
     Ok(())
 }
 
-#[test]
-fn memory_is_there(rt: HostRuntime) -> Result<(), Fail> {
-    let alloc = rt.alloc();
-    let mut volume = fresh_volume(alloc)?;
-    let need = Need {
+// Whether there is memory for each call that takes it, on a volume with the root alone.
+fn takes_room(alloc: Global, volume: &mut Volume) -> Result<bool, Fail>
+    requires ids_left { (volume.old.content.last_file < 2 ^ 32 - 4) × (volume.old.content.last_link < 2 ^ 32 - 4) × (volume.old.content.last_stream < 2 ^ 32 - 4) × (volume.old.content.last_handle < 2 ^ 32 - 4) }
+    requires client { 0 < length volume.old.content.clients }
+{
+    let reserved = volume.reserve(&Need {
         files: 3,
         links: 3,
         streams: 2,
@@ -144,25 +145,32 @@ fn memory_is_there(rt: HostRuntime) -> Result<(), Fail> {
         dirs: 4,
         parent: 1,
         ..Need::nothing()
-    };
-    assert_eq!(rt; volume.reserve(&need), Ok(()));
+    });
     let root = volume.root();
-    file_in(alloc, &mut volume, root, &[99], &[])?;
+    file_in(alloc, volume, root, &[99], &[])?;
     let Some(stream) = volume.stream_of(2, &[]) else {
-        return Err(Fail::from("the file has its default stream"));
+        return Ok(false);
     };
-    assert_eq!(rt; volume.reserve_bytes(stream, 2, 3), Ok(()));
+    Ok(reserved.is_ok() && volume.reserve_bytes(stream, 2, 3).is_ok())
+}
+
+#[test]
+fn memory_is_there(rt: HostRuntime) -> Result<(), Fail> {
+    let mut volume = fresh_volume(rt.alloc())?;
+    let taken = takes_room(rt.alloc(), &mut volume)?;
+    assert!(rt; taken);
     Ok(())
 }
 
-// The volume with the file `\a\b\c` that has the stream `s`, and its changes.
-fn nested(alloc: Global) -> Result<Volume, Fail> {
-    let mut volume = fresh_volume(alloc)?;
+// Makes the file `\a\b\c` that has the stream `s`, on a volume with the root alone.
+fn nest(alloc: Global, volume: &mut Volume) -> Result<(), Fail>
+    requires ids_left { (volume.old.content.last_file < 2 ^ 32 - 8) × (volume.old.content.last_link < 2 ^ 32 - 8) × (volume.old.content.last_stream < 2 ^ 32 - 8) × (volume.old.content.last_handle < 2 ^ 32 - 8) }
+    requires client { 0 < length volume.old.content.clients }
+{
     let root = volume.root();
-    let a = directory_in(alloc, &mut volume, root, &[97])?;
-    let b = directory_in(alloc, &mut volume, a, &[98])?;
-    file_in(alloc, &mut volume, b, &[99], &[115])?;
-    Ok(volume)
+    let a = directory_in(alloc, volume, root, &[97])?;
+    let b = directory_in(alloc, volume, a, &[98])?;
+    file_in(alloc, volume, b, &[99], &[115])
 }
 
 // How many changes were noted, and from how many directories they are seen in all.
@@ -187,40 +195,46 @@ fn is_seen(volume: &Volume, place: usize, ancestor: usize, dir: u64, name: &[u16
     *seen_from == dir && *written == name.len() && units.take(*written).eq(name.iter().rev())
 }
 
+// Whether the changes of that file are seen so: `c`, `b\c` and `a\b\c`, and each with `:s`.
+fn are_seen(volume: &Volume) -> bool {
+    is_seen(volume, 0, 0, 3, &[99])
+        && is_seen(volume, 0, 1, 2, &[98, 92, 99])
+        && is_seen(volume, 0, 2, 1, &[97, 92, 98, 92, 99])
+        && is_seen(volume, 1, 0, 3, &[99, 58, 115])
+        && is_seen(volume, 1, 1, 2, &[98, 92, 99, 58, 115])
+        && is_seen(volume, 1, 2, 1, &[97, 92, 98, 92, 99, 58, 115])
+}
+
 #[test]
-fn a_change_is_seen_from_each_ancestor(rt: HostRuntime) -> Result<(), Fail> {
-    let volume = nested(rt.alloc())?;
-    // `c`, `b\c` and `a\b\c`
-    assert!(rt; is_seen(&volume, 0, 0, 3, &[99]));
-    assert!(rt; is_seen(&volume, 0, 1, 2, &[98, 92, 99]));
-    assert!(rt; is_seen(&volume, 0, 2, 1, &[97, 92, 98, 92, 99]));
+fn changes_are_seen_from_each_ancestor(rt: HostRuntime) -> Result<(), Fail> {
+    let mut volume = fresh_volume(rt.alloc())?;
+    nest(rt.alloc(), &mut volume)?;
+    assert!(rt; are_seen(&volume));
     assert_eq!(rt; noted(&volume), (2, 6));
     Ok(())
 }
 
-#[test]
-fn a_stream_is_seen_behind_its_file(rt: HostRuntime) -> Result<(), Fail> {
-    let volume = nested(rt.alloc())?;
-    // `c:s`, `b\c:s` and `a\b\c:s`
-    assert!(rt; is_seen(&volume, 1, 0, 3, &[99, 58, 115]));
-    assert!(rt; is_seen(&volume, 1, 1, 2, &[98, 92, 99, 58, 115]));
-    assert!(rt; is_seen(&volume, 1, 2, 1, &[97, 92, 98, 92, 99, 58, 115]));
-    Ok(())
-}
-
-#[test]
-fn a_note_of_the_root_notes_nothing(rt: HostRuntime) -> Result<(), Fail> {
-    let mut volume = fresh_volume(rt.alloc())?;
+// Whether a note of the root takes no room and notes nothing.
+fn notes_nothing(volume: &mut Volume) -> Result<bool, Fail> {
     let Some(room) = volume.note_room(0, None) else {
-        return Err(Fail::from("the root takes no room"));
+        return Ok(false);
     };
-    assert_eq!(rt; (room.units, room.dirs), (0, 0));
+    if room.units != 0 || room.dirs != 0 {
+        return Ok(false);
+    }
     volume.reserve(&Need {
         changes: 1,
         ..Need::nothing()
     })?;
     volume.note(0, 1, 1, None);
-    assert_eq!(rt; noted(&volume), (0, 0));
+    Ok(noted(volume) == (0, 0))
+}
+
+#[test]
+fn a_note_of_the_root_notes_nothing(rt: HostRuntime) -> Result<(), Fail> {
+    let mut volume = fresh_volume(rt.alloc())?;
+    let nothing = notes_nothing(&mut volume)?;
+    assert!(rt; nothing);
     Ok(())
 }
 
@@ -278,20 +292,33 @@ fn stream_in(
     Ok(())
 }
 
+// Two owners' files, one with streams of none and of 4,097 bytes, one with a stream of one byte.
+fn make_streams(alloc: Global, volume: &mut Volume) -> Result<(), Fail>
+    requires ids_left { (volume.old.content.last_file < 2 ^ 32 - 8) × (volume.old.content.last_stream < 2 ^ 32 - 8) }
+{
+    let first = file_of(volume, 7)?;
+    stream_in(alloc, volume, first, &[], 0)?;
+    stream_in(alloc, volume, first, &[115], 4097)?;
+    let second = file_of(volume, 9)?;
+    stream_in(alloc, volume, second, &[], 1)
+}
+
+// The clusters of all streams, and what two owners and a third are charged.
+fn charges(volume: &Volume) -> (u64, u64, u64, u64) {
+    (
+        volume.clusters(),
+        volume.charge(7),
+        volume.charge(9),
+        volume.charge(8),
+    )
+}
+
 #[test]
 fn an_owner_is_charged_whole_clusters(rt: HostRuntime) -> Result<(), Fail> {
-    let alloc = rt.alloc();
-    let mut volume = fresh_volume(alloc)?;
-    let first = file_of(&mut volume, 7)?;
-    stream_in(alloc, &mut volume, first, &[], 0)?;
-    stream_in(alloc, &mut volume, first, &[115], 4097)?;
-    let second = file_of(&mut volume, 9)?;
-    stream_in(alloc, &mut volume, second, &[], 1)?;
+    let mut volume = fresh_volume(rt.alloc())?;
+    make_streams(rt.alloc(), &mut volume)?;
     // none, 2 and 1
-    assert_eq!(rt; volume.clusters(), 3);
-    assert_eq!(rt; volume.charge(7), 8192);
-    assert_eq!(rt; volume.charge(9), 4096);
-    assert_eq!(rt; volume.charge(8), 0);
+    assert_eq!(rt; charges(&volume), (3, 8192, 4096, 0));
     assert_eq!(rt; volume.limit(7), 18446744073709551615);
     Ok(())
 }
