@@ -9,7 +9,7 @@
 //! let row = table.get(id);            // Some, until `remove(id)`
 //! ```
 //!
-//! It asks of its caller that fewer than 2^32 numbers were given. Adding takes constant time;
+//! It asks of its caller that fewer than 2^64 - 1 numbers were given. Adding takes constant time;
 //! looking up, changing and removing take time linear in the rows.
 #![tactic(auto)]
 

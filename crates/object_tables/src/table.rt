@@ -60,9 +60,9 @@ impl<T: Drop> Table<T> {
 
     /// Adds a row and gives its number, one more than the last one given. It takes memory only
     /// where there is no spare room. `NoMemory` hands the row back, and nothing has changed.
-    /// Fewer than 2^32 numbers have to be given so far.
+    /// Fewer than 2^64 - 1 numbers have to be given so far.
     pub fn add(&mut self, row: T) -> Result<u64, (T, NoMemory)>
-        requires { self.old.last < 2 ^ 32 }
+        requires { self.old.last + 1 < 2 ^ 64 }
         ensures id { IfOk result (λ id. id ≡ self.old.last + 1) }
         ensures rows { OnOk result (self.new.rows ≡ self.old.rows ++ (self.old.last + 1, row) ∷ []) }
         ensures last { OnOk result (self.new.last ≡ self.old.last + 1) }

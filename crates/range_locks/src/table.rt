@@ -1,6 +1,7 @@
 //! The table of the ranges that are held.
 
-ghost use Rattle.std.specs.Prelude.{◌≡◌, ◌==◌, ◌≤◌, ◌+◌, ◌++◌, ◌∷◌, [], length, count_by, position, IfOk, IsOk, OnOk, OnErr};
+ghost use Rattle.std.specs.Prelude.{◌≡◌, ◌==◌, ◌≤◌, ◌+◌, ◌++◌, ◌∷◌, [], not, filter, length, count_by, position, IfOk, IsOk, OnOk, OnErr};
+ghost use Rattle.std.specs.Vec.{vec_capacity};
 ghost use Rattle.fsa_types.specs.Ranges.{without_first};
 ghost use Rattle.fsa_types.specs.BoundedList.{full};
 ghost use Rattle.range_locks.specs.RangeTable.{conflicts, is_range, is_of, first_id, blockers_of};
@@ -144,6 +145,24 @@ impl RangeTable {
             Some(place) => Some(self.ranges.remove(place).id),
         }
     }
+
+    /// Takes all ranges of this handle out. It takes no memory, and leaves the spare room as it was or
+    /// larger.
+    pub fn remove_all_of(&mut self, handle: u64)
+        ensures ranges { self.new.ranges ≡ filter (λ range. not (is_of handle range)) self.old.ranges }
+        ensures room { self.old.room ≤ self.new.room }
+    {
+        remove_all_of(&mut self.ranges, handle);
+    }
+}
+
+// Takes all ranges of this handle out.
+fn remove_all_of(ranges: &mut Vec<Range>, handle: u64)
+    ensures ranges { ranges.new.items ≡ filter (λ range. not (is_of handle range)) ranges.old.items }
+    ensures few { length ranges.new.items ≤ length ranges.old.items }
+    ensures room { vec_capacity ranges.new ≡ vec_capacity ranges.old }
+{
+    ranges.retain(|range| range.handle != handle);
 }
 
 // The place of the first range of this handle with exactly this place and count.

@@ -235,3 +235,15 @@ fn first_of_equal_ranges_goes_first(rt: HostRuntime) -> Result<(), Fail> {
     assert!(rt; table.is_empty());
     Ok(())
 }
+
+#[test]
+fn all_ranges_of_a_handle_go_together(rt: HostRuntime) -> Result<(), Fail> {
+    let mut table = held(rt.alloc()).ok().ok_or("no memory")?;
+    table.remove_all_of(3);
+    assert_eq!(rt; table.len(), 7);
+    table.remove_all_of(2);
+    assert_eq!(rt; table.len(), 3);
+    assert_eq!(rt; table.remove_any_of(2), None);
+    assert_eq!(rt; table.remove_any_of(1), Some(1));
+    Ok(())
+}
