@@ -2,6 +2,5 @@ pub mod Changes
 pub mod Cursors
 pub mod Effects
 pub mod Infos
-pub mod LinkTable
 pub mod Noting
 pub mod Streams

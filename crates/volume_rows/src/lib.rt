@@ -13,7 +13,7 @@
 //! changes.note(links, 1, name, None, action, bits);   // takes no memory
 //! ```
 //!
-//! The calls group so: links (`LinkTable`, with the room for more in each directory, and `find_child`,
+//! The calls group so: links (`find_child`,
 //! `find_link_of`, `find_link_number`, `has_link`, `has_child`); files (`has_directory`, `FileRow::set_basic`,
 //! `set_owner`, `set_dacl`); handles (`find_handle`, `find_next`,
 //! `count_on`, `is_one_of`, `some_clashes`); streams (`find_stream`, `is_stream_of`, and `StreamRow` with
@@ -38,7 +38,6 @@ mod effects;
 mod growth;
 mod handles;
 mod kinds;
-mod link_table;
 mod links;
 mod noting;
 mod opens;
@@ -52,7 +51,6 @@ pub use effects::{BreakEffect, effect, is_awaited, is_same_key};
 pub use growth::{charge_for, sum_of_clusters};
 pub use handles::find_handle;
 pub use kinds::has_directory;
-pub use link_table::LinkTable;
 pub use links::{find_child, find_link_number, find_link_of, has_child, has_link};
 pub use noting::Changes;
 pub use opens::{count_on, find_next, is_one_of, some_clashes};

@@ -115,17 +115,6 @@ row_of-filter {R} keep (x ∷ xs) id rising living =
       ]
     ]
 
-pub row_of-without : {R : Type 0} (rows : List (ℕ × R)) (id other : ℕ) → (other == id) ≡ false → row_of (without_row rows id) other ≡ row_of rows other
-row_of-without [] id other differ = refl
-row_of-without (x ∷ xs) id other differ =
-    elim (cases_Bool (x.0 == other)) [
-      | inl here ↦ (let is : x.0 ≡ other = eqb-true _ _ here in let kept : (x.0 == id) ≡ false = ap (λ i. i == id) is ∙ differ in rw (kept, here) refl)
-      | inr on ↦ elim (cases_Bool (x.0 == id)) [
-        | inl gone ↦ rw (gone, on) (row_of-without xs id other differ)
-        | inr kept ↦ rw (kept, on) (row_of-without xs id other differ)
-      ]
-    ]
-
 -- where one is put in
 pub row_of-before : {R : Type 0} (rows : List (ℕ × R)) (entry : ℕ × R) (other : ℕ) → (other == entry.0) ≡ false → row_of (rows ++ entry ∷ []) other ≡ row_of rows other
 row_of-before {R} rows entry other differ =

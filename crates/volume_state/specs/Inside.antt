@@ -3,7 +3,7 @@
 use Rattle.std.specs.Prelude.{[], ◌^◌, map}
 use Rattle.fsa_model.specs.Setup.{client_of}
 use Rattle.fsa_model.specs.Volume.{Volume}
-use Rattle.volume_state.specs.Seen.{Beside, Rooms, Spare}
+use Rattle.volume_state.specs.Seen.{Beside, Spare}
 use Rattle.volume_state.specs.declared.volume.Volume.TheInside.{Inside}
 
 abbrev pub content_of : Inside → Volume
@@ -14,7 +14,7 @@ content_of v = record {
   links = v.links.rows;
   streams = map (λ entry. (entry.0, entry.1.stream)) v.streams.rows;
   handles = v.handles.rows;
-  locks = [];
+  locks = v.handles.locks;
   oplocks = v.oplocks.rows;
   pending = v.pending.items;
   ended = v.ended.items;
@@ -27,16 +27,12 @@ content_of v = record {
   last_link = v.links.last;
   last_stream = v.streams.last;
   last_handle = v.handles.last;
-  last_lock = 0;
+  last_lock = v.handles.last_lock;
   last_break = v.oplocks.last;
 }
 
 abbrev pub beside_of : Inside → Beside
 beside_of v = record { base = 0; waited = v.oplocks.waited }
-
--- no lock can be put in yet, so there is room for all that can be asked
-abbrev pub unbounded : Rooms
-unbounded = record { own = []; others = 2 ^ 64 }
 
 abbrev pub spare_of : Inside → Spare
 spare_of v = record {
@@ -45,7 +41,7 @@ spare_of v = record {
   streams = v.streams.room;
   handles = v.handles.room;
   owners = 2 ^ 64;
-  locks = unbounded;
+  locks = record { own = v.handles.rooms; others = 0 };
   oplocks = record { own = []; others = v.oplocks.room };
   watches = v.watches.room;
   limits = v.limits.room;

@@ -1,13 +1,13 @@
 -- Room that was asked for, and room that stays.
-use Rattle.std.specs.Prelude.{◌≡◌, ℕ, ◌≤◌, Option, Some, option_and_then}
-use Rattle.fsa_types.specs.Rows.{row_of}
+use Rattle.std.specs.Prelude.{◌≡◌, ℕ, ◌≤◌, Option, Some}
 use Rattle.fsa_model.specs.Volume.{Volume}
 use Rattle.volume_rows.specs.declared.rows.Need.{Need}
 use Rattle.volume_state.specs.Seen.{Spare, room_for, CanWrite}
+use Rattle.volume_tables.specs.HandleTable as table
 
 -- the stream of a handle, where it has one
 abbrev pub stream_of_handle : Volume → ℕ → Option ℕ
-stream_of_handle v handle = option_and_then (λ row. row.stream) (row_of v.handles handle)
+stream_of_handle v handle = table.stream_of_handle v.handles handle
 
 -- there is all the room that is needed
 pub record HasRoom (v : Volume) (spare : Spare) (need : Need) : Type 0 where

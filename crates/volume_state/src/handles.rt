@@ -47,10 +47,7 @@ impl Volume {
         ensures left { self.old.spare.handles ≤ self.new.spare.handles + 1 }
         ensures id { result ≡ self.old.content.last_handle + 1 }
     {
-        let Ok(id) = self.handles.add(row) else {
-            unreachable!()
-        };
-        id
+        self.handles.add(row)
     }
 
     /// Takes a handle out, with its locks, its oplock and break, and its watch.
@@ -59,7 +56,7 @@ impl Volume {
         ensures beside { self.new.beside ≡ self.old.beside }
         ensures room { IsNoLess self.old.spare self.new.spare }
     {
-        let _ = self.handles.remove(handle);
+        self.handles.remove(handle);
         self.oplocks.drop_of(handle);
         drop_watch(&mut self.watches, handle);
     }

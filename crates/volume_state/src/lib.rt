@@ -1,6 +1,7 @@
 //! The volume: files, links, streams and handles, with all that belongs to them, always sound, behind
 //! calls that each change exactly one named thing. It knows no algorithm of [MS-FSA]; the crates of
-//! the verbs stand on it. Its rows and the scans over them are those of `volume_rows`.
+//! the verbs stand on it. Its rows and the scans over them are those of `volume_rows`,
+//! and its links, handles and locks stand in the tables of `volume_tables`.
 //!
 //! Memory is taken first, and what changes the volume then can't be refused:
 //!
@@ -36,8 +37,7 @@
 //! look through the links for each directory above. A break costs what `volume_breaks` says.
 //!
 //! Caveats: no call puts an oplock, a watch, a limit or a pending call in yet. The calls that look for
-//! them, break them and take them out are whole all the same, for any that there are. There are no
-//! locks yet.
+//! them, break them and take them out are whole all the same, for any that there are.
 #![tactic(auto)]
 
 mod files;

@@ -1,14 +1,18 @@
-//! A file made in a directory and opened, step by step: that one reservation covers all steps is proved.
+//! A file made in a directory, one opened, and ranges locked, step by step: that one reservation covers
+//! all steps is proved.
 
 ghost use Rattle.std.specs.Prelude.{ℕ, List, ◌≡◌, ◌≤◌, ◌<◌, ◌+◌, ◌-◌, ◌*◌, ◌^◌, ◌==◌, ◌&&◌, IsTrue, IfSome, OnOk, OnErr, IfOk, Some, None, true, false, length};
 ghost use Rattle.fsa_model.specs.Lookups.{child_of, handle_of, is_directory, has_row, stream_of};
 ghost use Rattle.fsa_model.specs.Sound.{LeadsUp, PointFits, is_stream_of_link};
 ghost use Rattle.fsa_types.specs.Rows.{lives};
+ghost use Rattle.fsa_model.specs.Edits.{with_lock};
+ghost use Rattle.volume_state.specs.Room.{stream_of_handle};
 ghost use Rattle.volume_state.specs.Paths.{units_in, dirs_in};
 ghost use Rattle.volume_state.specs.Steps.{with_file_made, with_file_opened};
 
 use crate::volume::Volume;
 use fsa_types::{Class, HandleSet, Name, NoMemory};
+use range_locks::Want;
 use volume_rows::{FileRow, HandleRow, Need};
 
 // The room that a file with one stream takes, with its link, a handle, and a note of the link and
@@ -66,6 +70,7 @@ pub(crate) fn make_file(
     requires call { handle_of volume.old.content client number ≡ None }
     ensures done { OnOk result (volume.new.content ≡ with_file_made volume.old.content parent file name stream client number) }
     ensures refused { OnErr result (volume.new.content ≡ volume.old.content) }
+    ensures locks { volume.new.content.last_lock ≡ volume.old.content.last_lock }
 {
     let units = name.units().len() as u64;
     let Some(need) = need_of(volume, parent, units, stream.units().len() as u64) else {
@@ -89,6 +94,30 @@ pub(crate) fn make_file(
     volume.note(link, 1, 1, None);
     volume.note(link, 6, 0x200, Some(of_file));
     Ok(())
+}
+
+// Locks two ranges by a handle, unless its stream has a lock with which the first conflicts; whether it
+// did.
+pub(crate) fn lock_ranges(volume: &mut Volume, handle: u64, stream: u64) -> Result<bool, NoMemory>
+    requires handle { stream_of_handle volume.old.content handle ≡ Some stream }
+    requires lives { IsTrue (lives volume.old.content.streams stream) }
+    requires numbers { volume.old.content.last_lock + 2 < 2 ^ 64 }
+    ensures done { IfOk result (λ locked. locked ≡ true → volume.new.content ≡ with_lock (with_lock volume.old.content handle 0 10 true) handle 20 5 false) }
+    ensures refused { OnErr result (volume.new.content ≡ volume.old.content) }
+    ensures taken { IfOk result (λ locked. locked ≡ false → volume.new.content ≡ volume.old.content) }
+{
+    volume.reserve(&Need {
+        locks: 2,
+        handle,
+        ..Need::nothing()
+    })?;
+    let locks = volume.locks_of(stream);
+    if locks.conflict(Want::Exclusive, handle, 0, 10).is_some() {
+        return Ok(false);
+    }
+    volume.add_lock(handle, 0, 10, true);
+    volume.add_lock(handle, 20, 5, false);
+    Ok(true)
 }
 
 // A stream opened by a link once it breaks no oplock, and noted; whether it was.

@@ -1,4 +1,5 @@
-//! Each call that takes memory, with ample memory; and what is noted, from each ancestor.
+//! Each call that takes memory, with ample memory; what is noted, from each ancestor; and locks that go
+//! with their handle.
 
 ghost use Rattle.std.specs.Prelude.{ℕ, ◌≡◌, ◌≤◌, ◌<◌, ◌+◌, ◌-◌, ◌^◌, ◌==◌, ◌&&◌, IsTrue, IfOk, OnOk, All, None, true, false, length};
 ghost use Rattle.fsa_types.specs.Rows.{lives};
@@ -6,7 +7,7 @@ ghost use Rattle.fsa_model.specs.Lookups.{child_of, is_directory, has_row};
 ghost use Rattle.fsa_model.specs.Sound.{LeadsUp};
 ghost use Rattle.volume_state.specs.Steps.{directory};
 
-use crate::steps::make_file;
+use crate::steps::{lock_ranges, make_file};
 use crate::volume::Volume;
 use fsa_types::{Bytes, Client, ClientList, Name, NoMemory, Setup, SidList, UpcaseTable};
 use std::alloc::Global;
@@ -48,6 +49,7 @@ fn row(is_directory: bool) -> FileRow
 fn fresh_volume(alloc: Global) -> Result<Volume, NoMemory>
     ensures numbers { IfOk result (λ v. (v.content.last_file < 2 ^ 32 - 8) × (v.content.last_link < 2 ^ 32 - 8) × (v.content.last_stream < 2 ^ 32 - 8) × (v.content.last_handle < 2 ^ 32 - 8)) }
     ensures client { IfOk result (λ v. 0 < length v.content.clients) }
+    ensures locks { IfOk result (λ v. v.content.last_lock < 2 ^ 32) }
 {
     let setup = setup(alloc)?;
     Volume::new(alloc, setup)
@@ -115,6 +117,7 @@ fn file_in(
     requires parent { IsTrue (is_directory volume.old.content.files parent) }
     requires leads { LeadsUp volume.old.content.links parent }
     requires unmarked { has_row (λ link. link.file == parent && link.deleted) volume.old.content.links ≡ false }
+    ensures locks { volume.new.content.last_lock ≡ volume.old.content.last_lock }
 {
     let name = Name::copy_of(alloc, units)?;
     let stream = Name::copy_of(alloc, stream)?;
@@ -320,5 +323,52 @@ fn an_owner_is_charged_whole_clusters(rt: HostRuntime) -> Result<(), Fail> {
     // none, 2 and 1
     assert_eq!(rt; charges(&volume), (3, 8192, 4096, 0));
     assert_eq!(rt; volume.limit(7), 18446744073709551615);
+    Ok(())
+}
+
+// Locks two ranges by the handle of the client's first call, and unlocks the first twice; whether it was
+// there once.
+fn lock_and_unlock(volume: &mut Volume) -> Result<bool, Fail>
+    requires numbers { volume.old.content.last_lock + 2 < 2 ^ 64 }
+{
+    let Some(handle) = volume.handle_of(0, 1) else {
+        return Ok(false);
+    };
+    let Some(row) = volume.handle(handle) else {
+        return Ok(false);
+    };
+    let Some(stream) = row.stream else {
+        return Ok(false);
+    };
+    let Some(found) = volume.stream_of(2, &[]) else {
+        return Ok(false);
+    };
+    if found != stream {
+        return Ok(false);
+    }
+    let locked = lock_ranges(volume, handle, stream)?;
+    let unlocked = volume.drop_lock(handle, 0, 10) && !volume.drop_lock(handle, 0, 10);
+    Ok(locked && unlocked)
+}
+
+// A file opened, locked and closed; whether its stream has no lock then.
+fn close_with_locks(alloc: Global, volume: &mut Volume) -> Result<bool, Fail>
+    requires ids_left { (volume.old.content.last_file < 2 ^ 32 - 4) × (volume.old.content.last_link < 2 ^ 32 - 4) × (volume.old.content.last_stream < 2 ^ 32 - 4) × (volume.old.content.last_handle < 2 ^ 32 - 4) }
+    requires locks { volume.old.content.last_lock < 2 ^ 32 }
+    requires client { 0 < length volume.old.content.clients }
+{
+    let root = volume.root();
+    file_in(alloc, volume, root, &[99], &[])?;
+    let locked = lock_and_unlock(volume)?;
+    let held = volume.handles.locks_of(1).len() == 1;
+    volume.drop_handle(1);
+    Ok(locked && held && volume.handles.locks_of(1).is_empty())
+}
+
+#[test]
+fn locks_go_with_their_handle(rt: HostRuntime) -> Result<(), Fail> {
+    let mut volume = fresh_volume(rt.alloc())?;
+    let gone = close_with_locks(rt.alloc(), &mut volume)?;
+    assert!(rt; gone);
     Ok(())
 }

@@ -9,18 +9,17 @@ ghost use Rattle.fsa_model.specs.Setup.{setup_of};
 ghost use Rattle.fsa_model.specs.Volume.{fresh, root};
 ghost use Rattle.volume_state.specs.Room.{HasRoom, IsNoLess};
 
-use crate::locks::NoRanges;
 use fsa_types::{Client, ClientList, EndOf, NoMemory, Setup, UpcaseTable};
 use object_tables::{Series, Table};
 use std::alloc::{AllocError, Global};
 use std::marker::Model;
 use volume_breaks::{Oplocks, SpareList};
-use volume_rows::{Changes, FileRow, HandleRow, LinkTable, Need, PendingRow, StreamRow, WatchRow};
+use volume_rows::{Changes, FileRow, Need, PendingRow, StreamRow, WatchRow};
+use volume_tables::{HandleTable, LinkTable};
 
-/// A volume: its case table and clients, its files, links, streams and handles, the oplocks and watches
-/// of handles, its changes, the calls that are pending and those that have ended, and the limits of
+/// A volume: its case table and clients, its files, links, streams and handles, the locks, oplocks and
+/// watches of handles, its changes, the calls that are pending and those that have ended, and the limits of
 /// owners. It is always sound.
-#[derive(Drop)]
 pub struct Volume {
     pub(crate) alloc: Global,
     pub(crate) table: UpcaseTable,
@@ -28,12 +27,11 @@ pub struct Volume {
     pub(crate) files: Table<FileRow>,
     pub(crate) links: LinkTable,
     pub(crate) streams: Table<StreamRow>,
-    pub(crate) handles: Table<HandleRow>,
+    pub(crate) handles: HandleTable,
     pub(crate) changes: Changes,
     pub(crate) ended: Series<EndOf>,
     pub(crate) left: Vec<bool>,
     pub(crate) clock: u64,
-    pub(crate) no_ranges: NoRanges,
     pub(crate) oplocks: Oplocks,
     pub(crate) pending: SpareList<(u64, PendingRow)>,
     pub(crate) watches: SpareList<WatchRow>,
@@ -51,6 +49,29 @@ impl Model for Volume {
     ghost view = { λ v. record { content = content_of v; beside = beside_of v; spare = spare_of v } };
 
     ghost invariant = { λ v. IsSound (content_of v) };
+}
+
+// One drop of the whole, so that a function that holds a volume has one step for it at each of its ends.
+impl Drop for Volume {
+    fn drop(self) {
+        let Volume {
+            alloc: _,
+            table: _,
+            clients: _,
+            files: _,
+            links: _,
+            streams: _,
+            handles: _,
+            changes: _,
+            ended: _,
+            left: _,
+            clock: _,
+            oplocks: _,
+            pending: _,
+            watches: _,
+            limits: _,
+        } = self;
+    }
 }
 
 impl Volume {
@@ -75,12 +96,11 @@ impl Volume {
             files,
             links: LinkTable::new(alloc),
             streams: Table::new(alloc),
-            handles: Table::new(alloc),
+            handles: HandleTable::new(alloc),
             changes: Changes::new(alloc),
             ended: Series::new(alloc),
             left,
             clock: 0,
-            no_ranges: NoRanges::new(alloc),
             oplocks: Oplocks::new(alloc),
             pending: SpareList::new(alloc),
             watches: SpareList::new(alloc),
@@ -100,6 +120,8 @@ impl Volume {
         self.links.reserve(need.parent, need.links as usize)?;
         self.streams.reserve(need.streams as usize)?;
         self.handles.reserve(need.handles as usize)?;
+        self.handles
+            .reserve_locks(need.handle, need.locks as usize)?;
         self.ended.reserve(need.ends as usize)?;
         let (units, dirs) = (need.units as usize, need.dirs as usize);
         self.changes.reserve(need.changes as usize, units, dirs)?;

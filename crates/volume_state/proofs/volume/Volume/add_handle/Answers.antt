@@ -4,7 +4,7 @@ use Rattle.volume_state.proofs.volume.Volume.add_handle.Goals as goal
 
 pub invariant_of-self : goal.invariant_of-self
 invariant_of-self c =
-    rw (c.in-Ok.ensures.rows, c.in-Ok.ensures.last)
+    rw c.add.ensures.rows
     (IsSound-with_handle (content_of c.self.inside) c.args.row c.self.invariant
     (rw (← c.self.view_is) at c.requires.ids_left) (rw (← c.self.view_is) at c.requires.living) (rw (← c.self.view_is) at c.requires.stream)
     (rw (← c.self.view_is) at c.requires.new) (rw (← c.self.view_is) at c.requires.client))

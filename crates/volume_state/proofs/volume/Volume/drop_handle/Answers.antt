@@ -4,4 +4,4 @@ use Rattle.volume_state.proofs.volume.Volume.drop_handle.Goals as goal
 
 pub invariant_of-self : goal.invariant_of-self
 invariant_of-self c =
-    rw (c.remove.ensures.rows, c.remove.ensures.last, c.drop_of.ensures, c.drop_watch.ensures.watches) (IsSound-without_handle (content_of c.self.inside) c.args.handle c.self.invariant)
+    rw (c.remove.ensures.rows, c.drop_of.ensures, c.drop_watch.ensures.watches) (IsSound-without_handle (content_of c.self.inside) c.args.handle c.self.invariant)

@@ -5,7 +5,8 @@ use Rattle.fsa_model.specs.Sound.{IsSound}
 use Rattle.volume_state.specs.Inside.{content_of}
 use Rattle.volume_state.specs.Seen.{Seen}
 use Rattle.volume_state.proofs.DropLaws.{units_noted-without_stream, dirs_noted-without_stream}
-use Rattle.volume_state.proofs.StreamLemmas.{row_of-without, rooms-same}
+use Rattle.volume_state.proofs.StreamLemmas.{rooms-same}
+use Rattle.volume_tables.proofs.PlaceLemmas.{row_of-without}
 use Rattle.volume_state.proofs.volume.Volume.drop_stream.Goals as goal
 
 pub invariant_of-self : goal.invariant_of-self

@@ -3,32 +3,34 @@
 ghost use Rattle.std.specs.Prelude.{ℕ, ◌≡◌, ◌≤◌, ◌<◌, ◌+◌, ◌^◌, ◌++◌, ◌∷◌, [], ◌==◌, false, OnOk, OnErr, position};
 ghost use Rattle.std.specs.Option.{option_copied};
 ghost use Rattle.fsa_types.specs.Rows.{row_of, without_row, with_row_changed, IsNumbered};
-ghost use Rattle.volume_rows.specs.LinkTable.{room_in, all_rooms, IsRoomSet, IsOneTaken};
+ghost use Rattle.volume_tables.specs.Rooms.{room_in};
 
-use crate::rows::LinkRow;
+use crate::room_list::RoomList;
 use fsa_types::NoMemory;
 use object_tables::Table;
 use std::alloc::Global;
 use std::marker::Model;
+use volume_rows::LinkRow;
 
 /// Links under numbers that rise from 1, and for each directory how many more can be added to it
 /// without taking memory. Adding to one directory leaves the room of the others.
 #[derive(Debug, Drop)]
 pub struct LinkTable {
     table: Table<LinkRow>,
-    // The directories with room, each with how much; and all of it, which the table has.
-    rooms: Vec<(u64, usize)>,
-    all: usize,
+    // What was promised to each directory, all of which the table has.
+    rooms: RoomList,
 }
 
 impl Model for LinkTable {
-    ghost use Rattle.volume_rows.specs.LinkTable.{LinkRows, AreHeld};
+    ghost use Rattle.std.specs.Prelude.{◌≤◌};
+    ghost use Rattle.volume_tables.specs.LinkTable.{LinkRows};
+    ghost use Rattle.volume_tables.specs.Rooms.{all_rooms};
 
     ghost Value = { LinkRows };
 
-    ghost view = { λ t. record { rows = t.table.rows; last = t.table.last; rooms = t.rooms.items } };
+    ghost view = { λ t. record { rows = t.table.rows; last = t.table.last; rooms = t.rooms } };
 
-    ghost invariant = { λ t. AreHeld t.rooms.items t.all t.table.room };
+    ghost invariant = { λ t. all_rooms t.rooms ≤ t.table.room };
 }
 
 impl LinkTable {
@@ -40,8 +42,7 @@ impl LinkTable {
     {
         LinkTable {
             table: Table::new(alloc),
-            rooms: Vec::new(alloc),
-            all: 0,
+            rooms: RoomList::new(alloc),
         }
     }
 
@@ -53,17 +54,14 @@ impl LinkTable {
         ensures room { OnOk result (links ≤ room_in self.new.rooms dir) }
         ensures kept { (other : ℕ) → room_in self.old.rooms other ≤ room_in self.new.rooms other }
     {
-        let room = room_in(&self.rooms, dir);
-        if links <= room {
+        if links <= self.rooms.room_in(dir) {
             return Ok(());
         }
-        let Some(all) = (self.all - room).checked_add(links) else {
+        let Some(all) = self.rooms.all_with(dir, links) else {
             return Err(NoMemory);
         };
         self.table.reserve(all)?;
-        set_room(&mut self.rooms, dir, links)?;
-        self.all = all;
-        Ok(())
+        self.rooms.set(dir, links)
     }
 
     /// Adds a link to its parent and gives its number, one more than the last one given. Room has to
@@ -77,8 +75,7 @@ impl LinkTable {
         ensures others { (dir : ℕ) → (dir == row.parent) ≡ false → room_in self.new.rooms dir ≡ room_in self.old.rooms dir }
         ensures id { result ≡ self.old.last + 1 }
     {
-        take_one(&mut self.rooms, row.parent);
-        self.all -= 1;
+        self.rooms.take_one(row.parent);
         let Ok(id) = self.table.add(row) else {
             unreachable!()
         };
@@ -129,60 +126,5 @@ fn mark(links: &mut Table<LinkRow>, id: u64, deleted: bool)
 {
     if let Some(row) = links.get_mut(id) {
         row.deleted = deleted;
-    }
-}
-
-// The room in this directory, at most all room.
-fn room_in(rooms: &[(u64, usize)], dir: u64) -> usize
-    ensures room { result ≡ room_in rooms.now dir }
-    ensures few { result ≤ all_rooms rooms.now }
-{
-    find_room(rooms, dir)
-}
-
-// The first room that is told for this directory.
-fn find_room(rooms: &[(u64, usize)], dir: u64) -> usize
-    ensures { result ≡ room_in rooms.now dir }
-{
-    match rooms.iter().find(|entry| entry.0 == dir) {
-        None => 0,
-        Some(entry) => entry.1,
-    }
-}
-
-// The first place of this directory.
-fn place_of(rooms: &[(u64, usize)], dir: u64) -> Option<usize>
-    ensures { result ≡ position (λ entry. entry.0 == dir) rooms.now }
-{
-    rooms.iter().position(|entry| entry.0 == dir)
-}
-
-// Sets the room in this directory.
-fn set_room(rooms: &mut Vec<(u64, usize)>, dir: u64, room: usize) -> Result<(), NoMemory>
-    ensures ok { OnOk result (IsRoomSet rooms.old.items rooms.new.items dir room) }
-    ensures err { OnErr result (rooms.new.items ≡ rooms.old.items) }
-{
-    let Some(place) = place_of(rooms, dir) else {
-        rooms.push((dir, room))?;
-        return Ok(());
-    };
-    rooms[place] = (dir, room);
-    Ok(())
-}
-
-// Takes room for one link from this directory, which has to have some. A directory whose room is used
-// up is told no more.
-fn take_one(rooms: &mut Vec<(u64, usize)>, dir: u64)
-    requires { 1 ≤ room_in rooms.old.items dir }
-    ensures { IsOneTaken rooms.old.items rooms.new.items dir }
-{
-    let room = room_in(rooms, dir);
-    let Some(place) = place_of(rooms, dir) else {
-        unreachable!()
-    };
-    if room == 1 {
-        let _ = rooms.remove(place);
-    } else {
-        rooms[place] = (dir, room - 1);
     }
 }

@@ -1,5 +1,0 @@
-use Rattle.volume_rows.proofs.RoomLemmas.{room_in-all}
-use Rattle.volume_rows.proofs.link_table.room_in.Goals as goal
-
-pub returns-clause-few : goal.returns-clause-few
-returns-clause-few c = rw c.find_room.ensures (room_in-all c.args.rooms.now c.args.dir)

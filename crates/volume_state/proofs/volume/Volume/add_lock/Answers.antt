@@ -1,0 +1,15 @@
+use Rattle.std.proofs.Common.{◌≡◌, true}
+use Rattle.fsa_types.specs.Rows.{lives}
+use Rattle.volume_tables.proofs.LockLemmas.{lives-some}
+use Rattle.volume_state.specs.Inside.{content_of}
+use Rattle.volume_state.proofs.LockLaws.{IsSound-with_lock}
+use Rattle.volume_state.proofs.volume.Volume.add_lock.Goals as goal
+
+pub add_lock-requires-clause-room : goal.add_lock-requires-clause-room
+add_lock-requires-clause-room c = rw (← c.self.view_is) at c.requires.room
+
+pub invariant_of-self : goal.invariant_of-self
+invariant_of-self c =
+    let living : lives c.self.inside.handles.rows c.args.handle ≡ true = lives-some c.self.inside.handles.rows c.args.handle (rw (← c.self.view_is) at c.requires.stream) in
+    rw c.add_lock.ensures.locks
+    (IsSound-with_lock (content_of c.self.inside) c.args.handle c.args.at c.args.count c.args.exclusive c.self.invariant living (rw (← c.self.view_is) at c.requires.ids_left))

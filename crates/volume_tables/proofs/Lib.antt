@@ -1,0 +1,4 @@
+pub mod LockLemmas
+pub mod PlaceLemmas
+pub mod RangeLemmas
+pub mod RoomLemmas

@@ -1,0 +1,37 @@
+use Rattle.std.proofs.Common.{sym, ◌∙◌, ◌≡◌, ap, refl, arith, ℕ, ◌≤◌, ◌+◌, ◌++◌, ◌∷◌, [], false, not, filter, Some, get_or}
+use Rattle.std.specs.Prelude.{◌==◌}
+use Rattle.std.proofs.Math.ListN.{set}
+use Rattle.fsa_types.specs.Rows.{row_of}
+use Rattle.fsa_types.specs.Ranges.{without_first}
+use Rattle.fsa_types.proofs.RowLemmas.{row_of-none}
+use Rattle.range_locks.specs.RangeTable.{is_of, is_range}
+use Rattle.volume_tables.specs.Ranges.{ranges_in, room_at}
+use Rattle.volume_tables.proofs.PlaceLemmas.{IsPut, IsFirst-position, row_of-first, put-first, push-last}
+use Rattle.volume_tables.proofs.RangeLemmas.{ranges_in-some, ranges_in-none, room_at-some, room_at-none, AreSetIn-put, room_at-other, kept-put, KeepsRanges-put}
+use Rattle.volume_tables.proofs.ranges.remove_all_of.Goals as goal
+
+pub returns-in-Some-clause-ranges : goal.returns-in-Some-clause-ranges
+returns-in-Some-clause-ranges c =
+    let d = c.index-tables-place.result in
+    let first = IsFirst-position c.args.tables.now c.args.stream c.in-Some.place d (sym (c.place_of.ensures) ∙ c.in-Some.is) in
+    let row = row_of-first c.args.tables.now c.args.stream c.in-Some.place d first in
+    let put = put-first c.args.tables.now c.args.stream c.in-Some.place d c.remove_all_of.new.self first in
+    let new = set c.args.tables.now c.in-Some.place ((get_or c.args.tables.now c.in-Some.place d).0, c.remove_all_of.new.self) in
+    AreSetIn-put c.args.tables.now new c.args.stream c.remove_all_of.new.self _ put
+    (c.remove_all_of.ensures.ranges ∙ ap (filter (λ range. not (is_of c.args.handle range))) (sym (ranges_in-some c.args.tables.now c.args.stream _ row)))
+
+pub returns-in-Some-clause-room : goal.returns-in-Some-clause-room
+returns-in-Some-clause-room c =
+    let d = c.index-tables-place.result in
+    let first = IsFirst-position c.args.tables.now c.args.stream c.in-Some.place d (sym (c.place_of.ensures) ∙ c.in-Some.is) in
+    let row = row_of-first c.args.tables.now c.args.stream c.in-Some.place d first in
+    let put = put-first c.args.tables.now c.args.stream c.in-Some.place d c.remove_all_of.new.self first in
+    let new = set c.args.tables.now c.in-Some.place ((get_or c.args.tables.now c.in-Some.place d).0, c.remove_all_of.new.self) in
+    let old = room_at-some c.args.tables.now c.args.stream _ row in
+    let more = c.remove_all_of.ensures.room in
+    kept-put c.args.tables.now new c.args.stream c.remove_all_of.new.self put (omega arith)
+
+pub returns-in_default-clause-ranges : goal.returns-in_default-clause-ranges
+returns-in_default-clause-ranges c =
+    let none = ranges_in-none c.args.tables.now c.args.stream (row_of-none c.args.tables.now c.args.stream (sym c.place_of.ensures ∙ c.in_default.is)) in
+    record { here = none ∙ ap (filter (λ range. not (is_of c.args.handle range))) (sym none); others = λ other differ. refl }

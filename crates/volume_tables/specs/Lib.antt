@@ -1,0 +1,4 @@
+pub mod HandleTable
+pub mod LinkTable
+pub mod Ranges
+pub mod Rooms

@@ -1,0 +1,10 @@
+-- Links under their numbers, and for each directory the room for more links in it.
+use Rattle.std.specs.Prelude.{ℕ, List}
+use Rattle.fsa_model.specs.Volume.{Link}
+
+-- the links with their numbers, in order; the last number that was given; and how many more links
+-- can be added to each directory without taking memory, none where it isn't told
+pub record LinkRows : Type 0 where
+  pub rows : List (ℕ × Link)
+  pub last : ℕ
+  pub rooms : List (ℕ × ℕ)

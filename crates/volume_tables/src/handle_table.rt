@@ -1,0 +1,255 @@
+//! The handles of a volume with the byte-range locks that they hold.
+
+ghost use Rattle.std.specs.Prelude.{ℕ, ◌≡◌, ◌≤◌, ◌<◌, ◌+◌, ◌^◌, ◌++◌, ◌∷◌, [], ◌==◌, not, false, Some, is_some, IsSome, IfSome, IfNone, OnOk, filter};
+ghost use Rattle.std.specs.Option.{option_copied, option_map_or, ForSome};
+ghost use Rattle.fsa_types.specs.Rows.{row_of, without_row, IsNumbered};
+ghost use Rattle.fsa_model.specs.Edits.{is_lock_on};
+ghost use Rattle.fsa_model.specs.Lookups.{number_of};
+ghost use Rattle.fsa_types.specs.Ranges.{without_first};
+ghost use Rattle.range_locks.specs.RangeTable.{is_of, is_range};
+ghost use Rattle.volume_tables.specs.HandleTable.{stream_of_handle, ranges_on};
+ghost use Rattle.volume_tables.specs.Ranges.{ranges_in, room_at, AreSetIn};
+ghost use Rattle.volume_tables.specs.Rooms.{room_in};
+
+use crate::lock_row::LockRow;
+use crate::ranges::StreamRanges;
+use crate::room_list::RoomList;
+use fsa_types::NoMemory;
+use object_tables::Table;
+use range_locks::{Range, RangeTable};
+use std::alloc::Global;
+use std::marker::Model;
+use volume_rows::HandleRow;
+
+/// Handles under numbers that rise from 1, the byte-range locks that they hold, under numbers of their
+/// own, and for each stream how many more locks can be added on it without taking memory. A lock is on
+/// the stream of its handle.
+#[derive(Debug, Drop)]
+pub struct HandleTable {
+    table: Table<HandleRow>,
+    locks: Table<LockRow>,
+    // The locks once more, stream by stream.
+    ranges: StreamRanges,
+    // What was promised to each stream.
+    rooms: RoomList,
+}
+
+impl Model for HandleTable {
+    ghost use Rattle.volume_tables.specs.HandleTable.{HandleRows, AreTabled, HaveRoom};
+
+    ghost Value = { HandleRows };
+
+    ghost view = { λ t. record { rows = t.table.rows; last = t.table.last; room = t.table.room; locks = t.locks.rows; last_lock = t.locks.last; rooms = t.rooms } };
+
+    ghost invariant = { λ t. AreTabled t.table.rows t.locks.rows t.ranges × HaveRoom t.rooms t.ranges t.locks.room };
+}
+
+impl HandleTable {
+    /// A table without handles and without room. It takes no memory.
+    pub fn new(alloc: Global) -> HandleTable
+        ensures rows { result.rows ≡ [] }
+        ensures last { result.last ≡ 0 }
+        ensures locks { result.locks ≡ [] }
+        ensures last_lock { result.last_lock ≡ 0 }
+        ensures rooms { result.rooms ≡ [] }
+    {
+        HandleTable {
+            table: Table::new(alloc),
+            locks: Table::new(alloc),
+            ranges: StreamRanges::new(alloc),
+            rooms: RoomList::new(alloc),
+        }
+    }
+
+    /// Takes room for `more` handles beside those that are there. `NoMemory` where there is none.
+    pub fn reserve(&mut self, more: usize) -> Result<(), NoMemory>
+        ensures rows { self.new ≡ record self.old { room = self.new.room } }
+        ensures room { OnOk result (more ≤ self.new.room) }
+        ensures kept { self.old.room ≤ self.new.room }
+    {
+        self.table.reserve(more)
+    }
+
+    /// Takes room for so many locks on the stream of this handle, in all that it has room for. Where
+    /// there is no such handle, or it has no stream, no room is taken. `NoMemory` where there is no
+    /// memory for it.
+    pub fn reserve_locks(&mut self, handle: u64, locks: usize) -> Result<(), NoMemory>
+        ensures rows { self.new ≡ record self.old { rooms = self.new.rooms } }
+        ensures room { OnOk result ((stream : ℕ) → stream_of_handle self.old.rows handle ≡ Some stream → locks ≤ room_in self.new.rooms stream) }
+        ensures kept { (stream : ℕ) → room_in self.old.rooms stream ≤ room_in self.new.rooms stream }
+    {
+        let Some(stream) = stream_of(&self.table, handle) else {
+            return Ok(());
+        };
+        if locks <= self.rooms.room_in(stream) {
+            return Ok(());
+        }
+        let Some(all) = self.rooms.all_with(stream, locks) else {
+            return Err(NoMemory);
+        };
+        self.locks.reserve(all)?;
+        self.ranges.reserve(stream, locks)?;
+        self.rooms.set(stream, locks)
+    }
+
+    /// All handles with their numbers, by rising number.
+    pub fn as_slice(&self) -> &[(u64, HandleRow)]
+        ensures rows { result.now ≡ self.now.rows }
+        ensures numbered { IsNumbered self.now.rows self.now.last }
+    {
+        self.table.as_slice()
+    }
+
+    /// The handle of this number; `None` exactly where there is none.
+    pub fn get(&self, id: u64) -> Option<&HandleRow>
+        ensures { option_copied result ≡ row_of self.now.rows id }
+    {
+        self.table.get(id)
+    }
+
+    /// Adds a handle, which holds no lock, and gives its number, one more than the last one given. Room
+    /// has to be reserved, and fewer than 2^64 - 1 numbers to be given so far.
+    pub fn add(&mut self, row: HandleRow) -> u64
+        requires room { 1 ≤ self.old.room }
+        requires ids_left { self.old.last + 1 < 2 ^ 64 }
+        ensures rows { self.new ≡ record self.old { rows = self.old.rows ++ (self.old.last + 1, row) ∷ []; last = self.old.last + 1; room = self.new.room } }
+        ensures left { self.old.room ≤ self.new.room + 1 }
+        ensures id { result ≡ self.old.last + 1 }
+    {
+        let Ok(id) = self.table.add(row) else {
+            unreachable!()
+        };
+        id
+    }
+
+    /// Takes the handle of this number out, with the locks that it holds; where there is none nothing
+    /// changes. It takes no memory, and leaves the room for locks as it was.
+    pub fn remove(&mut self, id: u64)
+        ensures rows { self.new ≡ record self.old { rows = without_row self.old.rows id; locks = filter (λ entry. not (entry.1.handle == id)) self.old.locks; room = self.new.room } }
+        ensures kept { self.old.room ≤ self.new.room }
+    {
+        let stream = stream_of(&self.table, id);
+        remove_ranges_of(&mut self.ranges, stream, id);
+        remove_locks_of(&mut self.locks, id);
+        let _ = self.table.remove(id);
+    }
+
+    /// The byte-range locks on a stream, in the order in which they were granted. The numbers of all
+    /// locks rise, and none is above the last one given.
+    pub fn locks_of(&self, stream: u64) -> &RangeTable
+        ensures ranges { result.now.ranges ≡ ranges_on self.now.rows self.now.locks stream }
+        ensures numbered { IsNumbered self.now.locks self.now.last_lock }
+    {
+        let _numbered = self.locks.as_slice();
+        self.ranges.of(stream)
+    }
+
+    /// Adds a lock of this handle, and gives its number, one more than the last one given. The handle
+    /// has to have a stream, with room for a lock on it, and fewer than 2^64 - 1 numbers to be given so
+    /// far.
+    pub fn add_lock(&mut self, handle: u64, at: u64, count: u64, exclusive: bool) -> u64
+        requires stream { IsSome (stream_of_handle self.old.rows handle) }
+        requires room { ForSome (stream_of_handle self.old.rows handle) (λ stream. 1 ≤ room_in self.old.rooms stream) }
+        requires ids_left { self.old.last_lock + 1 < 2 ^ 64 }
+        ensures locks { self.new ≡ record self.old { locks = self.old.locks ++ (self.old.last_lock + 1, record { handle = handle; at = at; count = count; exclusive = exclusive }) ∷ []; last_lock = self.old.last_lock + 1; rooms = self.new.rooms } }
+        ensures left { ForSome (stream_of_handle self.old.rows handle) (λ stream. room_in self.old.rooms stream ≤ room_in self.new.rooms stream + 1) }
+        ensures others { (stream other : ℕ) → stream_of_handle self.old.rows handle ≡ Some stream → (other == stream) ≡ false → room_in self.new.rooms other ≡ room_in self.old.rooms other }
+        ensures id { result ≡ self.old.last_lock + 1 }
+    {
+        let Some(stream) = stream_of(&self.table, handle) else {
+            unreachable!()
+        };
+        let lock = LockRow {
+            handle,
+            at,
+            count,
+            exclusive,
+        };
+        let Ok(id) = self.locks.add(lock) else {
+            unreachable!()
+        };
+        self.ranges.insert(
+            stream,
+            Range {
+                id,
+                handle,
+                at,
+                count,
+                exclusive,
+            },
+        );
+        self.rooms.take_one(stream);
+        id
+    }
+
+    /// Takes the first lock of this handle on exactly this range out, and tells whether there was one.
+    /// It takes no memory, and leaves the room for locks as it was.
+    pub fn remove_lock(&mut self, handle: u64, at: u64, count: u64) -> bool
+        ensures locks { self.new ≡ record self.old { locks = option_map_or (λ number. without_row self.old.locks number) (number_of (is_lock_on handle at count) self.old.locks) self.old.locks } }
+        ensures found { result ≡ is_some (number_of (is_lock_on handle at count) self.old.locks) }
+    {
+        let Some(id) = find_lock(self.locks.as_slice(), handle, at, count) else {
+            return false;
+        };
+        let _ = self.locks.remove(id);
+        let stream = stream_of(&self.table, handle);
+        remove_range(&mut self.ranges, stream, handle, at, count);
+        true
+    }
+}
+
+// The stream of a handle, where it has one.
+fn stream_of(table: &Table<HandleRow>, handle: u64) -> Option<u64>
+    ensures { result ≡ stream_of_handle table.now.rows handle }
+{
+    let row = table.get(handle)?;
+    row.stream
+}
+
+// Takes all ranges of a handle on this stream out, where it has one.
+fn remove_ranges_of(ranges: &mut StreamRanges, stream: Option<u64>, handle: u64)
+    ensures own { IfSome stream (λ own. AreSetIn ranges.old ranges.new own (filter (λ range. not (is_of handle range)) (ranges_in ranges.old own))) }
+    ensures none { IfNone stream (ranges.new ≡ ranges.old) }
+    ensures room { (other : ℕ) → room_at ranges.old other ≤ room_at ranges.new other }
+{
+    if let Some(own) = stream {
+        ranges.remove_all_of(own, handle);
+    }
+}
+
+// Takes the first range of this handle on this stream with exactly this place and count out.
+fn remove_range(ranges: &mut StreamRanges, stream: Option<u64>, handle: u64, at: u64, count: u64)
+    ensures own { IfSome stream (λ own. AreSetIn ranges.old ranges.new own (without_first (is_range handle at count) (ranges_in ranges.old own))) }
+    ensures none { IfNone stream (ranges.new ≡ ranges.old) }
+    ensures room { (other : ℕ) → room_at ranges.old other ≤ room_at ranges.new other }
+{
+    if let Some(own) = stream {
+        ranges.remove(own, handle, at, count);
+    }
+}
+
+// Takes all locks of a handle out.
+fn remove_locks_of(locks: &mut Table<LockRow>, handle: u64)
+    ensures rows { locks.new.rows ≡ filter (λ entry. not (entry.1.handle == handle)) locks.old.rows }
+    ensures last { locks.new.last ≡ locks.old.last }
+    ensures room { locks.old.room ≤ locks.new.room }
+{
+    locks.retain(|entry| entry.1.handle != handle);
+}
+
+// Whether a lock is this handle's, on exactly this range.
+fn is_exactly(lock: &LockRow, handle: u64, at: u64, count: u64) -> bool
+    ensures { result ≡ is_lock_on handle at count lock.now }
+{
+    lock.handle == handle && lock.at == at && lock.count == count
+}
+
+// The number of the first lock of this handle on exactly this range.
+fn find_lock(locks: &[(u64, LockRow)], handle: u64, at: u64, count: u64) -> Option<u64>
+    ensures { result ≡ number_of (is_lock_on handle at count) locks.now }
+{
+    locks
+        .iter()
+        .find(|entry| is_exactly(&entry.1, handle, at, count))
+        .map(|entry| entry.0)
+}

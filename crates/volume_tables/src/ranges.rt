@@ -1,0 +1,175 @@
+//! The byte-range locks of streams, for each stream a table of its own.
+
+ghost use Rattle.std.specs.Prelude.{ℕ, ◌≡◌, ◌≤◌, ◌+◌, ◌==◌, ◌++◌, ◌∷◌, ◌⊎◌, [], not, false, None, OnOk, position, filter};
+ghost use Rattle.std.specs.Option.{option_copied};
+ghost use Rattle.fsa_types.specs.Ranges.{without_first};
+ghost use Rattle.fsa_types.specs.Rows.{row_of};
+ghost use Rattle.range_locks.specs.RangeTable.{is_of, is_range};
+ghost use Rattle.volume_tables.specs.Ranges.{ranges_in, room_at, AreSetIn, KeepsRanges};
+
+use fsa_types::NoMemory;
+use range_locks::{Range, RangeTable};
+use std::alloc::Global;
+use std::marker::Model;
+
+/// For each stream the ranges that are locked on it. A stream without locks may have no table.
+#[derive(Debug, Drop)]
+pub struct StreamRanges {
+    tables: Vec<(u64, RangeTable)>,
+    // That of a stream without one.
+    none: RangeTable,
+    alloc: Global,
+}
+
+impl Model for StreamRanges {
+    ghost use Rattle.std.specs.Prelude.{ℕ, List, ◌≡◌, []};
+    ghost use Rattle.range_locks.specs.RangeTable.{Ranges};
+
+    ghost Value = { List (ℕ × Ranges) };
+
+    ghost view = { λ r. r.tables.items };
+
+    ghost invariant = { λ r. r.none.ranges ≡ [] };
+}
+
+impl StreamRanges {
+    /// No ranges. It takes no memory.
+    pub fn new(alloc: Global) -> StreamRanges
+        ensures { result ≡ [] }
+    {
+        StreamRanges {
+            tables: Vec::new(alloc),
+            none: RangeTable::new(alloc),
+            alloc,
+        }
+    }
+
+    /// The ranges of this stream.
+    pub fn of(&self, stream: u64) -> &RangeTable
+        ensures { result.now.ranges ≡ ranges_in self.now stream }
+    {
+        match find_table(&self.tables, stream) {
+            None => &self.none,
+            Some(table) => table,
+        }
+    }
+
+    /// Takes room for so many more ranges of this stream. `NoMemory` where there is none.
+    pub fn reserve(&mut self, stream: u64, more: usize) -> Result<(), NoMemory>
+        ensures kept { KeepsRanges self.old self.new }
+        ensures room { OnOk result (more ≤ room_at self.new stream) }
+    {
+        match place_of(&self.tables, stream) {
+            None => push_table(self.alloc, &mut self.tables, stream, more),
+            Some(_) => reserve(&mut self.tables, stream, more),
+        }
+    }
+
+    /// Puts a range at the end of those of a stream, which has to have room for it.
+    pub fn insert(&mut self, stream: u64, range: Range)
+        requires { 1 ≤ room_at self.old stream }
+        ensures ranges { AreSetIn self.old self.new stream (ranges_in self.old stream ++ range ∷ []) }
+        ensures left { room_at self.old stream ≤ room_at self.new stream + 1 }
+        ensures others { (other : ℕ) → (other == stream) ≡ false → room_at self.new other ≡ room_at self.old other }
+    {
+        insert(&mut self.tables, stream, range);
+    }
+
+    /// Takes the first range of this handle on this stream with exactly this place and count out, where
+    /// there is one. It takes no memory.
+    pub fn remove(&mut self, stream: u64, handle: u64, at: u64, count: u64)
+        ensures ranges { AreSetIn self.old self.new stream (without_first (is_range handle at count) (ranges_in self.old stream)) }
+        ensures room { (other : ℕ) → room_at self.old other ≤ room_at self.new other }
+    {
+        remove(&mut self.tables, stream, handle, at, count);
+    }
+
+    /// Takes all ranges of this handle on this stream out. It takes no memory.
+    pub fn remove_all_of(&mut self, stream: u64, handle: u64)
+        ensures ranges { AreSetIn self.old self.new stream (filter (λ range. not (is_of handle range)) (ranges_in self.old stream)) }
+        ensures room { (other : ℕ) → room_at self.old other ≤ room_at self.new other }
+    {
+        remove_all_of(&mut self.tables, stream, handle);
+    }
+}
+
+// The place of the table of this stream.
+fn place_of(tables: &[(u64, RangeTable)], stream: u64) -> Option<usize>
+    ensures { result ≡ position (λ entry. entry.0 == stream) tables.now }
+{
+    tables.iter().position(|entry| entry.0 == stream)
+}
+
+// The table of this stream.
+fn find_table(tables: &[(u64, RangeTable)], stream: u64) -> Option<&RangeTable>
+    ensures { option_copied result ≡ row_of tables.now stream }
+{
+    tables
+        .iter()
+        .find(|entry| entry.0 == stream)
+        .map(|entry| &entry.1)
+}
+
+// A table with so much room of a stream that has none.
+fn push_table(
+    alloc: Global,
+    tables: &mut Vec<(u64, RangeTable)>,
+    stream: u64,
+    room: usize,
+) -> Result<(), NoMemory>
+    requires { position (λ entry. entry.0 == stream) tables.old.items ≡ None }
+    ensures kept { KeepsRanges tables.old.items tables.new.items }
+    ensures room { OnOk result (room ≤ room_at tables.new.items stream) }
+{
+    let mut table = RangeTable::new(alloc);
+    table.reserve(room)?;
+    tables.push((stream, table))?;
+    Ok(())
+}
+
+// Takes room for so many more ranges of a stream with a table.
+fn reserve(tables: &mut [(u64, RangeTable)], stream: u64, more: usize) -> Result<(), NoMemory>
+    ensures kept { KeepsRanges tables.old tables.new }
+    ensures room { OnOk result ((position (λ entry. entry.0 == stream) tables.old ≡ None) ⊎ (more ≤ room_at tables.new stream)) }
+{
+    let Some(place) = place_of(tables, stream) else {
+        return Ok(());
+    };
+    tables[place].1.reserve(more)?;
+    Ok(())
+}
+
+// Puts a range at the end of those of a stream.
+fn insert(tables: &mut [(u64, RangeTable)], stream: u64, range: Range)
+    requires { 1 ≤ room_at tables.old stream }
+    ensures ranges { AreSetIn tables.old tables.new stream (ranges_in tables.old stream ++ range ∷ []) }
+    ensures left { room_at tables.old stream ≤ room_at tables.new stream + 1 }
+    ensures others { (other : ℕ) → (other == stream) ≡ false → room_at tables.new other ≡ room_at tables.old other }
+{
+    let Some(place) = place_of(tables, stream) else {
+        unreachable!()
+    };
+    let Ok(()) = tables[place].1.insert(range) else {
+        unreachable!()
+    };
+}
+
+// Takes the first range of this handle with exactly this place and count out.
+fn remove(tables: &mut [(u64, RangeTable)], stream: u64, handle: u64, at: u64, count: u64)
+    ensures ranges { AreSetIn tables.old tables.new stream (without_first (is_range handle at count) (ranges_in tables.old stream)) }
+    ensures room { (other : ℕ) → room_at tables.old other ≤ room_at tables.new other }
+{
+    if let Some(place) = place_of(tables, stream) {
+        let _ = tables[place].1.remove(handle, at, count);
+    }
+}
+
+// Takes all ranges of this handle out.
+fn remove_all_of(tables: &mut [(u64, RangeTable)], stream: u64, handle: u64)
+    ensures ranges { AreSetIn tables.old tables.new stream (filter (λ range. not (is_of handle range)) (ranges_in tables.old stream)) }
+    ensures room { (other : ℕ) → room_at tables.old other ≤ room_at tables.new other }
+{
+    if let Some(place) = place_of(tables, stream) {
+        tables[place].1.remove_all_of(handle);
+    }
+}
