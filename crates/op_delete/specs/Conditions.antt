@@ -3,9 +3,5 @@ use Rattle.std.specs.Prelude.{ℕ, ◌<◌, length}
 use Rattle.fsa_model.specs.Volume.{Volume}
 
 -- the client is one of the volume's
-pub record MayClose (v : Volume) (client : ℕ) : Type 0 where
-  pub is_client : client < length v.clients
-
--- the same
-pub record MayLeave (v : Volume) (client : ℕ) : Type 0 where
+pub record MayEnd (v : Volume) (client : ℕ) : Type 0 where
   pub is_client : client < length v.clients

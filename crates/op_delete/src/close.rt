@@ -6,7 +6,7 @@ ghost use Rattle.fsa_model.specs.Close.{close_at, closed_status, is_call_on, pen
 ghost use Rattle.fsa_model.specs.Edits.{without_handle};
 ghost use Rattle.fsa_model.specs.Outcome.{ends_with};
 ghost use Rattle.op_delete.specs.Calls.{IsClose, asked_close};
-ghost use Rattle.op_delete.specs.Conditions.{MayClose};
+ghost use Rattle.op_delete.specs.Conditions.{MayEnd};
 ghost use Rattle.op_delete.specs.Room.{HasSweepRoom, KeepsRoom, NotesTakeNoMore, close_dirs, close_units};
 ghost use Rattle.volume_state.specs.Tried.{Gives, HasHoldRoom};
 ghost use Rattle.fsa_types.specs.declared.status.Status.TheVariants as status;
@@ -133,7 +133,7 @@ fn close_named(volume: &mut Volume, client: u32, number: u32) -> Tried
 /// `_alloc` nor `_turn`.
 pub fn try_close(_alloc: Global, volume: &mut Volume, call: &Call, _turn: u64) -> Tried
     requires verb { IsClose call.now.what }
-    requires may { MayClose volume.old.content call.now.client }
+    requires may { MayEnd volume.old.content call.now.client }
     ensures gives { Gives (asked_close volume.old.content call.now.client call.now.what) volume.old.content volume.new.content result }
     ensures room { HasHoldRoom result volume.new.spare }
     ensures ends { volume.old.spare.ends ≤ volume.new.spare.ends + length volume.old.content.pending }

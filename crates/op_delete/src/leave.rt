@@ -7,7 +7,7 @@ ghost use Rattle.fsa_model.specs.Close.{handles_of_client, try_leave, with_all_c
 ghost use Rattle.fsa_model.specs.Lookups.{has_row, is_opened_by};
 ghost use Rattle.fsa_model.specs.Outcome.{ends_with};
 ghost use Rattle.op_delete.specs.Calls.{IsLeave, asked_leave};
-ghost use Rattle.op_delete.specs.Conditions.{MayLeave};
+ghost use Rattle.op_delete.specs.Conditions.{MayEnd};
 ghost use Rattle.op_delete.specs.Room.{CountsOne, HasRoomForAll, HasSweepRoom, IsFirst, KeepsRoom, NotesTakeNoMore, all_dirs, all_units, close_dirs, close_units};
 ghost use Rattle.volume_state.specs.Tried.{Gives, HasHoldRoom};
 
@@ -165,7 +165,7 @@ fn client_gone(volume: &mut Volume, client: u32)
 // A client leaves, once there is room.
 #[tactic(auto, unfolding(fsa_model::specs::Close::try_leave))]
 fn leave(volume: &mut Volume, client: u32) -> Tried
-    requires may { MayLeave volume.old.content client }
+    requires may { MayEnd volume.old.content client }
     ensures gives { Gives (try_leave volume.old.content client) volume.old.content volume.new.content result }
     ensures room { HasHoldRoom result volume.new.spare }
     ensures ends { volume.old.spare.ends ≤ volume.new.spare.ends + length volume.old.content.pending }
@@ -186,7 +186,7 @@ fn leave(volume: &mut Volume, client: u32) -> Tried
 /// `_alloc` nor `_turn`.
 pub fn try_leave(_alloc: Global, volume: &mut Volume, call: &Call, _turn: u64) -> Tried
     requires verb { IsLeave call.now.what }
-    requires may { MayLeave volume.old.content call.now.client }
+    requires may { MayEnd volume.old.content call.now.client }
     ensures gives { Gives (asked_leave volume.old.content call.now.client call.now.what) volume.old.content volume.new.content result }
     ensures room { HasHoldRoom result volume.new.spare }
     ensures ends { volume.old.spare.ends ≤ volume.new.spare.ends + length volume.old.content.pending }

@@ -5,20 +5,10 @@ ghost use Rattle.fsa_types.specs.Rows.{row_of};
 ghost use Rattle.fsa_model.specs.Close.{is_link_of_parent, named_stream, with_mark_on_close};
 ghost use Rattle.fsa_model.specs.Edits.{with_link_marked};
 ghost use Rattle.fsa_model.specs.Lookups.{has_child};
-ghost use Rattle.fsa_model.specs.Write.{is_named_stream};
 ghost use Rattle.op_delete.specs.Room.{NotesTakeNoMore};
 
+use op_parts::is_named_stream;
 use volume_state::{HandleRow, Volume};
-
-// Whether a stream is a named one.
-fn is_named_stream(volume: &Volume, stream: u64) -> bool
-    ensures { result ≡ is_named_stream volume.now.content stream }
-{
-    match volume.stream(stream) {
-        None => false,
-        Some(info) => info.name.units().len() != 0,
-    }
-}
 
 // The stream of a handle, where it is a named one.
 fn named_stream(volume: &Volume, handle: &HandleRow) -> Option<u64>

@@ -6,9 +6,9 @@ ghost use Rattle.fsa_types.specs.Rows.{row_of};
 ghost use Rattle.fsa_model.specs.Changes.{units_noted, dirs_noted};
 ghost use Rattle.fsa_model.specs.Close.{is_link_over, is_stream_over, name_bit, with_link_swept, with_stream_swept, with_swept};
 ghost use Rattle.fsa_model.specs.Lookups.{has_child, has_row, is_on, is_open_by, is_open_on};
-ghost use Rattle.fsa_model.specs.Open.{is_marked};
 ghost use Rattle.op_delete.specs.Room.{HasSweepRoom, KeepsRoom, NotesTakeNoMore, stream_dirs, stream_units};
 
+use op_parts::is_marked;
 use volume_state::{HandleRow, HandleSet, Volume};
 
 // FILE_ACTION_REMOVED, and FILE_ACTION_REMOVED_STREAM.
@@ -28,16 +28,6 @@ fn has_handle(volume: &Volume, on: HandleSet) -> bool
     ensures { result ≡ has_row (is_on volume.now.content on) volume.now.content.handles }
 {
     volume.handles_on(on) != 0
-}
-
-// Whether a stream is marked for deletion.
-fn is_marked(volume: &Volume, stream: u64) -> bool
-    ensures { result ≡ is_marked volume.now.content stream }
-{
-    match volume.stream(stream) {
-        None => false,
-        Some(info) => info.deleted,
-    }
 }
 
 // Whether a stream is marked and has no handle.

@@ -3,7 +3,7 @@
 ghost use Rattle.std.specs.Prelude.{◌≡◌, ◌<◌, ◌-◌, ◌^◌, [], All, IfOk, OnOk, None, false, length};
 ghost use Rattle.fsa_model.specs.Lookups.{child_of, handle_of};
 ghost use Rattle.op_delete.specs.Calls.{IsClose, IsLeave};
-ghost use Rattle.op_delete.specs.Conditions.{MayClose, MayLeave};
+ghost use Rattle.op_delete.specs.Conditions.{MayEnd};
 
 use crate::{try_close, try_leave};
 use fsa_types::{
@@ -92,8 +92,7 @@ fn open_file(volume: &mut Volume, name: Name, default: Name) -> Result<(), NoMem
 
 // A volume with the file `\f`, so opened.
 fn volume_with_file(alloc: Global) -> Result<Volume, Fail>
-    ensures close { IfOk result (λ v. MayClose v.content 0) }
-    ensures leave { IfOk result (λ v. MayLeave v.content 0) }
+    ensures may { IfOk result (λ v. MayEnd v.content 0) }
 {
     let mut volume = fresh_volume(alloc)?;
     let name = Name::copy_of(alloc, &[102])?;

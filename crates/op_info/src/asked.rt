@@ -1,19 +1,12 @@
 //! What is asked for, and whether it may be.
 
 ghost use Rattle.std.specs.Prelude.{◌≡◌, ◌<◌, ◌&&◌, ◌||◌, not, is_some, length};
-ghost use Rattle.fsa_types.specs.Access.{has_any, has_sid};
+ghost use Rattle.fsa_types.specs.Access.{has_sid};
 ghost use Rattle.fsa_model.specs.Security.{asks_something, changes_dacl, is_foreign, lacks_right};
 
-use bitflags::Flags;
 use fsa_types::{AccessMask, DaclChange};
+use op_parts::has_right;
 use volume_state::Volume;
-
-// Whether these rights have some of these bits.
-fn has_right(rights: u32, some: AccessMask) -> bool
-    ensures { result ≡ has_any rights some.0 }
-{
-    AccessMask::from_bits_retain(rights).intersects(some)
-}
 
 // Whether one of these SIDs is this one.
 fn has_sid(sids: &[u32], sid: u32) -> bool

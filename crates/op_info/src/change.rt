@@ -1,58 +1,19 @@
 //! What setting the owner and the access list changes.
 
 ghost use Rattle.std.specs.Prelude.{◌≡◌, ◌≤◌, true, None, option_map};
-ghost use Rattle.fsa_model.specs.Open.{creation_time, access_time, attributes_of};
-ghost use Rattle.fsa_model.specs.Security.{asks_something, with_change_time, with_dacl_asked, with_owner_asked, with_security, with_security_noted, write_time};
-ghost use Rattle.op_info.specs.Conditions.{HasNoteRoom, list_put};
+ghost use Rattle.fsa_model.specs.Security.{asks_something, with_change_time, with_dacl_asked, with_owner_asked, with_security, with_security_noted};
+ghost use Rattle.op_info.specs.Conditions.{list_put};
+ghost use Rattle.op_parts.specs.Room.{HasNoteRoom};
 
 use crate::asked::asks_something;
 use fsa_types::{Dacl, DaclChange};
+use op_parts::{access_time, attributes_of, creation_time, write_time};
 use volume_state::Volume;
 
 // FILE_ACTION_MODIFIED, and FILE_NOTIFY_CHANGE_SECURITY.
 const MODIFIED: u32 = 3;
 
 const SECURITY: u32 = 0x100;
-
-// When a file was made.
-fn creation_time(volume: &Volume, file: u64) -> u64
-    ensures { result ≡ creation_time volume.now.content file }
-{
-    match volume.file(file) {
-        None => 0,
-        Some(row) => row.creation,
-    }
-}
-
-// When a file was last read.
-fn access_time(volume: &Volume, file: u64) -> u64
-    ensures { result ≡ access_time volume.now.content file }
-{
-    match volume.file(file) {
-        None => 0,
-        Some(row) => row.access,
-    }
-}
-
-// When a file was last written.
-fn write_time(volume: &Volume, file: u64) -> u64
-    ensures { result ≡ write_time volume.now.content file }
-{
-    match volume.file(file) {
-        None => 0,
-        Some(row) => row.write,
-    }
-}
-
-// The attributes of a file.
-fn attributes_of(volume: &Volume, file: u64) -> u32
-    ensures { result ≡ attributes_of volume.now.content file }
-{
-    match volume.file(file) {
-        None => 0,
-        Some(row) => row.attributes,
-    }
-}
 
 // The owner that is asked for is set.
 fn set_owner_asked(volume: &mut Volume, file: u64, owner: Option<u32>)
@@ -95,7 +56,7 @@ fn set_change_time(volume: &mut Volume, file: u64)
 
 // The change is noted, where something is asked.
 fn note_security(volume: &mut Volume, link: u64, asks: bool)
-    requires room { HasNoteRoom volume.old.content volume.old.spare link }
+    requires room { HasNoteRoom volume.old.content volume.old.spare link None }
     ensures content { volume.new.content ≡ with_security_noted volume.old.content link asks }
     ensures ends { volume.old.spare.ends ≤ volume.new.spare.ends }
 {
@@ -134,7 +95,7 @@ pub fn set_security(
     list: Option<Dacl>,
 )
     requires owners { 1 ≤ volume.old.spare.owners }
-    requires room { HasNoteRoom volume.old.content volume.old.spare link }
+    requires room { HasNoteRoom volume.old.content volume.old.spare link None }
     requires list { option_map (λ l. l.items) list ≡ list_put dacl.now }
     ensures content { volume.new.content ≡ with_security volume.old.content link file owner dacl.now }
     ensures ends { volume.old.spare.ends ≤ volume.new.spare.ends }

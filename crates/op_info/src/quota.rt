@@ -2,19 +2,10 @@
 
 ghost use Rattle.std.specs.Prelude.{◌≡◌, ◌+◌, ◌&&◌, ◌==◌, not, nat_lt};
 ghost use Rattle.fsa_model.specs.Charge.{charge, limit};
-ghost use Rattle.fsa_model.specs.Security.{charge_of_file, owner_of, passes_limit};
+ghost use Rattle.fsa_model.specs.Security.{charge_of_file, passes_limit};
 
+use op_parts::owner_of;
 use volume_state::Volume;
-
-// The owner of a file; 0 where there is no such file.
-fn owner_of(volume: &Volume, file: u64) -> u32
-    ensures { result ≡ owner_of volume.now.content file }
-{
-    match volume.file(file) {
-        None => 0,
-        Some(row) => row.owner,
-    }
-}
 
 // Whether an owner's charge, with what this file takes beside, passes his limit. No limit reaches 2^64.
 fn passes_with(volume: &Volume, sid: u32, file: u64) -> bool

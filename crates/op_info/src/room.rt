@@ -1,7 +1,7 @@
 //! The room that is taken before anything changes.
 
-ghost use Rattle.std.specs.Prelude.{◌≡◌, ◌≤◌, OnOk};
-ghost use Rattle.op_info.specs.Conditions.{HasNoteRoom};
+ghost use Rattle.std.specs.Prelude.{◌≡◌, ◌≤◌, None, OnOk};
+ghost use Rattle.op_parts.specs.Room.{HasNoteRoom};
 
 use fsa_types::NoMemory;
 use volume_state::{Need, Volume};
@@ -11,7 +11,7 @@ pub fn room_to_set(volume: &mut Volume, link: u64) -> Result<(), NoMemory>
     ensures content { volume.new.content ≡ volume.old.content }
     ensures ends { volume.old.spare.ends ≤ volume.new.spare.ends }
     ensures owners { OnOk result (1 ≤ volume.new.spare.owners) }
-    ensures note { OnOk result (HasNoteRoom volume.new.content volume.new.spare link) }
+    ensures note { OnOk result (HasNoteRoom volume.new.content volume.new.spare link None) }
 {
     let Some(note) = volume.note_room(link, None) else {
         return Err(NoMemory);

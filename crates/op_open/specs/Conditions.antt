@@ -1,16 +1,13 @@
 -- What an open asks of the volume, and the room that it takes first.
-use Rattle.std.specs.Prelude.{◌≡◌, ℕ, ◌==◌, ◌||◌, ◌&&◌, ◌<◌, ◌≤◌, ◌-◌, ◌^◌, Bool, true, false, [], Option, Some, None, is_some, length, IsTrue, if◌then◌else◌}
+use Rattle.std.specs.Prelude.{◌≡◌, ℕ, ◌==◌, ◌||◌, ◌&&◌, ◌<◌, ◌≤◌, ◌-◌, ◌^◌, Bool, true, false, Option, Some, None, is_some, length, IsTrue, if◌then◌else◌}
 use Rattle.std.specs.Option.{option_map_or}
 use Rattle.fsa_types.specs.BoundedList.{Bounded}
 use Rattle.fsa_types.specs.Rows.{lives}
-use Rattle.fsa_types.specs.declared.oplock.Class.{Class}
-use Rattle.fsa_types.specs.declared.oplock.HandleSet.{HandleSet}
 use Rattle.fsa_types.specs.declared.reply.Blocker.{Blocker}
-use Rattle.fsa_model.specs.Breaks.{awaited, told}
-use Rattle.fsa_model.specs.Changes.{units_noted, dirs_noted}
 use Rattle.fsa_model.specs.Lookups.{handle_of, is_directory}
 use Rattle.fsa_model.specs.Sound.{is_link_of_directory, is_stream_of_link}
 use Rattle.fsa_model.specs.Volume.{Volume}
+use Rattle.op_parts.specs.Room.{HasWaitRoom}
 use Rattle.volume_state.specs.Living.{is_link_to}
 use Rattle.volume_state.specs.Seen.{Spare}
 
@@ -31,23 +28,10 @@ pub record IsOpenBy (v : Volume) (link : ℕ) (stream : Option ℕ) : Type 0 whe
   pub living : IsTrue ((link == 0 || lives v.links link) && option_map_or (λ s. is_stream_of_link v.links v.streams link s) stream true)
   pub has_stream : IsTrue (is_some stream || is_link_of_directory v.files v.links link)
 
--- there is room for a handle, for the ends of the calls that a break may tell, and for the open to be
--- pending with the breaks that it may wait for, in the list of blockers too; each oplock tells one call at most
+-- there is room for a handle, for a break, and for the open to be held
 pub record HasOpenRoom (v : Volume) (spare : Spare) (list : Bounded Blocker) : Type 0 where
   pub handles : 1 ≤ spare.handles
-  pub few_told : (on : HandleSet) (class : Class) (handle : Option ℕ) (key : ℕ) → length (told v on class handle key) ≤ length v.oplocks
-  pub told : (on : HandleSet) (class : Class) (handle : Option ℕ) (key : ℕ) → length (told v on class handle key) ≤ spare.ends
-  pub empty : list.items ≡ []
-  pub pending : 1 ≤ spare.pending
-  pub blockers : (on : HandleSet) (class : Class) (handle : Option ℕ) (key : ℕ) → length (awaited v on class handle key) ≤ spare.blockers
-  pub awaited : (on : HandleSet) (class : Class) (handle : Option ℕ) (key : ℕ) → length (awaited v on class handle key) ≤ list.room
-  pub few : length v.oplocks < 2 ^ 32
-
--- there is room for a note of the link, of this stream of its file or else of the file
-pub record HasNoteRoom (v : Volume) (spare : Spare) (link : ℕ) (stream : Option ℕ) : Type 0 where
-  pub changes : 1 ≤ spare.changes
-  pub units : units_noted v link stream ≤ spare.units
-  pub dirs : dirs_noted v link stream ≤ spare.dirs
+  pub wait : HasWaitRoom v spare list
 
 -- the stream of which an overwrite is noted: of the default stream the file is noted
 abbrev pub noted_stream : ℕ → Bool → Option ℕ

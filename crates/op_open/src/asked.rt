@@ -7,6 +7,7 @@ ghost use Rattle.fsa_types.specs.Access.{has_any};
 use acl_check::map_generic;
 use bitflags::Flags;
 use fsa_types::{AccessMask, CreateOptions, Disposition, FileAttributes};
+use op_parts::has_right;
 use std::marker::Model;
 
 /// What an open asks for, as its call has it.
@@ -88,13 +89,6 @@ fn has_option(options: u32, some: CreateOptions) -> bool
     ensures { result ≡ has_any options some.0 }
 {
     CreateOptions::from_bits_retain(options).intersects(some)
-}
-
-/// Whether these rights have some of these bits.
-pub fn has_right(rights: u32, some: AccessMask) -> bool
-    ensures { result ≡ has_any rights some.0 }
-{
-    AccessMask::from_bits_retain(rights).intersects(some)
 }
 
 /// Whether these attributes have some of these bits.

@@ -18,10 +18,11 @@ use crate::ends::stopped;
 use crate::make::{create_missing, create_stream};
 use crate::open::{open_directory, open_stream};
 use crate::opening::Opening;
-use crate::rights::{attributes_of, grants, is_marked, is_readonly, uncovers};
+use crate::rights::{grants, is_readonly, uncovers};
 use crate::walk::{Walked, has_point, walk};
 use fsa_types::{Call, Disposition, Request, Status, What};
 use names::{PathParts, split_path};
+use op_parts::{attributes_of, is_marked};
 use std::alloc::Global;
 use volume_state::{Tried, Volume};
 

@@ -13,7 +13,8 @@
 //! The definition is `Open` of `fsa_model`, with `Walk` for the path: the checks of the public standard in
 //! this project's order. The files here follow it: what is asked for (`asked`, `opening`), the walk
 //! (`walk`), what a file grants and forbids (`rights`), what is made (`make`), what is there and is opened
-//! or overwritten (`open`), the checks in order (`create`), breaks (`breaks`) and how it ends (`ends`).
+//! or overwritten (`open`), the checks in order (`create`), the break of a clash (`breaks`) and how it ends
+//! (`ends`). The break itself is that of `op_parts`.
 //!
 //! - The call has to be a Create, its client one of the volume's with no handle of the call's number, and
 //!   numbers have to be left for a file, a link, two streams, a handle and breaks.

@@ -1,17 +1,19 @@
 //! The open of a file or a directory that is there.
 
 ghost use Rattle.std.specs.Prelude.{◌≡◌, ◌<◌, ◌≤◌, ◌+◌, ◌-◌, ◌^◌, ◌==◌, not, None, Some, length};
-ghost use Rattle.fsa_model.specs.Open.{creation_time, access_time, file_attributes, kept_attributes, open_directory, names_stream, open_existing, open_granted, open_stream, overwrite_action, overwrite_existing, with_file_overwritten, with_open, with_overwrite_noted, with_overwritten};
+ghost use Rattle.fsa_model.specs.Open.{file_attributes, kept_attributes, open_directory, names_stream, open_existing, open_granted, open_stream, overwrite_action, overwrite_existing, with_file_overwritten, with_open, with_overwrite_noted, with_overwritten};
 ghost use Rattle.fsa_model.specs.Lookups.{handle_of};
-ghost use Rattle.op_open.specs.Conditions.{HasNoteRoom, HasOpenRoom, IsOpenBy, MayOpen, noted_stream};
+ghost use Rattle.op_open.specs.Conditions.{HasOpenRoom, IsOpenBy, MayOpen, noted_stream};
+ghost use Rattle.op_parts.specs.Room.{HasNoteRoom};
 ghost use Rattle.volume_state.specs.Tried.{Gives, HasHoldRoom};
 
 use crate::asked::{Asked, overwrites};
-use crate::breaks::{break_for, clashed, held};
+use crate::breaks::clashed;
 use crate::ends::{open_handle, opens};
 use crate::rights::{grants, is_readonly};
 use crate::room::{room_to_open, room_to_overwrite};
 use fsa_types::{Action, BlockerList, Disposition, Status};
+use op_parts::{access_time, break_for, creation_time, held};
 use std::alloc::Global;
 use volume_state::{Class, HandleSet, Tried, Volume};
 
@@ -56,7 +58,7 @@ fn open_existing(
         return opens(Status::Success, Action::Opened);
     }
     let mut blockers = blockers;
-    if !break_for(volume, on, Class::ReadOpen, asked.key, &mut blockers) {
+    if !break_for(volume, on, Class::ReadOpen, None, asked.key, &mut blockers) {
         open_handle(volume, asked, link, stream);
         return opens(Status::Success, Action::Opened);
     }
@@ -74,26 +76,6 @@ fn overwrite_action(disposition: Disposition) -> Action
     match disposition {
         Disposition::Supersede => Action::Superseded,
         _ => Action::Overwritten,
-    }
-}
-
-// When a file was made.
-fn creation_time(volume: &Volume, file: u64) -> u64
-    ensures { result ≡ creation_time volume.now.content file }
-{
-    match volume.file(file) {
-        None => 0,
-        Some(row) => row.creation,
-    }
-}
-
-// When a file was last read.
-fn access_time(volume: &Volume, file: u64) -> u64
-    ensures { result ≡ access_time volume.now.content file }
-{
-    match volume.file(file) {
-        None => 0,
-        Some(row) => row.access,
     }
 }
 
@@ -198,7 +180,7 @@ fn overwrite_existing(
 {
     let mut blockers = blockers;
     let on = HandleSet::Stream(stream);
-    if break_for(volume, on, Class::Change, asked.key, &mut blockers) {
+    if break_for(volume, on, Class::Change, None, asked.key, &mut blockers) {
         return held(blockers);
     }
     open_overwritten(volume, asked, link, file, stream, named);

@@ -2,11 +2,12 @@
 
 ghost use Rattle.std.specs.Prelude.{◌≡◌, ◌<◌, ◌||◌, ◌&&◌, not, length};
 ghost use Rattle.fsa_types.specs.Access.{has_any};
-ghost use Rattle.fsa_model.specs.Open.{attributes_of, first_sid, grants, is_marked, is_readonly, uncovers};
+ghost use Rattle.fsa_model.specs.Open.{first_sid, grants, is_readonly, uncovers};
 
 use crate::asked::has_attribute;
 use acl_check::check;
 use fsa_types::FileAttributes;
+use op_parts::attributes_of;
 use volume_state::Volume;
 
 /// Whether the access check of a file grants a client these rights. There has to be such a client.
@@ -32,16 +33,6 @@ pub fn first_sid(volume: &Volume, client: u32) -> u32
     }
 }
 
-/// The attributes of a file; none where there is no such file.
-pub fn attributes_of(volume: &Volume, file: u64) -> u32
-    ensures { result ≡ attributes_of volume.now.content file }
-{
-    match volume.file(file) {
-        None => 0,
-        Some(row) => row.attributes,
-    }
-}
-
 /// Whether a file is READONLY.
 pub fn is_readonly(volume: &Volume, file: u64) -> bool
     ensures { result ≡ is_readonly volume.now.content file }
@@ -56,14 +47,4 @@ pub fn uncovers(kept: u32, asked: u32) -> bool
     (has_attribute(kept, FileAttributes::HIDDEN) && !has_attribute(asked, FileAttributes::HIDDEN))
         || (has_attribute(kept, FileAttributes::SYSTEM)
             && !has_attribute(asked, FileAttributes::SYSTEM))
-}
-
-/// Whether a stream is marked for deletion.
-pub fn is_marked(volume: &Volume, stream: u64) -> bool
-    ensures { result ≡ is_marked volume.now.content stream }
-{
-    match volume.stream(stream) {
-        None => false,
-        Some(info) => info.deleted,
-    }
 }

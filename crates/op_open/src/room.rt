@@ -1,7 +1,8 @@
 //! The room that an open takes before it changes anything.
 
 ghost use Rattle.std.specs.Prelude.{◌≡◌, ◌<◌, ◌≤◌, ◌^◌, IfOk, OnOk, ◌+◌, length};
-ghost use Rattle.op_open.specs.Conditions.{HasNoteRoom, HasOpenRoom};
+ghost use Rattle.op_open.specs.Conditions.{HasOpenRoom};
+ghost use Rattle.op_parts.specs.Room.{HasNoteRoom};
 
 use fsa_types::{BlockerList, NoMemory};
 use std::alloc::Global;

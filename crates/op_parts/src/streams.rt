@@ -1,0 +1,27 @@
+//! What a stream is.
+
+ghost use Rattle.std.specs.Prelude.{◌≡◌};
+ghost use Rattle.fsa_model.specs.Open.{is_marked};
+ghost use Rattle.fsa_model.specs.Write.{is_named_stream};
+
+use volume_state::Volume;
+
+/// Whether a stream is marked for deletion; `false` where there is no such stream.
+pub fn is_marked(volume: &Volume, stream: u64) -> bool
+    ensures { result ≡ is_marked volume.now.content stream }
+{
+    match volume.stream(stream) {
+        None => false,
+        Some(info) => info.deleted,
+    }
+}
+
+/// Whether a stream is a named one, and no default stream; `false` where there is no such stream.
+pub fn is_named_stream(volume: &Volume, stream: u64) -> bool
+    ensures { result ≡ is_named_stream volume.now.content stream }
+{
+    match volume.stream(stream) {
+        None => false,
+        Some(info) => info.name.units().len() != 0,
+    }
+}
