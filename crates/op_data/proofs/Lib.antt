@@ -1,6 +1,8 @@
 pub mod GrowthLaws
 pub mod HandleLaws
 pub mod LockLaws
+pub mod LockingExamples
 pub mod ReadLaws
 pub mod RoomLaws
+pub mod SetEndLaws
 pub mod WriteLaws

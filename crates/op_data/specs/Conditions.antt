@@ -1,36 +1,29 @@
--- What a read and a write ask of the volume, the room that they take first, and what they read and
--- write through a handle whose key and link are known.
-use Rattle.std.specs.Prelude.{◌≡◌, ℕ, ◌+◌, ◌<◌, ◌≤◌, ◌^◌, List, [], length, nat_le, Option, Some, None, if◌then◌else◌}
-use Rattle.fsa_types.specs.BoundedList.{Bounded}
+-- What the calls ask of the volume, the room that they take first, and what they do through a handle whose
+-- key and link are known.
+use Rattle.std.specs.Prelude.{◌≡◌, ℕ, false, ◌+◌, ◌==◌, ◌<◌, ◌≤◌, ◌^◌, List, length, nat_le, Option, Some, None, if◌then◌else◌}
 use Rattle.fsa_types.specs.StreamBytes.{slice}
-use Rattle.fsa_types.specs.declared.oplock.Class.{Class}
 use Rattle.fsa_types.specs.declared.oplock.Class.TheVariants.{Change}
-use Rattle.fsa_types.specs.declared.oplock.HandleSet.{HandleSet}
 use Rattle.fsa_types.specs.declared.oplock.HandleSet.TheVariants.{Stream}
 use Rattle.fsa_types.specs.declared.reply.Blocker.{Blocker}
-use Rattle.fsa_model.specs.Breaks.{awaited, told, with_breaks}
-use Rattle.fsa_model.specs.Changes.{units_noted, dirs_noted}
+use Rattle.fsa_model.specs.Breaks.{with_breaks}
 use Rattle.fsa_model.specs.Lookups.{bytes_of}
 use Rattle.fsa_model.specs.Outcome.{Outcome}
 use Rattle.fsa_model.specs.Volume.{Volume}
 use Rattle.fsa_model.specs.Waits.{waits_for, held_by}
 use Rattle.fsa_model.specs.Write.{is_named_stream, write_unlocked}
-use Rattle.volume_state.specs.Seen.{Spare, CanWrite}
+use Rattle.op_data.specs.SetEnd.{set_end_grown}
+use Rattle.op_parts.specs.Room.{HasNoteRoom}
+use Rattle.volume_state.specs.Room.{stream_of_handle}
+use Rattle.volume_state.specs.Seen.{Spare, CanWrite, room_for}
 
 -- numbers are left for breaks
 pub record MayUse (v : Volume) : Type 0 where
   pub breaks : v.last_break < 2 ^ 63
 
--- there is room for the ends of the calls that a break may tell, and for the call to be pending with the
--- breaks that it may wait for, in the list of blockers too; each oplock tells one call at most
-pub record HasWaitRoom (v : Volume) (spare : Spare) (list : Bounded Blocker) : Type 0 where
-  pub few_told : (on : HandleSet) (class : Class) (handle : Option ℕ) (key : ℕ) → length (told v on class handle key) ≤ length v.oplocks
-  pub told : (on : HandleSet) (class : Class) (handle : Option ℕ) (key : ℕ) → length (told v on class handle key) ≤ spare.ends
-  pub empty : list.items ≡ []
-  pub pending : 1 ≤ spare.pending
-  pub blockers : (on : HandleSet) (class : Class) (handle : Option ℕ) (key : ℕ) → length (awaited v on class handle key) ≤ spare.blockers
-  pub awaited : (on : HandleSet) (class : Class) (handle : Option ℕ) (key : ℕ) → length (awaited v on class handle key) ≤ list.room
-  pub few : length v.oplocks < 2 ^ 32
+-- numbers are left for breaks and for a lock
+pub record MayLock (v : Volume) : Type 0 where
+  pub breaks : v.last_break < 2 ^ 63
+  pub locks : v.last_lock < 2 ^ 63
 
 -- the stream of which a write is noted: of the default stream the file is noted
 abbrev pub noted_stream : Volume → ℕ → Option ℕ
@@ -42,9 +35,20 @@ abbrev pub HasWriteRoom : Volume → Spare → ℕ → ℕ → ℕ → ℕ → T
 HasWriteRoom v spare link stream at count =
     (at + count ≤ 2 ^ 26)
     × CanWrite spare stream at count
-    × (1 ≤ spare.changes)
-    × (units_noted v link (noted_stream v stream) ≤ spare.units)
-    × (dirs_noted v link (noted_stream v stream) ≤ spare.dirs)
+    × HasNoteRoom v spare link (noted_stream v stream)
+
+-- where the length is a new one, there is the room of a write of all bytes up to it
+abbrev pub HasEndRoom : Volume → Spare → ℕ → ℕ → ℕ → Type 0
+HasEndRoom v spare link stream end = (length (bytes_of v stream) == end) ≡ false → HasWriteRoom v spare link stream 0 end
+
+-- there is room for a lock of the handle, which is open on this stream, with a number for it, and for the
+-- call to be pending with these blockers
+pub record HasLockRoom (v : Volume) (spare : Spare) (handle stream : ℕ) (list : List Blocker) : Type 0 where
+  pub open_on : stream_of_handle v handle ≡ Some stream
+  pub number : v.last_lock < 2 ^ 63
+  pub locks : 1 ≤ room_for spare.locks stream
+  pub pending : 1 ≤ spare.pending
+  pub blockers : length list ≤ spare.blockers
 
 -- the bytes that a read gives; none at the end of the stream
 abbrev pub part_at : Volume → ℕ → ℕ → ℕ → Option (List ℕ)
@@ -55,3 +59,9 @@ abbrev pub write_by_key : Volume → ℕ → ℕ → ℕ → ℕ → ℕ → Lis
 write_by_key v handle key link stream at bytes =
     if waits_for v (Stream stream) Change (Some handle) key then held_by v (Stream stream) Change (Some handle) key
     else write_unlocked (with_breaks v (Stream stream) Change (Some handle) key) handle link stream at bytes
+
+-- a new length by a handle with this key and this link, once the breaks that it waits for have ended
+abbrev pub set_end_by_key : Volume → ℕ → ℕ → ℕ → ℕ → ℕ → Outcome
+set_end_by_key v handle key link stream end =
+    if waits_for v (Stream stream) Change (Some handle) key then held_by v (Stream stream) Change (Some handle) key
+    else set_end_grown (with_breaks v (Stream stream) Change (Some handle) key) link stream end

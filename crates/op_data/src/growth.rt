@@ -6,6 +6,7 @@ ghost use Rattle.fsa_model.specs.Charge.{clusters_for};
 ghost use Rattle.fsa_model.specs.Growth.{growth_fault, owner_of_stream};
 
 use fsa_types::Status;
+use op_parts::owner_of;
 use volume_state::Volume;
 
 // The bytes of a cluster, and the clusters of the volume.
@@ -34,10 +35,7 @@ fn owner_of_stream(volume: &Volume, stream: u64) -> u32
 {
     match volume.stream(stream) {
         None => 0,
-        Some(info) => match volume.file(info.file) {
-            None => 0,
-            Some(row) => row.owner,
-        },
+        Some(info) => owner_of(volume, info.file),
     }
 }
 

@@ -2,22 +2,20 @@
 
 ghost use Rattle.std.specs.Prelude.{◌≡◌, ◌≤◌, ◌+◌, length, IfOk, IsTrue};
 ghost use Rattle.fsa_types.specs.Rows.{lives};
-ghost use Rattle.fsa_model.specs.Outcome.{Done};
 ghost use Rattle.fsa_model.specs.Read.{read_at, read_bytes, read_range, read_unlocked, try_read};
 ghost use Rattle.op_data.specs.Calls.{IsRead, asked_read};
-ghost use Rattle.op_data.specs.Conditions.{HasWaitRoom, MayUse, part_at};
+ghost use Rattle.op_data.specs.Conditions.{MayUse, part_at};
+ghost use Rattle.op_data.specs.Ends.{Ends};
+ghost use Rattle.op_parts.specs.Room.{HasWaitRoom};
 ghost use Rattle.volume_state.specs.Tried.{Gives, HasHoldRoom};
 
-use crate::breaks::{break_for, held};
-use crate::ends::{bare, succeeded};
 use crate::locked::read_is_locked;
-use crate::rights::{LARGEST_END, has_right};
+use crate::rights::LARGEST_END;
 use crate::room::room_to_wait;
-use fsa_types::{
-    AccessMask, BlockerList, Body, Bytes, Call, NoMemory, Reply, Request, Status, What,
-};
+use fsa_types::{AccessMask, BlockerList, Body, Bytes, Call, NoMemory, Request, Status, What};
+use op_parts::{break_for, has_right, held};
 use std::alloc::Global;
-use volume_state::{Class, Tried, Volume};
+use volume_state::{Class, HandleSet, Tried, Volume};
 
 // A read of a range of a stream, by a handle with this key.
 #[derive(Clone, Copy, Debug)]
@@ -52,27 +50,27 @@ fn part_at(
 
 // The read gives these bytes, or is past the end where there are none.
 #[tactic(auto, using(crate::proofs::ReadLaws::reads_part))]
-fn read_bytes(volume: &Volume, reading: Reading, part: Option<Bytes>) -> Reply
+fn read_bytes(volume: &Volume, reading: Reading, part: Option<Bytes>) -> Result<Body, Status>
     requires part { part ≡ part_at volume.now.content reading.stream reading.at reading.count }
-    ensures { read_bytes volume.now.content reading.stream reading.at reading.count ≡ Done volume.now.content result }
+    ensures { Ends (read_bytes volume.now.content reading.stream reading.at reading.count) volume.now.content result }
 {
     let _volume = volume;
     match part {
-        None => bare(Status::EndOfFile),
-        Some(bytes) => succeeded(Body::Got(bytes)),
+        None => Err(Status::EndOfFile),
+        Some(bytes) => Ok(Body::Got(bytes)),
     }
 }
 
 // The read gives these bytes unless a lock is in the way.
 #[tactic(auto, unfolding(fsa_model::specs::Read::read_unlocked))]
-fn read_unlocked(volume: &Volume, reading: Reading, part: Option<Bytes>) -> Reply
+fn read_unlocked(volume: &Volume, reading: Reading, part: Option<Bytes>) -> Result<Body, Status>
     requires lives { IsTrue (lives volume.now.content.streams reading.stream) }
     requires part { part ≡ part_at volume.now.content reading.stream reading.at reading.count }
-    ensures { read_unlocked volume.now.content reading.handle reading.stream reading.at reading.count ≡ Done volume.now.content result }
+    ensures { Ends (read_unlocked volume.now.content reading.handle reading.stream reading.at reading.count) volume.now.content result }
 {
     let count = u64::from(reading.count);
     if read_is_locked(volume, reading.handle, reading.stream, reading.at, count) {
-        return bare(Status::FileLockConflict);
+        return Err(Status::FileLockConflict);
     }
     read_bytes(volume, reading, part)
 }
@@ -101,10 +99,15 @@ fn read_in_room(
         stream,
         ..
     } = reading;
-    if break_for(volume, stream, Class::ReadOpen, handle, key, &mut blockers) {
+    let on = HandleSet::Stream(stream);
+    let acting = Some(handle);
+    if break_for(volume, on, Class::ReadOpen, acting, key, &mut blockers) {
         return held(blockers);
     }
-    Tried::Done(read_unlocked(volume, reading, part))
+    match read_unlocked(volume, reading, part) {
+        Ok(body) => Tried::succeeds(body),
+        Err(status) => Tried::ends(status),
+    }
 }
 
 // The read of a range.

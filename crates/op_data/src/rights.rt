@@ -1,21 +1,13 @@
 //! The rights of a handle, and the places that it may reach.
 
 ghost use Rattle.std.specs.Prelude.{◌≡◌};
-ghost use Rattle.fsa_types.specs.Access.{has_any};
 ghost use Rattle.fsa_model.specs.Write.{can_write};
 
-use bitflags::Flags;
 use fsa_types::AccessMask;
+use op_parts::has_right;
 
-/// The largest end of a read or a write.
+/// The largest end of a read or a write, and the largest length that can be set.
 pub const LARGEST_END: u64 = 0x7FFF_FFFF_FFFF_FFFF;
-
-/// Whether these rights have some of these.
-pub fn has_right(rights: u32, some: AccessMask) -> bool
-    ensures { result ≡ has_any rights some.0 }
-{
-    AccessMask::from_bits_retain(rights).intersects(some)
-}
 
 /// Whether a handle with this access may write at this place; `None` is the end of the stream.
 pub fn can_write(access: u32, at: Option<u64>) -> bool

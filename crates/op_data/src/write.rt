@@ -7,58 +7,63 @@ ghost use Rattle.fsa_model.specs.Outcome.{Done};
 ghost use Rattle.fsa_model.specs.Read.{largest_end};
 ghost use Rattle.fsa_model.specs.Write.{try_write, write_at, write_bytes, write_grown, write_unlocked};
 ghost use Rattle.op_data.specs.Calls.{IsWrite, asked_write};
-ghost use Rattle.op_data.specs.Conditions.{HasWaitRoom, HasWriteRoom, MayUse, write_by_key};
+ghost use Rattle.op_data.specs.Conditions.{HasWriteRoom, MayUse, write_by_key};
+ghost use Rattle.op_data.specs.Ends.{Ends};
+ghost use Rattle.op_parts.specs.Room.{HasWaitRoom};
 ghost use Rattle.volume_state.specs.Tried.{Gives, HasHoldRoom};
 
-use crate::breaks::{break_for, held};
-use crate::ends::{bare, succeeded};
 use crate::growth::growth_fault;
 use crate::locked::write_is_locked;
 use crate::rights::{LARGEST_END, can_write};
 use crate::room::room_to_write;
 use crate::written::{Writing, write_in_place};
-use fsa_types::{BlockerList, Body, Call, Reply, Request, Status, What};
+use fsa_types::{BlockerList, Body, Call, Request, Status, What};
+use op_parts::{break_for, held};
 use std::alloc::Global;
-use volume_state::{Class, Tried, Volume};
+use volume_state::{Class, HandleSet, Tried, Volume};
 
 // The bytes are put. The room is taken.
-fn write_bytes(volume: &mut Volume, writing: Writing) -> Reply
+fn write_bytes(volume: &mut Volume, writing: Writing) -> Body
     requires lives { IsTrue (lives volume.old.content.streams writing.stream) }
     requires put { HasWriteRoom volume.old.content volume.old.spare writing.link writing.stream writing.at (length writing.bytes.now) }
-    ensures gives { write_bytes volume.old.content writing.entry.link writing.entry.stream writing.entry.at writing.entry.bytes.now ≡ Done volume.new.content result }
+    ensures gives { write_bytes volume.old.content writing.entry.link writing.entry.stream writing.entry.at writing.entry.bytes.now ≡ Done volume.new.content (record { status = Status.Success; body = result }) }
     ensures ends { volume.old.spare.ends ≤ volume.new.spare.ends }
 {
     write_in_place(volume, writing);
-    succeeded(Body::Count(writing.bytes.len() as u32))
+    Body::Count(writing.bytes.len() as u32)
 }
 
 // The bytes are put unless the stream may not grow so.
 #[tactic(auto, unfolding(fsa_model::specs::Write::write_grown))]
-fn write_grown(volume: &mut Volume, writing: Writing, fault: Option<Status>) -> Reply
+fn write_grown(volume: &mut Volume, writing: Writing, fault: Option<Status>) -> Result<Body, Status>
     requires lives { IsTrue (lives volume.old.content.streams writing.stream) }
     requires fault { fault ≡ growth_fault volume.old.content writing.stream (writing.at + length writing.bytes.now) }
     requires put { IfNone fault (HasWriteRoom volume.old.content volume.old.spare writing.link writing.stream writing.at (length writing.bytes.now)) }
-    ensures gives { write_grown volume.old.content writing.entry.link writing.entry.stream writing.entry.at writing.entry.bytes.now ≡ Done volume.new.content result }
+    ensures gives { Ends (write_grown volume.old.content writing.entry.link writing.entry.stream writing.entry.at writing.entry.bytes.now) volume.new.content result }
     ensures ends { volume.old.spare.ends ≤ volume.new.spare.ends }
 {
     match fault {
-        Some(status) => bare(status),
-        None => write_bytes(volume, writing),
+        Some(status) => Err(status),
+        None => Ok(write_bytes(volume, writing)),
     }
 }
 
 // The write goes on unless a lock is in the way.
 #[tactic(auto, unfolding(fsa_model::specs::Write::write_unlocked))]
-fn write_unlocked(volume: &mut Volume, writing: Writing, fault: Option<Status>) -> Reply
+fn write_unlocked(
+    volume: &mut Volume,
+    writing: Writing,
+    fault: Option<Status>,
+) -> Result<Body, Status>
     requires lives { IsTrue (lives volume.old.content.streams writing.stream) }
     requires fault { fault ≡ growth_fault volume.old.content writing.stream (writing.at + length writing.bytes.now) }
     requires put { IfNone fault (HasWriteRoom volume.old.content volume.old.spare writing.link writing.stream writing.at (length writing.bytes.now)) }
-    ensures gives { write_unlocked volume.old.content writing.entry.handle writing.entry.link writing.entry.stream writing.entry.at writing.entry.bytes.now ≡ Done volume.new.content result }
+    ensures gives { Ends (write_unlocked volume.old.content writing.entry.handle writing.entry.link writing.entry.stream writing.entry.at writing.entry.bytes.now) volume.new.content result }
     ensures ends { volume.old.spare.ends ≤ volume.new.spare.ends }
 {
     let count = writing.bytes.len() as u64;
     if write_is_locked(volume, writing.handle, writing.stream, writing.at, count) {
-        return bare(Status::FileLockConflict);
+        return Err(Status::FileLockConflict);
     }
     write_grown(volume, writing, fault)
 }
@@ -86,10 +91,15 @@ fn write_in_room(
         stream,
         ..
     } = writing;
-    if break_for(volume, stream, Class::Change, handle, key, &mut blockers) {
+    let on = HandleSet::Stream(stream);
+    let acting = Some(handle);
+    if break_for(volume, on, Class::Change, acting, key, &mut blockers) {
         return held(blockers);
     }
-    Tried::Done(write_unlocked(volume, writing, fault))
+    match write_unlocked(volume, writing, fault) {
+        Ok(body) => Tried::succeeds(body),
+        Err(status) => Tried::ends(status),
+    }
 }
 
 // The write of a range. What growth comes to is known before the first change; no break changes it.

@@ -2,11 +2,11 @@
 
 ghost use Rattle.std.specs.Prelude.{◌≡◌, ◌≤◌, ◌+◌, ◌^◌, length, IsTrue};
 ghost use Rattle.fsa_types.specs.Rows.{lives};
-ghost use Rattle.fsa_model.specs.Changes.{units_noted, dirs_noted};
-ghost use Rattle.fsa_model.specs.Open.{attributes_of, creation_time, access_time};
 ghost use Rattle.fsa_model.specs.Write.{file_of_stream, lengthens, with_file_written, with_write_noted, with_written};
 ghost use Rattle.op_data.specs.Conditions.{HasWriteRoom, noted_stream};
+ghost use Rattle.op_parts.specs.Room.{HasNoteRoom};
 
+use op_parts::{access_time, attributes_of, creation_time, is_named_stream};
 use volume_state::Volume;
 
 /// A write of a range of a stream, by a handle with this key that was opened by this link.
@@ -47,16 +47,10 @@ const STREAM_LENGTHENED: u32 = 0xC00;
 pub fn noted_stream(volume: &Volume, stream: u64) -> Option<u64>
     ensures { result ≡ noted_stream volume.now.content stream }
 {
-    match volume.stream(stream) {
-        None => None,
-        Some(info) => {
-            if info.name.units().is_empty() {
-                None
-            } else {
-                Some(stream)
-            }
-        }
+    if is_named_stream(volume, stream) {
+        return Some(stream);
     }
+    None
 }
 
 /// A write is noted, put, and its file has changed. The room is taken.
@@ -82,8 +76,8 @@ fn lengthens(volume: &Volume, stream: u64, at: u64, bytes: &[u8]) -> bool
     (volume.bytes_of(stream).len() as u64) < at + bytes.len() as u64
 }
 
-// The file of a stream.
-fn file_of_stream(volume: &Volume, stream: u64) -> u64
+/// The file of a stream; 0 where there is no such stream.
+pub fn file_of_stream(volume: &Volume, stream: u64) -> u64
     ensures { result ≡ file_of_stream volume.now.content stream }
 {
     match volume.stream(stream) {
@@ -92,11 +86,9 @@ fn file_of_stream(volume: &Volume, stream: u64) -> u64
     }
 }
 
-// A write is noted.
-fn note_write(volume: &mut Volume, link: u64, stream: u64, longer: bool)
-    requires changes { 1 ≤ volume.old.spare.changes }
-    requires units { units_noted volume.old.content link (noted_stream volume.old.content stream) ≤ volume.old.spare.units }
-    requires dirs { dirs_noted volume.old.content link (noted_stream volume.old.content stream) ≤ volume.old.spare.dirs }
+/// A write is noted; `longer` says that the length changes. The room is taken.
+pub fn note_write(volume: &mut Volume, link: u64, stream: u64, longer: bool)
+    requires room { HasNoteRoom volume.old.content volume.old.spare link (noted_stream volume.old.content stream) }
     ensures content { volume.new.content ≡ with_write_noted volume.old.content link stream longer }
     ensures others { volume.new.spare ≡ record volume.old.spare { changes = volume.new.spare.changes; units = volume.new.spare.units; dirs = volume.new.spare.dirs } }
 {
@@ -107,9 +99,7 @@ fn note_write(volume: &mut Volume, link: u64, stream: u64, longer: bool)
 // A write is noted, of this stream of the file or else of the file.
 fn note_write_of(volume: &mut Volume, link: u64, stream: u64, noted: Option<u64>, longer: bool)
     requires noted { noted ≡ noted_stream volume.old.content stream }
-    requires changes { 1 ≤ volume.old.spare.changes }
-    requires units { units_noted volume.old.content link noted ≤ volume.old.spare.units }
-    requires dirs { dirs_noted volume.old.content link noted ≤ volume.old.spare.dirs }
+    requires room { HasNoteRoom volume.old.content volume.old.spare link noted }
     ensures content { volume.new.content ≡ with_write_noted volume.old.content link stream longer }
     ensures others { volume.new.spare ≡ record volume.old.spare { changes = volume.new.spare.changes; units = volume.new.spare.units; dirs = volume.new.spare.dirs } }
 {
@@ -139,34 +129,4 @@ fn write_file(volume: &mut Volume, file: u64)
     let attributes = attributes_of(volume, file) | ARCHIVE;
     let now = volume.clock();
     volume.set_basic(file, creation, access, now, now, attributes);
-}
-
-// When a file was made.
-fn creation_time(volume: &Volume, file: u64) -> u64
-    ensures { result ≡ creation_time volume.now.content file }
-{
-    match volume.file(file) {
-        None => 0,
-        Some(row) => row.creation,
-    }
-}
-
-// When a file was last read.
-fn access_time(volume: &Volume, file: u64) -> u64
-    ensures { result ≡ access_time volume.now.content file }
-{
-    match volume.file(file) {
-        None => 0,
-        Some(row) => row.access,
-    }
-}
-
-// The attributes of a file; none where there is no such file.
-fn attributes_of(volume: &Volume, file: u64) -> u32
-    ensures { result ≡ attributes_of volume.now.content file }
-{
-    match volume.file(file) {
-        None => 0,
-        Some(row) => row.attributes,
-    }
 }
