@@ -1,2 +1,3 @@
 mod CaseTableLemmas
+pub mod OplockLemmas
 pub mod RowLemmas

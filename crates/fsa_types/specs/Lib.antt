@@ -2,9 +2,16 @@ pub mod Access
 pub mod BoundedList
 pub mod CaseTable
 pub mod CaseTableBody
+pub mod Masks
+pub mod FixedBuffers
+pub mod LittleEndian
 pub mod Match
+pub mod OplockLists
 pub mod Oplocks
+pub mod PackedRows
+pub mod Packing
 pub mod Paths
+pub mod Pending
 pub mod Ranges
 pub mod Reply
 pub mod ReplyRoom
@@ -14,3 +21,4 @@ pub mod Sharing
 pub mod Sorting
 pub mod Status
 pub mod StreamBytes
+pub mod Watches

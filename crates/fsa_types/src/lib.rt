@@ -6,6 +6,7 @@ mod copy;
 mod list;
 mod mask;
 mod memory;
+mod noted;
 mod oplock;
 mod reply;
 mod request;
@@ -18,9 +19,15 @@ pub use case::{TableFault, UpcaseTable};
 pub use copy::TryCopy;
 pub use list::BoundedList;
 pub use mask::{
-    ATTRIBUTE_REPARSE_POINT, AccessMask, CreateOptions, FileAttributes, NotifyFilter, ShareAccess,
+    ATTRIBUTE_REPARSE_POINT, AccessMask, CreateOptions, FileAttributes, IO_REPARSE_TAG_SYMLINK,
+    NotifyFilter, ShareAccess,
 };
 pub use memory::NoMemory;
+pub use noted::{
+    FILE_ACTION_ADDED, FILE_ACTION_ADDED_STREAM, FILE_ACTION_MODIFIED, FILE_ACTION_MODIFIED_STREAM,
+    FILE_ACTION_REMOVED, FILE_ACTION_REMOVED_STREAM, FILE_ACTION_RENAMED_NEW_NAME,
+    FILE_ACTION_RENAMED_OLD_NAME,
+};
 pub use oplock::{Class, HandleSet};
 pub use reply::{
     Action, Answer, Blocker, BlockerList, Body, EndList, EndOf, Entry, Interim, Out, PackKind,

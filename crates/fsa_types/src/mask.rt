@@ -333,3 +333,6 @@ impl Flags for NotifyFilter {
 /// The attribute that is shown for a file with a reparse point and that no request may ask for,
 /// after [MS-FSCC] 'File Attributes'.
 pub const ATTRIBUTE_REPARSE_POINT: u32 = 0x400;
+
+/// The tag of a reparse point that is a symbolic link, after [MS-FSCC] 'Reparse Tags'.
+pub const IO_REPARSE_TAG_SYMLINK: u32 = 0xA000_000C;
