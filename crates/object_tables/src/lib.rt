@@ -9,8 +9,8 @@
 //! let row = table.get(id);            // Some, until `remove(id)`
 //! ```
 //!
-//! It asks of its caller that fewer than 2^64 - 1 numbers were given. Adding takes constant time;
-//! looking up, changing and removing take time linear in the rows.
+//! It asks of its caller that fewer than 2^64 - 1 numbers were given. Adding takes constant time,
+//! and `get` and `get_mut` time logarithmic in the rows; `remove` and `retain` take time linear in them.
 #![tactic(auto)]
 
 mod series;

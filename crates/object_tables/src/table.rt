@@ -1,6 +1,6 @@
 //! Rows under numbers that rise and are never given twice.
 
-ghost use Rattle.std.specs.Prelude.{◌≡◌, ◌≤◌, ◌<◌, ◌+◌, ◌^◌, ◌++◌, ◌∷◌, [], OnOk, OnErr, IsOk, IfOk, IfErr, position, ◌==◌};
+ghost use Rattle.std.specs.Prelude.{AllPairs, ◌≡◌, ◌≤◌, ◌<◌, ◌+◌, ◌^◌, ◌++◌, ◌∷◌, [], OnOk, OnErr, IsOk, IfOk, IfErr, position, ◌==◌};
 ghost use Rattle.std.specs.Borrow.{sem};
 ghost use Rattle.std.specs.Fn.{CalledAt};
 ghost use Rattle.std.specs.List.Retain.{IsFiltered};
@@ -11,7 +11,8 @@ use fsa_types::NoMemory;
 use std::alloc::{AllocFailed, Global};
 use std::marker::Model;
 
-/// Rows under numbers that rise from 1 and are never given twice.
+/// Rows under numbers that rise from 1 and are never given twice. A row is found by its number in time
+/// logarithmic in the rows.
 #[derive(Debug, Drop)]
 pub struct Table<T> {
     rows: Vec<(u64, T)>,
@@ -21,7 +22,7 @@ pub struct Table<T> {
 impl<T> Model for Table<T> {
     ghost use Rattle.fsa_types.specs.Rows.{IsNumbered};
     ghost use Rattle.object_tables.specs.Table.{Rows, rows_code};
-    ghost use Rattle.std.specs.Prelude.{◌-◌};
+    ghost use Rattle.std.specs.Prelude.{AllPairs, ◌-◌};
     ghost use Rattle.std.specs.Vec.{vec_capacity, vec_len};
 
     ghost Value = { Rows T };
@@ -100,10 +101,10 @@ impl<T: Drop> Table<T> {
     pub fn get(&self, id: u64) -> Option<&T>
         ensures { option_copied result ≡ row_of self.now.rows id }
     {
-        self.rows
-            .iter()
-            .find(|entry| entry.0 == id)
-            .map(|entry| &entry.1)
+        match place_of(&self.rows, id) {
+            None => None,
+            Some(place) => Some(&self.rows[place].1),
+        }
     }
 
     /// The row of this number for writing; `None` exactly where there is none.
@@ -156,9 +157,10 @@ impl<T: Drop> Table<T> {
     }
 }
 
-// The place of the row of this number.
+// The place of the row of this number, among rows whose numbers rise.
 fn place_of<T>(rows: &[(u64, T)], id: u64) -> Option<usize>
+    requires rising { AllPairs (λ a b. a.0 < b.0) rows.now }
     ensures { result ≡ position (λ entry. entry.0 == id) rows.now }
 {
-    rows.iter().position(|entry| entry.0 == id)
+    rows.binary_search_by_key(&id, |entry| entry.0).ok()
 }

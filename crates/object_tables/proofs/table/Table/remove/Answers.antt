@@ -1,4 +1,4 @@
-use Rattle.std.proofs.Common.{sym, ◌∙◌, ap, Some, None, ◌≡◌, ℕ, ◌==◌}
+use Rattle.std.proofs.Common.{sym, ◌∙◌, ap, Some, ◌≡◌, ◌==◌}
 use Rattle.std.specs.List.{position}
 use Rattle.fsa_types.proofs.RowLemmas.{row_of-none, without_row-none, IsNumbered-remove, IsAt-position, row_of-at, remove-at}
 use Rattle.object_tables.proofs.table.Table.remove.Goals as goal

@@ -1,4 +1,4 @@
-use Rattle.std.proofs.Common.{sym, ◌∙◌, ap, refl, Some, None, ◌≡◌, ℕ, ◌==◌}
+use Rattle.std.proofs.Common.{sym, ◌∙◌, ap, refl, Some, ◌≡◌, ◌==◌}
 use Rattle.std.specs.List.{position}
 use Rattle.fsa_types.proofs.RowLemmas.{IsNumbered-set, IsAt-position, row_of-at, set-at}
 use Rattle.object_tables.proofs.table.Table.row_mut.Goals as goal
