@@ -1,38 +1,37 @@
 -- What breaks of oplocks leave as it was, how many numbers they take, and that they leave a volume sound.
-use Rattle.std.proofs.Common.{◌≡◌, ℕ, Bool, true, false, ◌+◌, ◌^◌, ◌<◌, ◌≤◌, ◌==◌, ◌&&◌, not, List, [], ◌∷◌, length, refl, ap, ◌∙◌, arith, Option, Some, None, inl, inr}
+use Rattle.std.proofs.Common.{◌≡◌, ℕ, suc, Bool, true, false, ◌+◌, ◌^◌, ◌<◌, ◌≤◌, ◌==◌, ◌&&◌, not, List, [], ◌∷◌, length, get_or, refl, ap, sym, subst, ◌∙◌, arith, Option, Some, None, inl, inr}
 use Rattle.std.specs.Prelude.{filter, fold, map, is_some, All, if◌then◌else◌}
 use Rattle.std.proofs.lemmas.Bool.{cases_Bool}
 use Rattle.std.proofs.lemmas.List.{length-map}
-use Rattle.std.proofs.lemmas.List.Elements.{All-map, All-filter, All-weaker}
+use Rattle.std.proofs.lemmas.List.Elements.{All-map, All-filter}
 use Rattle.std.proofs.lemmas.List.Kept.{AllPairs-filter}
+use Rattle.fsa_types.proofs.OplockLemmas.{AreOplocks-effect, CanHave-effect, IsCopy-effect, chosen-are}
 use Rattle.fsa_types.proofs.RowLemmas.{length-filter_le}
+use Rattle.fsa_types.specs.OplockLists.{OplockState, begun, lowered, left_by, last_by, after_effect, effect_on, after_breaks, IsOplock, CanHave, IsCopy}
 use Rattle.fsa_types.specs.Oplocks.{Effect, Stays, Ends, Begins, Lowers, effect, is_awaited}
-use Rattle.fsa_types.specs.Rows.{row_of, lives}
+use Rattle.fsa_types.specs.Rows.{row_of}
 use Rattle.fsa_types.specs.Sorting.{put_in_order, in_order}
 use Rattle.fsa_types.specs.declared.oplock.Class.{Class}
 use Rattle.fsa_types.specs.declared.oplock.HandleSet.{HandleSet}
 use Rattle.fsa_types.specs.declared.request.Level.{Level}
 use Rattle.fsa_types.specs.declared.request.Level.TheVariants.{Nil}
 use Rattle.fsa_types.specs.declared.reply.Reply.{Reply}
-use Rattle.fsa_model.specs.Breaks.{with_told, with_break_begun, with_effect, with_breaks, is_broken_before, is_chosen, is_told, chosen, told, awaited, break_of}
+use Rattle.fsa_model.specs.Breaks.{with_told, with_told_by, oplocks_of, with_oplocks, with_break_begun, with_effect, with_breaks, is_broken_before, is_chosen, is_told, chosen, told, awaited, break_of}
 use Rattle.fsa_model.specs.Edits.{is_call, with_end, without_oplock}
-use Rattle.fsa_model.specs.Sound.{ArePending, IsSound}
+use Rattle.fsa_model.specs.Sound.{IsGiven, IsSound, has_its_key}
 use Rattle.fsa_model.specs.Volume.{Handle, Oplock, Pending, Volume}
 use Rattle.fsa_model.proofs.RowLaws.{option_cases}
+use Rattle.fsa_model.proofs.SoundWaits.{touched, IsSound-touched, blockers-later}
 
--- one volume, with the parts of another that breaks change
-abbrev pub touched : Volume → Volume → Volume
-touched v w = record v { oplocks = w.oplocks; pending = w.pending; ended = w.ended; last_break = w.last_break }
-
-touched-told : (v : Volume) (turn : Option ℕ) (level : Level) (ack : Bool) → with_told v turn level ack ≡ touched v (with_told v turn level ack)
+pub touched-told : (v : Volume) (turn : Option ℕ) (level : Level) (ack : Bool) → with_told v turn level ack ≡ touched v (with_told v turn level ack)
 touched-told v None level ack = refl
 touched-told v (Some turn) level ack = elim (option_cases (row_of v.pending turn)) [ inl none ↦ rw none refl | inr some ↦ rw some.1 refl ]
 
-told-oplocks : (v : Volume) (turn : Option ℕ) (level : Level) (ack : Bool) → (with_told v turn level ack).oplocks ≡ v.oplocks
+pub told-oplocks : (v : Volume) (turn : Option ℕ) (level : Level) (ack : Bool) → (with_told v turn level ack).oplocks ≡ v.oplocks
 told-oplocks v None level ack = refl
 told-oplocks v (Some turn) level ack = elim (option_cases (row_of v.pending turn)) [ inl none ↦ rw none refl | inr some ↦ rw some.1 refl ]
 
-told-last_break : (v : Volume) (turn : Option ℕ) (level : Level) (ack : Bool) → (with_told v turn level ack).last_break ≡ v.last_break
+pub told-last_break : (v : Volume) (turn : Option ℕ) (level : Level) (ack : Bool) → (with_told v turn level ack).last_break ≡ v.last_break
 told-last_break v None level ack = refl
 told-last_break v (Some turn) level ack = elim (option_cases (row_of v.pending turn)) [ inl none ↦ rw none refl | inr some ↦ rw some.1 refl ]
 
@@ -70,7 +69,7 @@ numbers-effect v oplock (Begins level) = (let same = told-last_break (with_break
 numbers-effect v oplock (Lowers level) = omega arith
 
 -- all of it, oplock by oplock
-abbrev broken : Class → Volume → List Oplock → Volume
+abbrev pub broken : Class → Volume → List Oplock → Volume
 broken kind v oplocks = fold (λ w oplock. with_effect w oplock (effect kind oplock.level oplock.target)) v oplocks
 
 touched-broken : (kind : Class) (v : Volume) (oplocks : List Oplock) → broken kind v oplocks ≡ touched v (broken kind v oplocks)
@@ -144,27 +143,34 @@ awaited-few v on kind acting key =
     let as_many = length-map (filter waits (chosen v on acting key)) (λ oplock. break_of (with_breaks v on kind acting key) oplock.handle) in
     omega arith
 
--- a volume stays sound with other oplocks of living handles and other pending calls of clients
-IsSound-touched : (v w : Volume) → IsSound v → ArePending v.clients w.pending → All (λ oplock. lives v.handles oplock.handle ≡ true) w.oplocks → w.last_break < 2 ^ 64 → IsSound (touched v w)
-IsSound-touched v w sound pending live below = record {
-  tree = sound.tree;
-  opens = sound.opens;
-  pending = pending;
-  clients = sound.clients;
-  of_handles = record {
-    locks_live = sound.of_handles.locks_live;
-    oplocks_live = live;
-    watches_live = sound.of_handles.watches_live;
-    watches_differ = sound.of_handles.watches_differ;
-  };
-  files_numbered = sound.files_numbered;
-  links_numbered = sound.links_numbered;
-  streams_numbered = sound.streams_numbered;
-  handles_numbered = sound.handles_numbered;
-  streams_fit = sound.streams_fit;
-  points_fit = sound.points_fit;
-  bounded = record { files = sound.bounded.files; links = sound.bounded.links; streams = sound.bounded.streams; handles = sound.bounded.handles; clock = sound.bounded.clock; locks = sound.bounded.locks; breaks = below };
-}
+-- ---- breaks of lists
+
+-- telling leaves the oplocks
+oplocks-told : (v : Volume) (turn : Option ℕ) (level : Level) (ack : Bool) → oplocks_of (with_told v turn level ack) ≡ oplocks_of v
+oplocks-told v None level ack = refl
+oplocks-told v (Some turn) level ack = elim (option_cases (row_of v.pending turn)) [ inl none ↦ rw none refl | inr some ↦ rw some.1 refl ]
+
+oplocks-told_by : (v : Volume) (turn : Option ℕ) (done : Effect) → oplocks_of (with_told_by v turn done) ≡ oplocks_of v
+oplocks-told_by v turn Stays = refl
+oplocks-told_by v turn Ends = oplocks-told v turn Nil false
+oplocks-told_by v turn (Begins level) = oplocks-told v turn level true
+oplocks-told_by v turn (Lowers level) = refl
+
+pub oplocks-effect : (v : Volume) (oplock : Oplock) (done : Effect) → oplocks_of (with_effect v oplock done) ≡ after_effect done oplock.handle (oplocks_of v)
+oplocks-effect v oplock done = oplocks-told_by (with_oplocks v (after_effect done oplock.handle (oplocks_of v))) oplock.call done
+
+pub oplocks-broken : (kind : Class) (v : Volume) (oplocks : List Oplock) → oplocks_of (broken kind v oplocks) ≡ after_breaks kind (oplocks_of v) oplocks
+oplocks-broken kind v [] = refl
+oplocks-broken kind v (oplock ∷ oplocks) =
+    oplocks-broken kind (with_effect v oplock (effect_on kind oplock)) oplocks
+    ∙ ap (λ (held : OplockState). after_breaks kind held oplocks) (oplocks-effect v oplock (effect_on kind oplock))
+
+-- what breaks leave of the oplocks is what they leave of the list of them
+pub with_breaks-oplocks : (v : Volume) (on : HandleSet) (kind : Class) (acting : Option ℕ) (key : ℕ)
+    → oplocks_of (with_breaks v on kind acting key) ≡ after_breaks kind (oplocks_of v) (chosen v on acting key)
+with_breaks-oplocks v on kind acting key = oplocks-broken kind v (chosen v on acting key)
+
+-- ---- soundness
 
 -- a call that ends is pending no more
 pub IsSound-with_end : (v : Volume) (client number : ℕ) (reply : Reply) → IsSound v → IsSound (with_end v client number reply)
@@ -176,7 +182,8 @@ IsSound-with_end v client number reply sound =
       turns_differ = AllPairs-filter (λ a b. (a.0 == b.0) ≡ false) stays v.pending sound.pending.turns_differ;
       have_clients = All-filter stays (λ entry. entry.1.call.client < length v.clients) v.pending sound.pending.have_clients;
     })
-    sound.of_handles.oplocks_live sound.bounded.breaks
+    (All-filter stays (λ entry. All (IsGiven v.last_lock v.last_break) entry.1.blockers) v.pending sound.blockers_given)
+    sound.of_handles.oplocks_have_keys sound.oplocks sound.bounded.breaks
 
 IsSound-with_told : (v : Volume) (turn : Option ℕ) (level : Level) (ack : Bool) → IsSound v → IsSound (with_told v turn level ack)
 IsSound-with_told v None level ack sound = sound
@@ -186,38 +193,66 @@ IsSound-with_told v (Some turn) level ack sound =
       | inr some ↦ rw some.1 (IsSound-with_end v _ _ _ sound)
     ]
 
--- oplocks that are changed are of the handles that they were of
-live-changed : (handles : List (ℕ × Handle)) (oplocks : List Oplock) (change : Oplock → Oplock) (handle : ℕ) → ((oplock : Oplock) → (change oplock).handle ≡ oplock.handle)
-    → All (λ oplock. lives handles oplock.handle ≡ true) oplocks
-    → All (λ oplock. lives handles oplock.handle ≡ true) (map (λ oplock. if oplock.handle == handle then change oplock else oplock) oplocks)
-live-changed handles oplocks change handle same live =
-    All-map (λ oplock. lives handles oplock.handle ≡ true) (λ oplock. if oplock.handle == handle then change oplock else oplock) oplocks
-    (All-weaker (λ oplock. lives handles oplock.handle ≡ true) (λ oplock. lives handles (if oplock.handle == handle then change oplock else oplock).handle ≡ true)
-    (λ oplock living. elim (cases_Bool (oplock.handle == handle)) [ inl here ↦ rw (here, same oplock) living | inr other ↦ rw other living ]) oplocks live)
+IsSound-with_told_by : (v : Volume) (turn : Option ℕ) (done : Effect) → IsSound v → IsSound (with_told_by v turn done)
+IsSound-with_told_by v turn Stays sound = sound
+IsSound-with_told_by v turn Ends sound = IsSound-with_told v turn Nil false sound
+IsSound-with_told_by v turn (Begins level) sound = IsSound-with_told v turn level true sound
+IsSound-with_told_by v turn (Lowers level) sound = sound
 
-IsSound-with_effect : (v : Volume) (oplock : Oplock) (done : Effect) → v.last_break + 1 < 2 ^ 64 → IsSound v → IsSound (with_effect v oplock done)
-IsSound-with_effect v oplock Stays below sound = sound
-IsSound-with_effect v oplock Ends below sound =
-    IsSound-with_told (without_oplock v oplock.handle) oplock.call Nil false
-    (IsSound-touched v (without_oplock v oplock.handle) sound sound.pending
-    (All-filter (λ (o : Oplock). not (o.handle == oplock.handle)) (λ o. lives v.handles o.handle ≡ true) v.oplocks sound.of_handles.oplocks_live) sound.bounded.breaks)
-IsSound-with_effect v oplock (Begins level) below sound =
-    IsSound-with_told (with_break_begun v oplock.handle level) oplock.call level true
-    (IsSound-touched v (with_break_begun v oplock.handle level) sound sound.pending
-    (live-changed v.handles v.oplocks (λ o. record o { target = Some level; number = v.last_break + 1; call = None }) oplock.handle (λ o. refl) sound.of_handles.oplocks_live) below)
-IsSound-with_effect v oplock (Lowers level) below sound =
-    IsSound-touched v (with_effect v oplock (Lowers level)) sound sound.pending
-    (live-changed v.handles v.oplocks (λ o. record o { target = Some level }) oplock.handle (λ o. refl) sound.of_handles.oplocks_live) sound.bounded.breaks
+-- the number of the last break that began
+last-left : (done : Effect) (last : ℕ) → (last ≤ last_by done last) × (last_by done last ≤ last + 1)
+last-left Stays last = (omega arith, omega arith)
+last-left Ends last = (omega arith, omega arith)
+last-left (Begins level) last = (omega arith, omega arith)
+last-left (Lowers level) last = (omega arith, omega arith)
 
-IsSound-broken : (kind : Class) (v : Volume) (oplocks : List Oplock) → v.last_break + length oplocks < 2 ^ 64 → IsSound v → IsSound (broken kind v oplocks)
-IsSound-broken kind v [] below sound = sound
-IsSound-broken kind v (oplock ∷ oplocks) below sound =
-    let one = numbers-effect v oplock (effect kind oplock.level oplock.target) in
-    IsSound-broken kind (with_effect v oplock (effect kind oplock.level oplock.target)) oplocks (omega arith)
-    (IsSound-with_effect v oplock (effect kind oplock.level oplock.target) (omega arith) sound)
+-- oplocks that are changed are of the handles that they were of, and of their keys
+keys-changed : (handles : List (ℕ × Handle)) (change : Oplock → Oplock) (oplocks : List Oplock)
+    → ((oplock : Oplock) → has_its_key handles (change oplock) ≡ has_its_key handles oplock)
+    → All (λ oplock. has_its_key handles oplock ≡ true) oplocks → All (λ oplock. has_its_key handles oplock ≡ true) (map change oplocks)
+keys-changed handles change oplocks same keys =
+    All-map (λ oplock. has_its_key handles oplock ≡ true) change oplocks (λ k d within. same (get_or oplocks k d) ∙ keys k d within)
+
+keys-left : (handles : List (ℕ × Handle)) (done : Effect) (handle number : ℕ) (oplocks : List Oplock)
+    → All (λ oplock. has_its_key handles oplock ≡ true) oplocks → All (λ oplock. has_its_key handles oplock ≡ true) (left_by done handle number oplocks)
+keys-left handles Stays handle number oplocks keys = keys
+keys-left handles Ends handle number oplocks keys = All-filter (λ (o : Oplock). not (o.handle == handle)) (λ o. has_its_key handles o ≡ true) oplocks keys
+keys-left handles (Begins level) handle number oplocks keys =
+    keys-changed handles (begun handle level number) oplocks (λ o. elim (cases_Bool (o.handle == handle)) [ inl here ↦ rw here refl | inr other ↦ rw other refl ]) keys
+keys-left handles (Lowers level) handle number oplocks keys =
+    keys-changed handles (lowered handle level) oplocks (λ o. elim (cases_Bool (o.handle == handle)) [ inl here ↦ rw here refl | inr other ↦ rw other refl ]) keys
+
+IsSound-left : (v : Volume) (done : Effect) (handle : ℕ) → v.last_break + 1 < 2 ^ 64 → CanHave done handle v.oplocks → IsSound v
+    → IsSound (with_oplocks v (after_effect done handle (oplocks_of v)))
+IsSound-left v done handle below can sound =
+    let last = last-left done v.last_break in
+    IsSound-touched v (with_oplocks v (after_effect done handle (oplocks_of v))) sound sound.pending
+    (blockers-later v.pending v.last_lock v.last_lock v.last_break (last_by done v.last_break) (omega arith) last.0 sound.blockers_given)
+    (keys-left v.handles done handle (v.last_break + 1) v.oplocks sound.of_handles.oplocks_have_keys)
+    (AreOplocks-effect done handle (oplocks_of v) can sound.oplocks)
+    (let most = last.1 in omega arith)
+
+-- an effect that can be had leaves a volume sound
+pub IsSound-with_effect : (v : Volume) (oplock : Oplock) (done : Effect) → v.last_break + 1 < 2 ^ 64 → CanHave done oplock.handle v.oplocks → IsSound v
+    → IsSound (with_effect v oplock done)
+IsSound-with_effect v oplock done below can sound =
+    IsSound-with_told_by (with_oplocks v (after_effect done oplock.handle (oplocks_of v))) oplock.call done (IsSound-left v done oplock.handle below can sound)
+
+IsSound-broken : (kind : Class) (v : Volume) (oplocks : List Oplock) → v.last_break + length oplocks < 2 ^ 64 → All IsOplock oplocks → All (IsCopy v.oplocks) oplocks
+    → IsSound v → IsSound (broken kind v oplocks)
+IsSound-broken kind v [] below each copies sound = sound
+IsSound-broken kind v (oplock ∷ oplocks) below each copies sound =
+    let done : Effect = effect_on kind oplock in
+    let one = numbers-effect v oplock done in
+    IsSound-broken kind (with_effect v oplock done) oplocks (omega arith)
+    (λ k d within. each (suc k) d (omega arith))
+    (λ k d within. subst (λ (held : OplockState). IsCopy held.oplocks (get_or oplocks k d)) (sym (oplocks-effect v oplock done))
+    (IsCopy-effect done oplock.handle (oplocks_of v) (get_or oplocks k d) (copies (suc k) d (omega arith))))
+    (IsSound-with_effect v oplock done (omega arith) (CanHave-effect kind oplock v.oplocks (each 0 oplock (omega arith)) (copies 0 oplock (omega arith))) sound)
 
 -- breaks leave a volume sound where numbers for them are left
 pub IsSound-with_breaks : (v : Volume) (on : HandleSet) (kind : Class) (acting : Option ℕ) (key : ℕ) → v.last_break + length v.oplocks < 2 ^ 64 → IsSound v → IsSound (with_breaks v on kind acting key)
 IsSound-with_breaks v on kind acting key below sound =
     let few = chosen-few v on acting key in
-    IsSound-broken kind v (chosen v on acting key) (omega arith) sound
+    let are = chosen-are (is_broken_before v) (is_chosen v on acting key) v.oplocks v.last_break sound.oplocks in
+    IsSound-broken kind v (chosen v on acting key) (omega arith) are.0 are.1 sound

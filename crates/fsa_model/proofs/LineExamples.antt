@@ -15,12 +15,12 @@ use Rattle.fsa_model.specs.Fault.{Kind, BadSyntax}
 use Rattle.fsa_model.specs.Lines.{Line, RequestLine, request_of, line_of}
 use Rattle.fsa_model.specs.Open.{try_create, create_at, create_walked, create_named, create_by_link, create_found, create_there, create_in_file, create_stream, create_on_stream, open_stream, open_directory, open_granted, overwrite_existing, open_existing, clashed, create_missing, make_file, make_directory, stopped}
 use Rattle.fsa_model.specs.Outcome.{TurnOut}
-use Rattle.fsa_model.specs.Requests.{disposition_at, what_of}
-use Rattle.fsa_model.specs.Requests as requests
+use Rattle.fsa_model.specs.OpenLines.{disposition_at, create_fields}
+use Rattle.fsa_model.specs.Requests.{what_of}
 use Rattle.fsa_model.specs.Spelling.{line_text}
+use Rattle.fsa_model.specs.Words.{field_at, number_at, mask_of, mask_at, text_of, text_at}
 use Rattle.fsa_model.specs.Turn.{turn}
 use Rattle.fsa_model.specs.Volume.{File, Handle, Volume, fresh, root}
-use Rattle.fsa_model.specs.Words.{field_at, number_at, mask_of, mask_at, text_of, text_at}
 
 -- call 1 of client `a`: wanted, share, how, options, attributes and key
 abbrev pub opens : List ℕ → ℕ → ℕ → Disposition → ℕ → ℕ → ℕ → Line
@@ -49,7 +49,7 @@ said =
     ∷ []
 
 pub opens_said : map line_of lines ≡ map {B = Result Line Kind} Ok said
-unfolding line_of request_of what_of requests.create_at text_at text_of mask_at mask_of disposition_at number_at field_at
+unfolding line_of request_of what_of create_fields text_at text_of mask_at mask_of disposition_at number_at field_at
 opens_said = refl
 
 -- written, with small numbers
@@ -108,7 +108,7 @@ pub no_opens :
     ∷ Err BadSyntax
     ∷ Err BadSyntax
     ∷ []
-unfolding line_of request_of what_of requests.create_at text_at text_of mask_at mask_of disposition_at number_at field_at
+unfolding line_of request_of what_of create_fields text_at text_of mask_at mask_of disposition_at number_at field_at
 no_opens = refl
 
 -- ---- a turn of an open

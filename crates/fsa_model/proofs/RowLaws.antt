@@ -58,7 +58,7 @@ find-none p (x ∷ xs) none =
       | inr fails ↦ rw fails (find-none p xs (rw fails at none))
     ]
 
-option_map-none : {X Y : Type 0} (f : X → Y) (o : Option X) → option_map f o ≡ None → o ≡ None
+pub option_map-none : {X Y : Type 0} (f : X → Y) (o : Option X) → option_map f o ≡ None → o ≡ None
 option_map-none f None none = refl
 option_map-none f (Some x) none = cc
 

@@ -17,12 +17,16 @@ use Rattle.fsa_types.specs.CaseTable.{is_at_fault}
 use Rattle.fsa_model.specs.Setup.{Client, Script}
 use Rattle.fsa_model.specs.Fault.{Kind, BadSyntax, Fault, ◌>>=◌, only_if, read_as}
 use Rattle.fsa_model.specs.Numbers.{digit_of, number_after, number_of}
-use Rattle.fsa_model.specs.Words.{same, word_of, after_word, field_at, number_at, mask_at, text_at, onto, bytes_of, string_of, string_at, ended, is_name}
-use Rattle.fsa_model.specs.Requests.{marks_nothing, most_id, most_key, most_place, most_bytes, disposition_at, is_built_create, create_at, close_at, read_at, write_at, tick_at, owner_at, ace_of, entry_of, after_entry, ace_onto, aces_of, most_aces, dacl_of, dacl_at, set_security_at, what_of}
+use Rattle.fsa_model.specs.Words.{same, word_of, after_word, field_at, number_at, mask_at, text_at, onto, bytes_of, string_of, string_at, ended, is_name, most_id, most_bytes}
+use Rattle.fsa_model.specs.Requests.{marks_nothing, what_of}
+use Rattle.fsa_model.specs.OpenLines.{most_key, disposition_at, is_built_create, create_fields, close_fields}
+use Rattle.fsa_model.specs.ByteLines.{most_place, read_fields, write_fields}
+use Rattle.fsa_model.specs.ClockLines.{tick_fields}
+use Rattle.fsa_model.specs.InformationLines.{owner_at, ace_of, entry_of, after_entry, ace_onto, aces_of, most_aces, dacl_of, dacl_at, set_security_fields}
 use Rattle.fsa_model.specs.Lines.{Line, Version, DefaultTable, PairTable, Pair, ClientLine, RequestLine, pair_at, sids_at, client_at, request_of, line_of}
 use Rattle.fsa_model.specs.Script.{Reading, nothing_read, takes_version, takes_table, takes_pairs, takes_clients, takes_requests, place_of, next_number, with_call, with_client, take_client, take_call, take_request_of, take_request, take_line, line_after, end_after, at_line, lines_from, pieces, script_of}
 use Rattle.fsa_model.specs.Schedule.{calls_of, leave_after, AreNumbered, all_calls}
-use Rattle.fsa_model.proofs.Quiet.{ticks_fit}
+use Rattle.fsa_model.specs.LineCalls.{ticks_fit, IsLineCall, AreLineCalls, HaveSids}
 use Rattle.fsa_model.proofs.ScheduleLaws.{calls_of-push}
 
 -- ---- the leaves behind the lines
@@ -56,32 +60,32 @@ all_calls-numbered script numbered =
 -- ---- what holds of all that may be read
 
 -- what was read, if anything was, is so
-record Gives {A E : Type 0} (P : A → Type 0) (read : Result A E) : Type 0 where
+record IfRead {A E : Type 0} (P : A → Type 0) (read : Result A E) : Type 0 where
   given : (value : A) → read ≡ Ok value → P value
 
-ok-gives : {A E : Type 0} (P : A → Type 0) (value : A) → P value → Gives {E = E} P (Ok value)
+ok-gives : {A E : Type 0} (P : A → Type 0) (value : A) → P value → IfRead {E = E} P (Ok value)
 ok-gives P value holds = record { given = λ other is. let same : value ≡ other = cc in subst P same holds }
 
-err-gives : {A E : Type 0} (P : A → Type 0) (fault : E) → Gives {A = A} P (Err fault)
+err-gives : {A E : Type 0} (P : A → Type 0) (fault : E) → IfRead {A = A} P (Err fault)
 err-gives P fault = record { given = λ value is. cc }
 
-bind-gives : {A B : Type 0} (P : A → Type 0) (Q : B → Type 0) (read : Result A Kind) (more : A → Result B Kind) → Gives P read → ((value : A) → P value → Gives Q (more value)) → Gives Q (read >>= more)
+bind-gives : {A B : Type 0} (P : A → Type 0) (Q : B → Type 0) (read : Result A Kind) (more : A → Result B Kind) → IfRead P read → ((value : A) → P value → IfRead Q (more value)) → IfRead Q (read >>= more)
 bind-gives P Q (Ok value) more gives next = next value (gives.given value refl)
 bind-gives P Q (Err kind) more gives next = err-gives Q kind
 
-then-gives : {A B : Type 0} (Q : B → Type 0) (read : Result A Kind) (more : A → Result B Kind) → ((value : A) → Gives Q (more value)) → Gives Q (read >>= more)
+then-gives : {A B : Type 0} (Q : B → Type 0) (read : Result A Kind) (more : A → Result B Kind) → ((value : A) → IfRead Q (more value)) → IfRead Q (read >>= more)
 then-gives Q (Ok value) more next = next value
 then-gives Q (Err kind) more next = err-gives Q kind
 
-if-gives : {A E : Type 0} (P : A → Type 0) (test : Bool) (one other : Result A E) → (test ≡ true → Gives P one) → (test ≡ false → Gives P other) → Gives P (if test then one else other)
+if-gives : {A E : Type 0} (P : A → Type 0) (test : Bool) (one other : Result A E) → (test ≡ true → IfRead P one) → (test ≡ false → IfRead P other) → IfRead P (if test then one else other)
 if-gives P true one other holds fails = holds refl
 if-gives P false one other holds fails = fails refl
 
-only_if-gives : {A : Type 0} (P : A → Type 0) (test : Bool) (value : A) → P value → Gives P (only_if test value)
+only_if-gives : {A : Type 0} (P : A → Type 0) (test : Bool) (value : A) → P value → IfRead P (only_if test value)
 only_if-gives P true value holds = ok-gives P value holds
 only_if-gives P false value holds = err-gives P _
 
-only_if-when : {A : Type 0} (P : A → Type 0) (test : Bool) (value : A) → (test ≡ true → P value) → Gives P (only_if test value)
+only_if-when : {A : Type 0} (P : A → Type 0) (test : Bool) (value : A) → (test ≡ true → P value) → IfRead P (only_if test value)
 only_if-when P true value holds = ok-gives P value (holds refl)
 only_if-when P false value holds = err-gives P BadSyntax
 
@@ -111,11 +115,11 @@ number_of-bound base most (byte ∷ []) number is = number_after-bound base most
 number_of-bound base most (byte ∷ second ∷ bytes) number is =
     number_after-bound base most 0 (byte ∷ second ∷ bytes) number (omega arith) (else_some (byte == 48) _ number is)
 
-read_as-gives : {A : Type 0} (P : A → Type 0) (read : Option A) → ((value : A) → read ≡ Some value → P value) → Gives P (read_as read)
+read_as-gives : {A : Type 0} (P : A → Type 0) (read : Option A) → ((value : A) → read ≡ Some value → P value) → IfRead P (read_as read)
 read_as-gives P None holds = err-gives P _
 read_as-gives P (Some value) holds = ok-gives P value (holds value refl)
 
-number_at-bound : (most : ℕ) (bytes : List ℕ) → Gives (IsAtMost most) (number_at most bytes)
+number_at-bound : (most : ℕ) (bytes : List ℕ) → IfRead (IsAtMost most) (number_at most bytes)
 unfolding number_at
 number_at-bound most bytes =
     then-gives (IsAtMost most) (field_at bytes) _ (λ word.
@@ -126,11 +130,11 @@ number_at-bound most bytes =
 abbrev IsHalf : ℕ → List ℕ → Type 0
 IsHalf most items = length items + length items ≤ most
 
-onto-half : (most item : ℕ) (read : Result (List ℕ) Kind) → Gives (IsHalf most) read → Gives (IsHalf (suc (suc most))) (onto item read)
+onto-half : (most item : ℕ) (read : Result (List ℕ) Kind) → IfRead (IsHalf most) read → IfRead (IsHalf (suc (suc most))) (onto item read)
 onto-half most item (Ok items) half = ok-gives (IsHalf (suc (suc most))) (item ∷ items) (let few : length items + length items ≤ most = half.given items refl in omega arith)
 onto-half most item (Err kind) half = err-gives (IsHalf (suc (suc most))) kind
 
-bytes_of-half : (digits : List ℕ) → Gives (IsHalf (length digits)) (bytes_of digits)
+bytes_of-half : (digits : List ℕ) → IfRead (IsHalf (length digits)) (bytes_of digits)
 bytes_of-half [] = ok-gives (IsHalf 0) [] (omega arith)
 bytes_of-half (digit ∷ []) = err-gives (IsHalf 1) _
 bytes_of-half (high ∷ low ∷ digits) =
@@ -142,10 +146,10 @@ bytes_of-half (high ∷ low ∷ digits) =
 abbrev IsShort : List ℕ → Type 0
 IsShort items = length items ≤ 16384
 
-half-short : (most : ℕ) (read : Result (List ℕ) Kind) → most ≤ 32768 → Gives (IsHalf most) read → Gives IsShort read
+half-short : (most : ℕ) (read : Result (List ℕ) Kind) → most ≤ 32768 → IfRead (IsHalf most) read → IfRead IsShort read
 half-short most read few half = record { given = λ items is. let twice : length items + length items ≤ most = half.given items is in omega arith }
 
-string_of-short : (word : List ℕ) → Gives IsShort (string_of word)
+string_of-short : (word : List ℕ) → IfRead IsShort (string_of word)
 unfolding string_of
 string_of-short [] = err-gives IsShort _
 string_of-short (byte ∷ digits) =
@@ -156,7 +160,7 @@ string_of-short (byte ∷ digits) =
 abbrev IsShortAt : List ℕ × List ℕ → Type 0
 IsShortAt read = IsShort read.0
 
-string_at-short : (bytes : List ℕ) → Gives IsShortAt (string_at bytes)
+string_at-short : (bytes : List ℕ) → IfRead IsShortAt (string_at bytes)
 unfolding string_at
 string_at-short bytes =
     then-gives IsShortAt (field_at bytes) _ (λ word.
@@ -167,12 +171,12 @@ string_at-short bytes =
 abbrev Fits : What → Type 0
 Fits what = IsTrue (what_fits what) × IsTrue (marks_nothing what) × IsTrue (ticks_fit what)
 
-ended-gives : {A : Type 0} (P : A → Type 0) (rest : List ℕ) (value : A) → P value → Gives P (ended rest value)
+ended-gives : {A : Type 0} (P : A → Type 0) (rest : List ℕ) (value : A) → P value → IfRead P (ended rest value)
 ended-gives P rest value holds = only_if-gives P (length rest == 0) value holds
 
-create_at-fits : (bytes : List ℕ) → Gives Fits (create_at bytes)
-unfolding create_at
-create_at-fits bytes =
+create_fields-fits : (bytes : List ℕ) → IfRead Fits (create_fields bytes)
+unfolding create_fields
+create_fields-fits bytes =
     then-gives Fits (text_at bytes) _ (λ path. then-gives Fits (mask_at path.1) _ (λ wanted. then-gives Fits (mask_at wanted.1) _ (λ share.
     then-gives Fits (disposition_at share.1) _ (λ disposition. then-gives Fits (mask_at disposition.1) _ (λ options. then-gives Fits (mask_at options.1) _ (λ attributes.
     then-gives Fits (number_at most_key attributes.1) _ (λ key.
@@ -180,27 +184,27 @@ create_at-fits bytes =
     (only_if-when Fits (is_built_create options.0) (Ask (Create path.0 wanted.0 share.0 disposition.0 options.0 attributes.0 key.0)) (λ built. (refl, built, refl)))
     (λ what fits. ended-gives Fits key.1 what fits))))))))
 
-close_at-fits : (bytes : List ℕ) → Gives Fits (close_at bytes)
-unfolding close_at
-close_at-fits bytes = then-gives Fits (number_at most_id bytes) _ (λ handle. ended-gives Fits handle.1 (Ask (Close handle.0)) (refl, refl, refl))
+close_fields-fits : (bytes : List ℕ) → IfRead Fits (close_fields bytes)
+unfolding close_fields
+close_fields-fits bytes = then-gives Fits (number_at most_id bytes) _ (λ handle. ended-gives Fits handle.1 (Ask (Close handle.0)) (refl, refl, refl))
 
-read_at-fits : (bytes : List ℕ) → Gives Fits (read_at bytes)
-unfolding read_at
-read_at-fits bytes =
+read_fields-fits : (bytes : List ℕ) → IfRead Fits (read_fields bytes)
+unfolding read_fields
+read_fields-fits bytes =
     then-gives Fits (number_at most_id bytes) _ (λ handle. then-gives Fits (number_at most_place handle.1) _ (λ place.
     bind-gives (IsAtMost most_bytes) Fits (number_at most_bytes place.1) _ (number_at-bound most_bytes place.1) (λ count below.
     ended-gives Fits count.1 (Ask (Read handle.0 place.0 count.0)) (le-leb count.0 16384 below, refl, refl))))
 
-write_at-fits : (bytes : List ℕ) → Gives Fits (write_at bytes)
-unfolding write_at
-write_at-fits bytes =
+write_fields-fits : (bytes : List ℕ) → IfRead Fits (write_fields bytes)
+unfolding write_fields
+write_fields-fits bytes =
     then-gives Fits (number_at most_id bytes) _ (λ handle. then-gives Fits (number_at most_place handle.1) _ (λ place.
     bind-gives IsShortAt Fits (string_at place.1) _ (string_at-short place.1) (λ string short.
     ended-gives Fits string.1 (Ask (Write handle.0 (Some place.0) string.0)) (le-leb (length string.0) 16384 short, refl, refl))))
 
-tick_at-fits : (bytes : List ℕ) → Gives Fits (tick_at bytes)
-unfolding tick_at
-tick_at-fits bytes =
+tick_fields-fits : (bytes : List ℕ) → IfRead Fits (tick_fields bytes)
+unfolding tick_fields
+tick_fields-fits bytes =
     bind-gives (IsAtMost most_id) Fits (number_at most_id bytes) _ (number_at-bound most_id bytes) (λ ticks below.
     ended-gives Fits ticks.1 (Tick ticks.0) (refl, refl, le-leb ticks.0 4294967295 below))
 
@@ -208,11 +212,11 @@ tick_at-fits bytes =
 abbrev AreFew : ℕ → List Ace → Type 0
 AreFew most aces = length aces ≤ most
 
-ace_onto-few : (most : ℕ) (ace : Ace) (read : Result (List Ace) Kind) → Gives (AreFew most) read → Gives (AreFew (suc most)) (ace_onto ace read)
+ace_onto-few : (most : ℕ) (ace : Ace) (read : Result (List Ace) Kind) → IfRead (AreFew most) read → IfRead (AreFew (suc most)) (ace_onto ace read)
 ace_onto-few most ace (Ok aces) few = ok-gives (AreFew (suc most)) (ace ∷ aces) (let at_most : length aces ≤ most = few.given aces refl in omega arith)
 ace_onto-few most ace (Err kind) few = err-gives (AreFew (suc most)) kind
 
-aces_of-few : (most : ℕ) (bytes : List ℕ) → Gives (AreFew most) (aces_of most bytes)
+aces_of-few : (most : ℕ) (bytes : List ℕ) → IfRead (AreFew most) (aces_of most bytes)
 unfolding aces_of
 aces_of-few zero bytes = only_if-gives (AreFew 0) (length bytes == 0) [] (omega arith)
 aces_of-few (suc most) [] = ok-gives (AreFew (suc most)) [] (omega arith)
@@ -224,7 +228,7 @@ aces_of-few (suc most) (comma ∷ bytes) =
 abbrev DaclFits : DaclChange → Type 0
 DaclFits dacl = IsTrue (dacl_fits dacl)
 
-dacl_of-fits : (word : List ℕ) → Gives DaclFits (dacl_of word)
+dacl_of-fits : (word : List ℕ) → IfRead DaclFits (dacl_of word)
 unfolding dacl_of
 dacl_of-fits word =
     if-gives DaclFits (same word (codes "keep")) _ _ (λ is. ok-gives DaclFits Keep refl)
@@ -236,28 +240,28 @@ dacl_of-fits word =
 abbrev DaclFitsAt : DaclChange × List ℕ → Type 0
 DaclFitsAt read = DaclFits read.0
 
-dacl_at-fits : (bytes : List ℕ) → Gives DaclFitsAt (dacl_at bytes)
+dacl_at-fits : (bytes : List ℕ) → IfRead DaclFitsAt (dacl_at bytes)
 unfolding dacl_at
 dacl_at-fits bytes =
     then-gives DaclFitsAt (field_at bytes) _ (λ word.
     bind-gives DaclFits DaclFitsAt (dacl_of word.0) _ (dacl_of-fits word.0) (λ dacl fits. ok-gives DaclFitsAt (dacl, word.1) fits))
 
-set_security_at-fits : (bytes : List ℕ) → Gives Fits (set_security_at bytes)
-unfolding set_security_at
-set_security_at-fits bytes =
+set_security_fields-fits : (bytes : List ℕ) → IfRead Fits (set_security_fields bytes)
+unfolding set_security_fields
+set_security_fields-fits bytes =
     then-gives Fits (number_at most_id bytes) _ (λ handle. then-gives Fits (owner_at handle.1) _ (λ owner.
     bind-gives DaclFitsAt Fits (dacl_at owner.1) _ (dacl_at-fits owner.1) (λ dacl fits.
     ended-gives Fits dacl.1 (Ask (SetSecurity handle.0 owner.0 dacl.0)) (fits, refl, refl))))
 
-what_of-fits : (verb fields : List ℕ) → Gives Fits (what_of verb fields)
+what_of-fits : (verb fields : List ℕ) → IfRead Fits (what_of verb fields)
 unfolding what_of
 what_of-fits verb fields =
-    if-gives Fits (same verb (codes "create")) _ _ (λ is. create_at-fits fields)
-    (λ no. if-gives Fits (same verb (codes "close")) _ _ (λ is. close_at-fits fields)
-    (λ no. if-gives Fits (same verb (codes "read")) _ _ (λ is. read_at-fits fields)
-    (λ no. if-gives Fits (same verb (codes "write")) _ _ (λ is. write_at-fits fields)
-    (λ no. if-gives Fits (same verb (codes "tick")) _ _ (λ is. tick_at-fits fields)
-    (λ no. if-gives Fits (same verb (codes "setsecurity")) _ _ (λ is. set_security_at-fits fields)
+    if-gives Fits (same verb (codes "create")) _ _ (λ is. create_fields-fits fields)
+    (λ no. if-gives Fits (same verb (codes "close")) _ _ (λ is. close_fields-fits fields)
+    (λ no. if-gives Fits (same verb (codes "read")) _ _ (λ is. read_fields-fits fields)
+    (λ no. if-gives Fits (same verb (codes "write")) _ _ (λ is. write_fields-fits fields)
+    (λ no. if-gives Fits (same verb (codes "setsecurity")) _ _ (λ is. set_security_fields-fits fields)
+    (λ no. if-gives Fits (same verb (codes "tick")) _ _ (λ is. tick_fields-fits fields)
     (λ no. err-gives Fits _))))))
 
 -- a line that is a request is within the bounds, and one of a client has a SID
@@ -266,23 +270,23 @@ LineFits (ClientLine name sids) = 0 < length sids
 LineFits (RequestLine name number what) = Fits what
 LineFits _ = Unit {0}
 
-pair_at-fits : (bytes : List ℕ) → Gives LineFits (pair_at bytes)
+pair_at-fits : (bytes : List ℕ) → IfRead LineFits (pair_at bytes)
 unfolding pair_at
 pair_at-fits bytes = then-gives LineFits (mask_at bytes) _ (λ source. then-gives LineFits (mask_at source.1) _ (λ target. ended-gives LineFits target.1 (Pair source.0 target.0) tt))
 
-client_at-fits : (bytes : List ℕ) → Gives LineFits (client_at bytes)
+client_at-fits : (bytes : List ℕ) → IfRead LineFits (client_at bytes)
 unfolding client_at
 client_at-fits bytes =
     then-gives LineFits (field_at bytes) _ (λ word. then-gives LineFits (only_if (is_name word.0) word.0) _ (λ name. then-gives LineFits (number_at most_id word.1) _ (λ sid.
     then-gives LineFits (sids_at 15 sid.1) _ (λ sids. ok-gives LineFits (ClientLine name (sid.0 ∷ sids)) (omega arith)))))
 
-request_of-fits : (bytes : List ℕ) → Gives LineFits (request_of bytes)
+request_of-fits : (bytes : List ℕ) → IfRead LineFits (request_of bytes)
 unfolding request_of
 request_of-fits bytes =
     then-gives LineFits (only_if (is_name (word_of bytes)) (word_of bytes)) _ (λ name. then-gives LineFits (number_at most_id (after_word bytes)) _ (λ number. then-gives LineFits (field_at number.1) _ (λ verb.
     bind-gives Fits LineFits (what_of verb.0 verb.1) _ (what_of-fits verb.0 verb.1) (λ what fits. ok-gives LineFits (RequestLine name number.0 what) fits))))
 
-line_of-fits : (bytes : List ℕ) → Gives LineFits (line_of bytes)
+line_of-fits : (bytes : List ℕ) → IfRead LineFits (line_of bytes)
 unfolding line_of
 line_of-fits bytes =
     if-gives LineFits (same bytes (codes "fsa 1")) _ _ (λ is. ok-gives LineFits Version tt)
@@ -293,23 +297,6 @@ line_of-fits bytes =
     (λ no. request_of-fits bytes)))))
 
 -- ---- the calls of the lines so far
-
--- a call of one of so many clients, within the bounds of requests, that marks nothing for deletion
-pub record IsLineCall (clients : ℕ) (call : Call) : Type 0 where
-  pub fits : IsTrue (what_fits call.what)
-  pub marks_nothing : IsTrue (marks_nothing call.what)
-  pub ticks : IsTrue (ticks_fit call.what)
-  pub client : call.client < clients
-
--- each call is such a one
-abbrev pub AreLineCalls : ℕ → List Call → Type 0
-AreLineCalls clients [] = Unit {0}
-AreLineCalls clients (call ∷ more) = IsLineCall clients call × AreLineCalls clients more
-
--- each client has a SID
-abbrev pub HaveSids : List Client → Type 0
-HaveSids [] = Unit {0}
-HaveSids (client ∷ more) = (0 < length client.sids) × HaveSids more
 
 HaveSids-push : (clients : List Client) (client : Client) → HaveSids clients → 0 < length client.sids → HaveSids (clients ++ client ∷ [])
 HaveSids-push [] client have last = (last, tt)
@@ -367,7 +354,7 @@ place_of-below : (clients : List Client) (name : List ℕ) (place : ℕ) → pla
 place_of-below clients name place is = (position-Some (λ (client : Client). same name client.name) clients place (record { name = []; sids = [] }) is).0
 
 take_call-lawful : (reading : Reading) (client number : ℕ) (what : What) → IsLawful reading → client < clients_in reading → Fits what → length reading.script.lines < 64
-    → Gives IsLawful (take_call reading client number what)
+    → IfRead IsLawful (take_call reading client number what)
 unfolding take_call
 take_call-lawful reading client number what lawful known fits few =
     if-gives IsLawful (number == next_number reading.script.lines client) _ _
@@ -379,7 +366,7 @@ take_call-lawful reading client number what lawful known fits few =
     (λ out. err-gives IsLawful _)
 
 take_request_of-lawful : (reading : Reading) (place : Option ℕ) (number : ℕ) (what : What) → IsLawful reading → ((client : ℕ) → place ≡ Some client → client < clients_in reading) → Fits what
-    → length reading.script.lines < 64 → Gives IsLawful (take_request_of reading place number what)
+    → length reading.script.lines < 64 → IfRead IsLawful (take_request_of reading place number what)
 take_request_of-lawful reading None number what lawful known fits few = err-gives IsLawful _
 take_request_of-lawful reading (Some client) number what lawful known fits few = take_call-lawful reading client number what lawful (known client refl) fits few
 
@@ -388,20 +375,20 @@ right_true true true e = refl
 right_true true false e = cc
 right_true false right e = cc
 
-take_request-lawful : (reading : Reading) (name : List ℕ) (number : ℕ) (what : What) → IsLawful reading → Fits what → Gives IsLawful (take_request reading name number what)
+take_request-lawful : (reading : Reading) (name : List ℕ) (number : ℕ) (what : What) → IsLawful reading → Fits what → IfRead IsLawful (take_request reading name number what)
 unfolding take_request
 take_request-lawful reading name number what lawful fits =
     if-gives IsLawful (not (takes_requests reading.stage && nat_lt (length reading.script.lines) 64)) _ _
     (λ over. err-gives IsLawful _)
     (λ within. take_request_of-lawful reading (place_of reading.script.setup.clients name) number what lawful (place_of-below reading.script.setup.clients name) fits (ltb-true _ 64 (right_true (takes_requests reading.stage) (nat_lt (length reading.script.lines) 64) within)))
 
-take_client-lawful : (reading : Reading) (name sids : List ℕ) → IsLawful reading → 0 < length sids → Gives IsLawful (take_client reading name sids)
+take_client-lawful : (reading : Reading) (name sids : List ℕ) → IsLawful reading → 0 < length sids → IfRead IsLawful (take_client reading name sids)
 unfolding take_client
 take_client-lawful reading name sids lawful some =
     if-gives IsLawful (not (takes_clients reading.stage)) _ _ (λ bad. err-gives IsLawful _)
     (λ good. if-gives IsLawful (is_some (place_of reading.script.setup.clients name)) _ _ (λ named. err-gives IsLawful _) (λ new. ok-gives IsLawful (with_client reading name sids) (HaveSids-push reading.script.setup.clients (record { name = name; sids = sids }) lawful.0 some, Lawful-more (clients_in reading) (clients_in (with_client reading name sids)) reading.script.lines (omega (arith, length-append reading.script.setup.clients (record { name = name; sids = sids } ∷ []))) lawful.1)))
 
-take_line-lawful : (reading : Reading) (line : Line) → IsLawful reading → LineFits line → Gives IsLawful (take_line reading line)
+take_line-lawful : (reading : Reading) (line : Line) → IsLawful reading → LineFits line → IfRead IsLawful (take_line reading line)
 unfolding take_line
 take_line-lawful reading Version lawful fits = only_if-gives IsLawful (takes_version reading.stage) _ lawful
 take_line-lawful reading DefaultTable lawful fits = only_if-gives IsLawful (takes_table reading.stage) _ lawful
@@ -411,31 +398,31 @@ take_line-lawful reading (Pair source target) lawful fits =
 take_line-lawful reading (ClientLine name sids) lawful fits = take_client-lawful reading name sids lawful fits
 take_line-lawful reading (RequestLine name number what) lawful fits = take_request-lawful reading name number what lawful fits
 
-line_after-lawful : (reading : Reading) (bytes : List ℕ) → IsLawful reading → Gives IsLawful (line_after reading bytes)
+line_after-lawful : (reading : Reading) (bytes : List ℕ) → IsLawful reading → IfRead IsLawful (line_after reading bytes)
 unfolding line_after
 line_after-lawful reading bytes lawful = bind-gives LineFits IsLawful (line_of bytes) (take_line reading) (line_of-fits bytes) (λ line fits. take_line-lawful reading line lawful fits)
 
 abbrev HasLawful : Script → Type 0
 HasLawful script = IsLawfulScript script
 
-end_after-lawful : (line : ℕ) (reading : Reading) (rest : List ℕ) → IsLawful reading → Gives HasLawful (end_after line reading rest)
+end_after-lawful : (line : ℕ) (reading : Reading) (rest : List ℕ) → IsLawful reading → IfRead HasLawful (end_after line reading rest)
 unfolding end_after
 end_after-lawful line reading rest lawful =
     if-gives HasLawful (not (length rest == 0)) _ _ (λ cut. err-gives HasLawful _)
     (λ whole. if-gives HasLawful (not (takes_requests reading.stage)) _ _ (λ bad. err-gives HasLawful _) (λ good. ok-gives HasLawful reading.script lawful))
 
-at_line-lawful : (line : ℕ) (read : Result Reading Kind) (more : Reading → Result Script Fault) → Gives IsLawful read → ((next : Reading) → IsLawful next → Gives HasLawful (more next)) → Gives HasLawful (at_line line read more)
+at_line-lawful : (line : ℕ) (read : Result Reading Kind) (more : Reading → Result Script Fault) → IfRead IsLawful read → ((next : Reading) → IsLawful next → IfRead HasLawful (more next)) → IfRead HasLawful (at_line line read more)
 at_line-lawful line (Ok reading) more lawful next = next reading (lawful.given reading refl)
 at_line-lawful line (Err kind) more lawful next = err-gives HasLawful _
 
-lines_from-lawful : (line : ℕ) (reading : Reading) (texts : List (List ℕ)) → IsLawful reading → Gives HasLawful (lines_from line reading texts)
+lines_from-lawful : (line : ℕ) (reading : Reading) (texts : List (List ℕ)) → IsLawful reading → IfRead HasLawful (lines_from line reading texts)
 lines_from-lawful line reading [] lawful = end_after-lawful line reading [] lawful
 lines_from-lawful line reading (bytes ∷ more) lawful =
     if-gives HasLawful (length more == 0) _ _
     (λ last. end_after-lawful line reading bytes lawful)
     (λ inner. at_line-lawful line (line_after reading bytes) (λ next. lines_from (line + 1) next more) (line_after-lawful reading bytes lawful) (λ next kept. lines_from-lawful (line + 1) next more kept))
 
-script_of-gives : (bytes : List ℕ) → Gives HasLawful (script_of bytes)
+script_of-gives : (bytes : List ℕ) → IfRead HasLawful (script_of bytes)
 unfolding script_of
 script_of-gives bytes =
     if-gives HasLawful (length bytes == 0) _ _ (λ none. err-gives HasLawful _)

@@ -25,17 +25,18 @@ use Rattle.fsa_model.specs.Lines.{Line, RequestLine, client_at, sids_at, request
 use Rattle.fsa_model.specs.Lookups.{next_pending}
 use Rattle.fsa_model.specs.Open.{try_create, create_at, create_walked, create_named, create_by_link, create_found, create_there, create_in_file, create_stream, create_on_stream, open_stream, open_directory, open_granted, overwrite_existing, open_existing, clashed, create_missing, make_file, make_directory, stopped}
 use Rattle.fsa_model.specs.Outcome.{Outcome, Done}
-use Rattle.fsa_model.specs.Requests.{disposition_at, what_of, owner_at, ace_with, ace_of, aces_of, dacl_of, dacl_at}
-use Rattle.fsa_model.specs.Requests as requests
+use Rattle.fsa_model.specs.OpenLines.{disposition_at, create_fields}
+use Rattle.fsa_model.specs.InformationLines.{set_security_fields, owner_at, ace_with, ace_of, aces_of, dacl_of, dacl_at}
+use Rattle.fsa_model.specs.Requests.{what_of}
+use Rattle.fsa_model.specs.Spelling.{line_text, is_line}
+use Rattle.fsa_model.specs.Words.{field_at, number_at, mask_of, mask_at, text_of, text_at}
 use Rattle.fsa_model.specs.Schedule.{plain}
 use Rattle.fsa_model.specs.Script.{take_line, take_client, take_request, take_call, line_after, end_after, script_of}
 use Rattle.fsa_model.specs.Security.{try_set_security, set_security_at, set_security_by, set_security_of}
 use Rattle.fsa_model.specs.Setup.{Script}
-use Rattle.fsa_model.specs.Spelling.{line_text, is_line}
 use Rattle.fsa_model.specs.Text.{text}
 use Rattle.fsa_model.specs.Turn.{turn, try}
 use Rattle.fsa_model.specs.Volume.{File, Link, Stream, Handle, Pending, Change, Volume, fresh, root}
-use Rattle.fsa_model.specs.Words.{field_at, number_at, mask_of, mask_at, text_of, text_at}
 use Rattle.fsa_model.specs.Write.{try_write, write_at, write_by, write_stream, write_at_place, write_range, write_unlocked, write_grown, write_bytes}
 
 -- ---- what is there
@@ -498,7 +499,7 @@ said = sets 1 None Keep
     ∷ []
 
 pub sets_said : map line_of lines ≡ map {B = Result Line Kind} Ok said
-unfolding line_of request_of what_of requests.set_security_at owner_at dacl_at dacl_of aces_of ace_of ace_with mask_of number_at field_at
+unfolding line_of request_of what_of set_security_fields owner_at dacl_at dacl_of aces_of ace_of ace_with mask_of number_at field_at
 sets_said = refl
 
 -- written, with small numbers
@@ -577,7 +578,7 @@ pub no_entries :
     ∷ codes " 1 keep acl,+9:0x2,-9:0xAB"
     ∷ []))
     ≡ replicate 29 (Err BadSyntax)
-unfolding line_of request_of what_of requests.set_security_at owner_at dacl_at dacl_of aces_of ace_of ace_with mask_of number_at field_at
+unfolding line_of request_of what_of set_security_fields owner_at dacl_at dacl_of aces_of ace_of ace_with mask_of number_at field_at
 no_entries = refl
 
 -- the words of the list and of the owner, the numbers, the number of fields, and their spaces
@@ -616,7 +617,7 @@ pub no_sets :
     ∷ codes "  1 keep keep"
     ∷ []))
     ≡ replicate 31 (Err BadSyntax)
-unfolding line_of request_of what_of requests.set_security_at owner_at dacl_at dacl_of aces_of ace_of ace_with mask_of number_at field_at
+unfolding line_of request_of what_of set_security_fields owner_at dacl_at dacl_of aces_of ace_of ace_with mask_of number_at field_at
 no_sets = refl
 
 -- ---- whole runs
@@ -645,7 +646,7 @@ row = record {
 }
 
 pub row_read : script_of row_bytes ≡ Ok row
-unfolding script_of line_after line_of client_at sids_at request_of what_of requests.create_at text_at text_of mask_at mask_of disposition_at number_at field_at take_line take_client take_request take_call end_after requests.set_security_at owner_at dacl_at dacl_of aces_of ace_of ace_with
+unfolding script_of line_after line_of client_at sids_at request_of what_of create_fields text_at text_of mask_at mask_of disposition_at number_at field_at take_line take_client take_request take_call end_after set_security_fields owner_at dacl_at dacl_of aces_of ace_of ace_with
 row_read = refl
 
 pub row_run :

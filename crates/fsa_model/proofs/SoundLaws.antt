@@ -1,6 +1,6 @@
 -- What stays true of a volume when it changes.
 use Rattle.std.proofs.Common.{◌≡◌, ℕ, zero, suc, ◌+◌, ◌-◌, ◌^◌, ◌<◌, ◌≤◌, Bool, true, false, not, List, [], ◌∷◌, ◌++◌, length, get_or, refl, ap, sym, ◌∙◌, arith, inl, inr, Option, Some, None}
-use Rattle.std.specs.List.{filter, list_any, All}
+use Rattle.std.specs.List.{filter, find, list_any, All}
 use Rattle.std.specs.Option.{option_map_or}
 use Rattle.std.specs.Prelude.{◌==◌, ◌||◌, ◌&&◌, is_some, map, option_map, IfSome}
 use Rattle.std.proofs.lemmas.Bool.{ne_eqb, eq-eqb, both_ways, eqb-true, not-true, cases_Bool, or_cases, and_parts, and_from, and_cases, and_right}
@@ -10,11 +10,12 @@ use Rattle.std.proofs.lemmas.List.Quantifiers.{all_pairs_push}
 use Rattle.std.proofs.lemmas.List.Kept.{AllPairs-filter}
 use Rattle.fsa_types.specs.Rows.{row_of, lives, without_row, with_row_changed, IsNumbered}
 use Rattle.std.proofs.lemmas.List.{length-map}
+use Rattle.fsa_types.proofs.OplockLemmas.{AreOplocks-nil, AreOplocks-filter}
 use Rattle.fsa_model.specs.Setup.{Setup}
-use Rattle.fsa_model.specs.Volume.{File, Link, Stream, Handle, Volume, fresh, root}
+use Rattle.fsa_model.specs.Volume.{File, Link, Stream, Handle, Oplock, Volume, fresh, root}
 use Rattle.fsa_model.specs.Lookups.{child_of, stream_of, handle_of, is_named, is_stream_named, is_opened_by, is_directory, has_child, has_row, leads_to, link_of_file, is_open_on, is_open_by}
 use Rattle.fsa_model.specs.Edits.{with_file, with_link, with_stream, with_handle, without_handle, with_link_marked, without_stream, without_file, without_link}
-use Rattle.fsa_model.specs.Sound.{IsSound, LeadsUp, PointFits, is_of_living, is_stream_of_link, has_its_stream}
+use Rattle.fsa_model.specs.Sound.{IsSound, LeadsUp, PointFits, is_of_living, is_stream_of_link, has_its_stream, has_its_key}
 use Rattle.fsa_model.proofs.RowLaws.{any-push, any-filter, any-filter_none, find-all, find-any, find-none, row_of-all, any-map, any-same, any-weaker, find-map, find-same, find-filter, AllPairs-map, change_at, change_at-same, change_at-number, IsNumbered-change, row_of-here, eqb-swap, or_right, option_cases, none-all, number_of-none, lives-given, IsNumbered-push, IsNumbered-filter, or-false}
 
 -- a file more is no directory's number that was given before
@@ -74,6 +75,9 @@ IsSound-with_file v file sound ids_left fits = record {
   links_numbered = sound.links_numbered;
   streams_numbered = sound.streams_numbered;
   handles_numbered = sound.handles_numbered;
+  locks_numbered = sound.locks_numbered;
+  oplocks = sound.oplocks;
+  blockers_given = sound.blockers_given;
   streams_fit = sound.streams_fit;
   points_fit = All-push (λ entry. PointFits entry.1) v.files (v.last_file + 1, file) sound.points_fit fits;
   bounded = record { files = ids_left; links = sound.bounded.links; streams = sound.bounded.streams; handles = sound.bounded.handles; clock = sound.bounded.clock; locks = sound.bounded.locks; breaks = sound.bounded.breaks };
@@ -170,6 +174,9 @@ IsSound-with_link v parent name file sound ids_left directory leads unmarked liv
       links_numbered = IsNumbered-push v.links v.last_link link sound.links_numbered;
       streams_numbered = sound.streams_numbered;
       handles_numbered = sound.handles_numbered;
+      locks_numbered = sound.locks_numbered;
+      oplocks = sound.oplocks;
+      blockers_given = sound.blockers_given;
       streams_fit = sound.streams_fit;
       points_fit = sound.points_fit;
       bounded = record { files = sound.bounded.files; links = ids_left; streams = sound.bounded.streams; handles = sound.bounded.handles; clock = sound.bounded.clock; locks = sound.bounded.locks; breaks = sound.bounded.breaks };
@@ -209,10 +216,26 @@ IsSound-with_stream v file name sound ids_left living no_directory fresh_name =
       links_numbered = sound.links_numbered;
       streams_numbered = IsNumbered-push v.streams v.last_stream stream sound.streams_numbered;
       handles_numbered = sound.handles_numbered;
+      locks_numbered = sound.locks_numbered;
+      oplocks = sound.oplocks;
+      blockers_given = sound.blockers_given;
       streams_fit = All-push (λ entry. length entry.1.bytes ≤ 2 ^ 26) v.streams row sound.streams_fit (omega arith);
       points_fit = sound.points_fit;
       bounded = record { files = sound.bounded.files; links = sound.bounded.links; streams = ids_left; handles = sound.bounded.handles; clock = sound.bounded.clock; locks = sound.bounded.locks; breaks = sound.bounded.breaks };
     }
+
+-- an oplock has its handle's key also where a handle is added
+has_its_key-push : (handles : List (ℕ × Handle)) (row : ℕ × Handle) (oplock : Oplock) → has_its_key handles oplock ≡ true → has_its_key (handles ++ row ∷ []) oplock ≡ true
+has_its_key-push handles row oplock has = elim (option_cases (find (λ e. e.0 == oplock.handle) handles)) [
+  | inl none ↦ (let impossible : false ≡ true = rw none at has in cc)
+  | inr some ↦ rw (find-append (λ e. e.0 == oplock.handle) handles (row ∷ []), some.1) (rw some.1 at has)
+]
+
+-- or another one is taken out
+has_its_key-without : (handles : List (ℕ × Handle)) (gone : ℕ) (oplock : Oplock) → (oplock.handle == gone) ≡ false → has_its_key handles oplock ≡ true
+    → has_its_key (without_row handles gone) oplock ≡ true
+has_its_key-without handles gone oplock other has =
+    rw (find-filter (λ e. e.0 == oplock.handle) (λ e. not (e.0 == gone)) handles (λ k d within here. rw (eqb-true (get_or handles k d).0 oplock.handle here, other) refl)) has
 
 pub IsSound-with_handle : (v : Volume) (handle : Handle) → IsSound v → v.last_handle + 1 < 2 ^ 32 - 1
     → is_of_living v.links v.streams handle ≡ true → has_its_stream v.files v.links handle ≡ true → handle_of v handle.client handle.number ≡ None → handle.client < length v.clients
@@ -231,7 +254,7 @@ IsSound-with_handle v handle sound ids_left living its_stream fresh_number clien
       clients = sound.clients;
       of_handles = record {
         locks_live = λ k d within. any-push _ v.handles _ (sound.of_handles.locks_live k d within);
-        oplocks_live = λ k d within. any-push _ v.handles _ (sound.of_handles.oplocks_live k d within);
+        oplocks_have_keys = λ k d within. has_its_key-push v.handles row (get_or v.oplocks k d) (sound.of_handles.oplocks_have_keys k d within);
         watches_live = λ k d within. any-push _ v.handles _ (sound.of_handles.watches_live k d within);
         watches_differ = sound.of_handles.watches_differ;
       };
@@ -239,6 +262,9 @@ IsSound-with_handle v handle sound ids_left living its_stream fresh_number clien
       links_numbered = sound.links_numbered;
       streams_numbered = sound.streams_numbered;
       handles_numbered = IsNumbered-push v.handles v.last_handle handle sound.handles_numbered;
+      locks_numbered = sound.locks_numbered;
+      oplocks = sound.oplocks;
+      blockers_given = sound.blockers_given;
       streams_fit = sound.streams_fit;
       points_fit = sound.points_fit;
       bounded = record { files = sound.bounded.files; links = sound.bounded.links; streams = sound.bounded.streams; handles = ids_left; clock = sound.bounded.clock; locks = sound.bounded.locks; breaks = sound.bounded.breaks };
@@ -264,9 +290,9 @@ IsSound-without_handle v handle sound = record {
     locks_live = λ k d within. lives-without v.handles _ handle
         (All-filter (λ entry. not (entry.1.handle == handle)) (λ entry. lives v.handles entry.1.handle ≡ true) v.locks sound.of_handles.locks_live k d within)
         (not-true _ (filter_passes (λ entry. not (entry.1.handle == handle)) v.locks k d within));
-    oplocks_live = λ k d within. lives-without v.handles _ handle
-        (All-filter (λ oplock. not (oplock.handle == handle)) (λ oplock. lives v.handles oplock.handle ≡ true) v.oplocks sound.of_handles.oplocks_live k d within)
-        (not-true _ (filter_passes (λ oplock. not (oplock.handle == handle)) v.oplocks k d within));
+    oplocks_have_keys = λ k d within. has_its_key-without v.handles handle (get_or (filter (λ oplock. not (oplock.handle == handle)) v.oplocks) k d)
+        (not-true _ (filter_passes (λ oplock. not (oplock.handle == handle)) v.oplocks k d within))
+        (All-filter (λ oplock. not (oplock.handle == handle)) (λ oplock. has_its_key v.handles oplock ≡ true) v.oplocks sound.of_handles.oplocks_have_keys k d within);
     watches_live = λ k d within. lives-without v.handles _ handle
         (All-filter (λ watch. not (watch.handle == handle)) (λ watch. lives v.handles watch.handle ≡ true) v.watches sound.of_handles.watches_live k d within)
         (not-true _ (filter_passes (λ watch. not (watch.handle == handle)) v.watches k d within));
@@ -276,6 +302,9 @@ IsSound-without_handle v handle sound = record {
   links_numbered = sound.links_numbered;
   streams_numbered = sound.streams_numbered;
   handles_numbered = IsNumbered-filter (λ entry. not (entry.0 == handle)) v.handles v.last_handle sound.handles_numbered;
+  locks_numbered = IsNumbered-filter (λ entry. not (entry.1.handle == handle)) v.locks v.last_lock sound.locks_numbered;
+  oplocks = AreOplocks-filter (λ oplock. not (oplock.handle == handle)) v.oplocks v.last_break sound.oplocks;
+  blockers_given = sound.blockers_given;
   streams_fit = sound.streams_fit;
   points_fit = sound.points_fit;
   bounded = record { files = sound.bounded.files; links = sound.bounded.links; streams = sound.bounded.streams; handles = sound.bounded.handles; clock = sound.bounded.clock; locks = sound.bounded.locks; breaks = sound.bounded.breaks };
@@ -323,6 +352,9 @@ IsSound-file_changed v change file sound directory point =
       links_numbered = sound.links_numbered;
       streams_numbered = sound.streams_numbered;
       handles_numbered = sound.handles_numbered;
+      locks_numbered = sound.locks_numbered;
+      oplocks = sound.oplocks;
+      blockers_given = sound.blockers_given;
       streams_fit = sound.streams_fit;
       points_fit = All-map (λ entry. PointFits entry.1) (change_at change file) v.files
           (λ k d within. elim (cases_Bool ((get_or v.files k d).0 == file)) [
@@ -376,6 +408,9 @@ IsSound-stream_changed v change stream sound file name fits =
       links_numbered = sound.links_numbered;
       streams_numbered = IsNumbered-change change v.streams v.last_stream stream sound.streams_numbered;
       handles_numbered = sound.handles_numbered;
+      locks_numbered = sound.locks_numbered;
+      oplocks = sound.oplocks;
+      blockers_given = sound.blockers_given;
       streams_fit = All-map (λ entry. length entry.1.bytes ≤ 2 ^ 26) at v.streams
           (λ k d within. elim (cases_Bool ((get_or v.streams k d).0 == stream)) [
             | inl here ↦ rw here (fits _ (sound.streams_fit k d within))
@@ -471,6 +506,9 @@ IsSound-with_link_marked v link deleted sound empty =
       links_numbered = IsNumbered-change change v.links v.last_link link sound.links_numbered;
       streams_numbered = sound.streams_numbered;
       handles_numbered = sound.handles_numbered;
+      locks_numbered = sound.locks_numbered;
+      oplocks = sound.oplocks;
+      blockers_given = sound.blockers_given;
       streams_fit = sound.streams_fit;
       points_fit = sound.points_fit;
       bounded = record { files = sound.bounded.files; links = sound.bounded.links; streams = sound.bounded.streams; handles = sound.bounded.handles; clock = sound.bounded.clock; locks = sound.bounded.locks; breaks = sound.bounded.breaks };
@@ -513,6 +551,9 @@ IsSound-without_stream v stream sound unopened =
       links_numbered = sound.links_numbered;
       streams_numbered = IsNumbered-filter kept v.streams v.last_stream sound.streams_numbered;
       handles_numbered = sound.handles_numbered;
+      locks_numbered = sound.locks_numbered;
+      oplocks = sound.oplocks;
+      blockers_given = sound.blockers_given;
       streams_fit = All-filter kept (λ entry. length entry.1.bytes ≤ 2 ^ 26) v.streams sound.streams_fit;
       points_fit = sound.points_fit;
       bounded = record { files = sound.bounded.files; links = sound.bounded.links; streams = sound.bounded.streams; handles = sound.bounded.handles; clock = sound.bounded.clock; locks = sound.bounded.locks; breaks = sound.bounded.breaks };
@@ -603,6 +644,9 @@ IsSound-link_out v link gone sound found empty unopened =
       links_numbered = IsNumbered-filter kept v.links v.last_link sound.links_numbered;
       streams_numbered = sound.streams_numbered;
       handles_numbered = sound.handles_numbered;
+      locks_numbered = sound.locks_numbered;
+      oplocks = sound.oplocks;
+      blockers_given = sound.blockers_given;
       streams_fit = sound.streams_fit;
       points_fit = sound.points_fit;
       bounded = record { files = sound.bounded.files; links = sound.bounded.links; streams = sound.bounded.streams; handles = sound.bounded.handles; clock = sound.bounded.clock; locks = sound.bounded.locks; breaks = sound.bounded.breaks };
@@ -679,6 +723,9 @@ IsSound-without_file v file sound unlinked empty not_root =
       links_numbered = sound.links_numbered;
       streams_numbered = IsNumbered-filter kept_stream v.streams v.last_stream sound.streams_numbered;
       handles_numbered = sound.handles_numbered;
+      locks_numbered = sound.locks_numbered;
+      oplocks = sound.oplocks;
+      blockers_given = sound.blockers_given;
       streams_fit = All-filter kept_stream (λ entry. length entry.1.bytes ≤ 2 ^ 26) v.streams sound.streams_fit;
       points_fit = All-filter kept (λ entry. PointFits entry.1) v.files sound.points_fit;
       bounded = record { files = sound.bounded.files; links = sound.bounded.links; streams = sound.bounded.streams; handles = sound.bounded.handles; clock = sound.bounded.clock; locks = sound.bounded.locks; breaks = sound.bounded.breaks };
@@ -732,11 +779,14 @@ IsSound-fresh setup sids = record {
   opens = record { are_of_living = All-nil _; have_streams = All-nil _; differ = λ i j d below within. absurd (omega arith); have_clients = All-nil _ };
   pending = record { differ = λ i j d below within. absurd (omega arith); turns_differ = λ i j d below within. absurd (omega arith); have_clients = All-nil _ };
   clients = record { have_sids = sids; may_leave = length-map setup.clients (λ _. false) };
-  of_handles = record { locks_live = All-nil _; oplocks_live = All-nil _; watches_live = All-nil _; watches_differ = λ i j d below within. absurd (omega arith) };
+  of_handles = record { locks_live = All-nil _; oplocks_have_keys = All-nil _; watches_live = All-nil _; watches_differ = λ i j d below within. absurd (omega arith) };
   files_numbered = record { rising = λ i j d below within. absurd (omega arith); given = All-push (λ entry. entry.0 ≤ 1) [] (1, root) (All-nil _) (omega arith) };
   links_numbered = record { rising = λ i j d below within. absurd (omega arith); given = All-nil _ };
   streams_numbered = record { rising = λ i j d below within. absurd (omega arith); given = All-nil _ };
   handles_numbered = record { rising = λ i j d below within. absurd (omega arith); given = All-nil _ };
+  locks_numbered = record { rising = λ i j d below within. absurd (omega arith); given = All-nil _ };
+  oplocks = AreOplocks-nil 0;
+  blockers_given = All-nil _;
   streams_fit = All-nil _;
   points_fit = All-push (λ entry. PointFits entry.1) [] (1, root) (All-nil _) tt;
   bounded = record { files = omega arith; links = omega arith; streams = omega arith; handles = omega arith; clock = omega arith; locks = omega arith; breaks = omega arith };

@@ -1,22 +1,23 @@
 -- The break of oplocks over a volume: which are broken, in what order, what becomes of them, whose
 -- calls are told, and for which breaks a request waits, after [MS-FSA] 'Algorithm to Check for an
 -- Oplock Break'.
-use Rattle.std.specs.Prelude.{ℕ, Bool, true, false, List, [], ◌+◌, ◌&&◌, ◌==◌, not, nat_lt, Option, Some, None, filter, find, map, fold, is_some, option_and_then, if◌then◌else◌}
+use Rattle.std.specs.Prelude.{ℕ, Bool, List, [], false, ◌&&◌, ◌==◌, not, nat_lt, Option, filter, map, fold, option_and_then, if◌then◌else◌}
 use Rattle.std.specs.Option.{option_map_or}
 use Rattle.std.specs.Ordering.{is_lt}
 use Rattle.fsa_types.specs.CaseTable.{cmp_name, same_name}
-use Rattle.fsa_types.specs.Oplocks.{Effect, Stays, Ends, Begins, Lowers, effect, is_awaited, is_same_key}
+pub use Rattle.fsa_types.specs.OplockLists.{is_told}
+use Rattle.fsa_types.specs.OplockLists.{OplockState, after_effect, effect_on, told_by, told_among, number_of_break, awaited_among}
+use Rattle.fsa_types.specs.Oplocks.{Effect, Begins, is_same_key}
 use Rattle.fsa_types.specs.Rows.{row_of}
 use Rattle.fsa_types.specs.Sorting.{in_order}
 use Rattle.fsa_types.specs.declared.oplock.Class.{Class}
 use Rattle.fsa_types.specs.declared.oplock.HandleSet.{HandleSet}
 use Rattle.fsa_types.specs.declared.reply.Body.TheVariants.{Broken}
 use Rattle.fsa_types.specs.declared.request.Level.{Level}
-use Rattle.fsa_types.specs.declared.request.Level.TheVariants.{Nil}
 use Rattle.fsa_types.specs.declared.status.Status.TheVariants.{Success}
 use Rattle.fsa_model.specs.Volume.{Oplock, Volume}
 use Rattle.fsa_model.specs.Lookups.{is_on, file_of_link}
-use Rattle.fsa_model.specs.Edits.{with_end, without_oplock}
+use Rattle.fsa_model.specs.Edits.{with_end}
 
 -- the file of a handle, and the name of its stream, empty for a directory
 abbrev pub file_of_handle : Volume → ℕ → ℕ
@@ -55,6 +56,40 @@ with_told v turn level ack =
     (λ row. with_end v row.call.client row.call.number (record { status = Success; body = Broken level ack }))
     (option_and_then (row_of v.pending) turn) v
 
+-- the holder of an oplock that this call granted is told, where it is to be
+abbrev pub with_told_by : Volume → Option ℕ → Effect → Volume
+with_told_by v turn done = option_map_or (λ told. with_told v turn told.0 told.1) (told_by done) v
+
+-- the oplocks, with the number of the last break that began
+abbrev pub oplocks_of : Volume → OplockState
+oplocks_of v = record { oplocks = v.oplocks; last_break = v.last_break }
+
+-- these in their place
+abbrev pub with_oplocks : Volume → OplockState → Volume
+with_oplocks v held = record v { oplocks = held.oplocks; last_break = held.last_break }
+
+-- what the effect on an oplock leaves of the volume
+abbrev pub with_effect : Volume → Oplock → Effect → Volume
+with_effect v oplock done = with_told_by (with_oplocks v (after_effect done oplock.handle (oplocks_of v))) oplock.call done
+
+-- all oplocks that are chosen broken, one after the other
+abbrev pub with_breaks : Volume → HandleSet → Class → Option ℕ → ℕ → Volume
+with_breaks v on class acting key = fold (λ w oplock. with_effect w oplock (effect_on class oplock)) v (chosen v on acting key)
+
+-- the number of the break in progress on a handle
+abbrev pub break_of : Volume → ℕ → ℕ
+break_of v handle = number_of_break v.oplocks handle
+
+-- the breaks that the request waits for, in order
+abbrev pub awaited : Volume → HandleSet → Class → Option ℕ → ℕ → List ℕ
+awaited v on class acting key = awaited_among class (chosen v on acting key) (with_breaks v on class acting key).oplocks
+
+-- the oplocks whose pending calls are told
+abbrev pub told : Volume → HandleSet → Class → Option ℕ → ℕ → List Oplock
+told v on class acting key = told_among class (chosen v on acting key)
+
+-- ---- parts of it
+
 -- the handle's oplock with this change
 abbrev pub with_oplock_changed : Volume → (Oplock → Oplock) → ℕ → Volume
 with_oplock_changed v change handle =
@@ -62,40 +97,4 @@ with_oplock_changed v change handle =
 
 -- a numbered break of the handle's oplock has begun
 abbrev pub with_break_begun : Volume → ℕ → Level → Volume
-with_break_begun v handle level =
-    record (with_oplock_changed v (λ oplock. record oplock { target = Some level; number = v.last_break + 1; call = None }) handle) {
-      last_break = v.last_break + 1;
-    }
-
--- what the effect on an oplock leaves of the volume
-abbrev pub with_effect : Volume → Oplock → Effect → Volume
-with_effect v oplock Stays = v
-with_effect v oplock Ends = with_told (without_oplock v oplock.handle) oplock.call Nil false
-with_effect v oplock (Begins level) = with_told (with_break_begun v oplock.handle level) oplock.call level true
-with_effect v oplock (Lowers level) = with_oplock_changed v (λ o. record o { target = Some level }) oplock.handle
-
--- all oplocks that are chosen broken, one after the other
-abbrev pub with_breaks : Volume → HandleSet → Class → Option ℕ → ℕ → Volume
-with_breaks v on class acting key =
-    fold (λ w oplock. with_effect w oplock (effect class oplock.level oplock.target)) v (chosen v on acting key)
-
--- the number of the break in progress on a handle
-abbrev pub break_of : Volume → ℕ → ℕ
-break_of v handle = option_map_or (λ oplock. oplock.number) (find (λ oplock. oplock.handle == handle) v.oplocks) 0
-
--- the breaks that the request waits for, in order
-abbrev pub awaited : Volume → HandleSet → Class → Option ℕ → ℕ → List ℕ
-awaited v on class acting key =
-    map (λ oplock. break_of (with_breaks v on class acting key) oplock.handle)
-    (filter (λ oplock. is_awaited class oplock.level oplock.target) (chosen v on acting key))
-
--- its holder is told
-abbrev pub is_told : Effect → Bool
-is_told Ends = true
-is_told (Begins level) = true
-is_told _ = false
-
--- the oplocks whose pending calls are told
-abbrev pub told : Volume → HandleSet → Class → Option ℕ → ℕ → List Oplock
-told v on class acting key =
-    filter (λ oplock. is_told (effect class oplock.level oplock.target) && is_some oplock.call) (chosen v on acting key)
+with_break_begun v handle level = with_oplocks v (after_effect (Begins level) handle (oplocks_of v))

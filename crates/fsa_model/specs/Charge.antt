@@ -21,6 +21,10 @@ abbrev pub charge : Volume → ℕ → ℕ
 charge v owner =
     sum_by (λ entry. 4096 * clusters_for (length entry.1.bytes)) (filter (λ entry. is_owned_by v owner entry.1.file) v.streams)
 
+-- the bytes of the clusters of all streams of a file
+abbrev pub charge_of_file : Volume → ℕ → ℕ
+charge_of_file v file = sum_by (λ entry. 4096 * clusters_for (length entry.1.bytes)) (filter (λ entry. entry.1.file == file) v.streams)
+
 -- the owner's limit, in bytes; one that isn't set is the largest number
 abbrev pub limit : Volume → ℕ → ℕ
 limit v owner = option_map_or (λ bytes. bytes) (row_of v.limits owner) (2 ^ 64 - 1)

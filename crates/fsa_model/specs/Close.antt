@@ -1,6 +1,7 @@
 -- Closing a handle, and a client's leaving, after [MS-FSA] 'Server Requests Closing an Open'.
 use Rattle.std.specs.Prelude.{ℕ, Bool, true, false, ◌==◌, ◌&&◌, not, nat_lt, List, length, filter, fold, Option, Some, None, option_and_then, if◌then◌else◌}
 use Rattle.std.specs.Option.{option_map_or}
+use Rattle.fsa_types.specs.Masks.{FILE_ACTION_REMOVED, FILE_ACTION_REMOVED_STREAM, FILE_NOTIFY_CHANGE_DIR_NAME, FILE_NOTIFY_CHANGE_FILE_NAME, FILE_NOTIFY_CHANGE_STREAM_NAME}
 use Rattle.fsa_types.specs.Rows.{row_of}
 use Rattle.fsa_types.specs.Sorting.{in_order}
 use Rattle.fsa_types.specs.declared.request.Request.{Request}
@@ -12,11 +13,9 @@ use Rattle.fsa_types.specs.declared.status.Status.{Status}
 use Rattle.fsa_types.specs.declared.status.Status.TheVariants.{Success, InvalidHandle, Cancelled, NotifyCleanup, OplockHandleClosed}
 use Rattle.fsa_model.specs.Changes.{with_change_noted}
 use Rattle.fsa_model.specs.Edits.{with_end, with_left, with_link_marked, with_stream_marked, without_handle, without_link, without_stream}
-use Rattle.fsa_model.specs.Lookups.{handle_of, has_child, has_row, is_directory, is_open_by, is_open_on}
-use Rattle.fsa_model.specs.Open.{is_marked}
+use Rattle.fsa_model.specs.Lookups.{handle_of, has_child, has_row, is_directory, is_marked, is_named_stream, is_open_by, is_open_on}
 use Rattle.fsa_model.specs.Outcome.{Outcome, ends_with, refused}
 use Rattle.fsa_model.specs.Volume.{Handle, Pending, Volume}
-use Rattle.fsa_model.specs.Write.{is_named_stream}
 
 -- ---- calls that end with a handle, or with a client
 
@@ -108,7 +107,7 @@ is_stream_over v stream = is_marked v stream && not (has_row (is_open_on stream)
 
 abbrev pub with_stream_swept : Volume → ℕ → ℕ → Volume
 with_stream_swept v link stream =
-    if is_stream_over v stream then without_stream (with_change_noted v link 7 0x200 (Some stream)) stream else v
+    if is_stream_over v stream then without_stream (with_change_noted v link FILE_ACTION_REMOVED_STREAM FILE_NOTIFY_CHANGE_STREAM_NAME (Some stream)) stream else v
 
 -- a link that is marked and has no handle is noted and removed, and with its last link the file and its
 -- streams: FILE_ACTION_REMOVED, under FILE_NOTIFY_CHANGE_DIR_NAME or FILE_NOTIFY_CHANGE_FILE_NAME
@@ -117,11 +116,13 @@ is_link_over v link =
     option_map_or (λ row. row.deleted) (row_of v.links link) false && not (has_row (is_open_by link) v.handles)
 
 abbrev pub name_bit : Volume → ℕ → ℕ
-name_bit v link = option_map_or (λ row. if is_directory v.files row.file then 0x2 else 0x1) (row_of v.links link) 0x1
+name_bit v link =
+    option_map_or (λ row. if is_directory v.files row.file then FILE_NOTIFY_CHANGE_DIR_NAME else FILE_NOTIFY_CHANGE_FILE_NAME) (row_of v.links link)
+    FILE_NOTIFY_CHANGE_FILE_NAME
 
 abbrev pub with_link_swept : Volume → ℕ → Volume
 with_link_swept v link =
-    if is_link_over v link then without_link (with_change_noted v link 2 (name_bit v link) None) link else v
+    if is_link_over v link then without_link (with_change_noted v link FILE_ACTION_REMOVED (name_bit v link) None) link else v
 
 -- what the close of the last handle removes: its stream, and then its link
 abbrev pub with_swept : Volume → Handle → Volume

@@ -3,8 +3,8 @@ use Rattle.std.specs.Prelude.{ℕ, zero, suc, ◌==◌, List, [], ◌∷◌, Res
 use Rattle.std.specs.List.{starts_with}
 use Rattle.fsa_types.specs.declared.request.What.{What}
 use Rattle.fsa_model.specs.Fault.{Kind, ◌>>=◌, only_if}
-use Rattle.fsa_model.specs.Words.{same, word_of, after_word, field_at, number_at, mask_at, ended, is_name, onto}
-use Rattle.fsa_model.specs.Requests.{most_id, what_of}
+use Rattle.fsa_model.specs.Words.{most_id, same, word_of, after_word, field_at, number_at, mask_at, ended, is_name, onto}
+use Rattle.fsa_model.specs.Requests.{what_of}
 
 -- the first line, a line that begins the case table, a pair of that table, a client with its SIDs,
 -- a request with its client's name and its number

@@ -3,14 +3,9 @@
 use Rattle.std.specs.Prelude.{ℕ, Bool, List, false, filter}
 use Rattle.std.specs.Option.{option_map_or}
 use Rattle.fsa_types.specs.Ranges.{read_conflicts, write_conflicts}
-use Rattle.fsa_types.specs.Ranges as range
 use Rattle.fsa_types.specs.Rows.{row_of}
 use Rattle.fsa_model.specs.Lookups.{has_row, is_open_on}
 use Rattle.fsa_model.specs.Volume.{Lock, Volume}
-
--- a lock, as it is asked for conflicts
-abbrev pub range_of : Lock → range.Lock
-range_of lock = record { handle = lock.handle; at = lock.at; count = lock.count; exclusive = lock.exclusive }
 
 -- the lock is of a handle on this stream
 abbrev pub is_lock_on_stream : Volume → ℕ → Lock → Bool
@@ -22,8 +17,8 @@ locks_on v stream = filter (λ entry. is_lock_on_stream v stream entry.1) v.lock
 
 -- a read of this range by this handle conflicts with a lock on the stream
 abbrev pub read_is_locked : Volume → ℕ → ℕ → ℕ → ℕ → Bool
-read_is_locked v handle stream at count = has_row (λ lock. read_conflicts handle at count (range_of lock)) (locks_on v stream)
+read_is_locked v handle stream at count = has_row (read_conflicts handle at count) (locks_on v stream)
 
 -- a write does
 abbrev pub write_is_locked : Volume → ℕ → ℕ → ℕ → ℕ → Bool
-write_is_locked v handle stream at count = has_row (λ lock. write_conflicts handle at count (range_of lock)) (locks_on v stream)
+write_is_locked v handle stream at count = has_row (write_conflicts handle at count) (locks_on v stream)

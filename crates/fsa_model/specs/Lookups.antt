@@ -1,6 +1,6 @@
 -- What can be looked up in a volume: links by directory and name, streams by file and name, handles
--- by client and number, and what belongs to what.
-use Rattle.std.specs.Prelude.{ℕ, Bool, false, List, [], ◌&&◌, ◌||◌, ◌==◌, not, Option, Some, find, filter, length, nat_lt, option_map, zero, suc, if◌then◌else◌}
+-- by client and number, what a file and a stream are, and what belongs to what.
+use Rattle.std.specs.Prelude.{ℕ, Bool, false, List, [], ◌&&◌, ◌||◌, ◌==◌, not, Option, Some, find, filter, length, nat_lt, option_map, slice_get, zero, suc, if◌then◌else◌}
 use Rattle.std.specs.Option.{option_map_or}
 use Rattle.std.specs.List.{list_any, slice_index_or}
 use Rattle.fsa_types.specs.CaseTable.{same_name}
@@ -68,6 +68,36 @@ links_of v file = (
 abbrev pub file_of_link : List (ℕ × Link) → ℕ → Option ℕ
 file_of_link links link = if link == 0 then Some 1 else option_map (λ row. row.file) (row_of links link)
 
+-- the times of a file, its attributes and its owner
+abbrev pub creation_time : Volume → ℕ → ℕ
+creation_time v file = option_map_or (λ row. row.creation) (row_of v.files file) 0
+
+abbrev pub access_time : Volume → ℕ → ℕ
+access_time v file = option_map_or (λ row. row.access) (row_of v.files file) 0
+
+abbrev pub write_time : Volume → ℕ → ℕ
+write_time v file = option_map_or (λ row. row.write) (row_of v.files file) 0
+
+abbrev pub attributes_of : Volume → ℕ → ℕ
+attributes_of v file = option_map_or (λ row. row.attributes) (row_of v.files file) 0
+
+abbrev pub owner_of : Volume → ℕ → ℕ
+owner_of v file = option_map_or (λ row. row.owner) (row_of v.files file) 0
+
+-- the file of a stream; whether the stream is named, and whether it is marked for deletion
+abbrev pub file_of_stream : Volume → ℕ → ℕ
+file_of_stream v stream = option_map_or (λ row. row.file) (row_of v.streams stream) 0
+
+abbrev pub is_named_stream : Volume → ℕ → Bool
+is_named_stream v stream = option_map_or (λ row. not (length row.name == 0)) (row_of v.streams stream) false
+
+abbrev pub is_marked : Volume → ℕ → Bool
+is_marked v stream = option_map_or (λ row. row.deleted) (row_of v.streams stream) false
+
+-- the largest end of a range of a stream's bytes
+abbrev pub largest_end : ℕ
+largest_end = 0x7FFFFFFFFFFFFFFF
+
 -- the bytes of a stream
 abbrev pub bytes_of : Volume → ℕ → List ℕ
 bytes_of v stream = option_map_or (λ row. row.bytes) (row_of v.streams stream) []
@@ -119,6 +149,10 @@ next_handle_of v client after =
 abbrev pub clashes_on : Volume → HandleSet → ℕ → ℕ → Bool
 clashes_on v on access share =
     has_row (λ handle. is_on v on handle && clash access share handle.access handle.share) v.handles
+
+-- a client's SIDs
+abbrev pub sids_of : Volume → ℕ → List ℕ
+sids_of v client = option_map_or (λ row. row.sids) (slice_get v.clients client) []
 
 -- a client has left
 abbrev pub has_left : Volume → ℕ → Bool

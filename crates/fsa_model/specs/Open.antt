@@ -4,6 +4,7 @@ use Rattle.std.specs.Prelude.{ℕ, ◌+◌, ◌==◌, ◌&&◌, ◌||◌, not, n
 use Rattle.std.specs.Option.{option_map_or}
 use Rattle.std.specs.Int.RustNames.{bit_and, bit_or}
 use Rattle.fsa_types.specs.Access.{has_any, denied, map_generic}
+use Rattle.fsa_types.specs.Masks.{APPEND_DATA, ARCHIVE, COMPLETE_IF_OPLOCKED, DELETE, DELETE_ON_CLOSE, DIRECTORY_FILE, FILE_ACTION_ADDED, FILE_ACTION_ADDED_STREAM, FILE_ACTION_MODIFIED, FILE_ACTION_MODIFIED_STREAM, FILE_NOTIFY_CHANGE_ATTRIBUTES, FILE_NOTIFY_CHANGE_DIR_NAME, FILE_NOTIFY_CHANGE_FILE_NAME, FILE_NOTIFY_CHANGE_LAST_WRITE, FILE_NOTIFY_CHANGE_SIZE, FILE_NOTIFY_CHANGE_STREAM_NAME, FILE_NOTIFY_CHANGE_STREAM_SIZE, FILE_NOTIFY_CHANGE_STREAM_WRITE, HIDDEN, IO_REPARSE_TAG_SYMLINK, NON_DIRECTORY_FILE, OPEN_REPARSE_POINT, READONLY, SYSTEM, WRITE_DATA}
 use Rattle.fsa_types.specs.Paths.{path_fault, components, rest_of}
 use Rattle.fsa_types.specs.Paths as path
 use Rattle.fsa_types.specs.Rows.{row_of}
@@ -20,7 +21,7 @@ use Rattle.fsa_types.specs.declared.status.Status.{Status}
 use Rattle.fsa_types.specs.declared.status.Status.TheVariants.{Success, Reparse, StoppedOnSymlink, OplockBreakInProgress, ObjectPathNotFound, InvalidParameter, AccessDenied, ObjectNameInvalid, ObjectNameNotFound, ObjectNameCollision, SharingViolation, DeletePending, CannotDelete, NotADirectory, FileIsADirectory}
 use Rattle.fsa_model.specs.Volume.{File, Volume}
 use Rattle.fsa_model.specs.Edits.{with_file, with_link, with_stream, with_handle, with_length, with_basic}
-use Rattle.fsa_model.specs.Lookups.{child_of, stream_of, is_directory, clashes_on}
+use Rattle.fsa_model.specs.Lookups.{access_time, attributes_of, child_of, clashes_on, creation_time, is_directory, is_marked, sids_of, stream_of}
 use Rattle.fsa_model.specs.Breaks.{with_breaks}
 use Rattle.fsa_model.specs.Changes.{with_change_noted}
 use Rattle.fsa_model.specs.Outcome.{Outcome, Done, refused}
@@ -45,21 +46,21 @@ pub record Asked : Type 0 where
 abbrev pub has_other : ℕ → ℕ → Bool
 has_other mask bits = not (bit_and mask bits == mask)
 
--- DIRECTORY_FILE, NON_DIRECTORY_FILE, COMPLETE_IF_OPLOCKED, DELETE_ON_CLOSE, OPEN_REPARSE_POINT
+-- the options that have an effect
 abbrev pub wants_directory : Asked → Bool
-wants_directory asked = has_any asked.options 0x1
+wants_directory asked = has_any asked.options DIRECTORY_FILE
 
 abbrev pub wants_file : Asked → Bool
-wants_file asked = has_any asked.options 0x40
+wants_file asked = has_any asked.options NON_DIRECTORY_FILE
 
 abbrev pub completes_if_oplocked : Asked → Bool
-completes_if_oplocked asked = has_any asked.options 0x100
+completes_if_oplocked asked = has_any asked.options COMPLETE_IF_OPLOCKED
 
 abbrev pub deletes_on_close : Asked → Bool
-deletes_on_close asked = has_any asked.options 0x1000
+deletes_on_close asked = has_any asked.options DELETE_ON_CLOSE
 
 abbrev pub opens_point : Asked → Bool
-opens_point asked = has_any asked.options 0x200000
+opens_point asked = has_any asked.options OPEN_REPARSE_POINT
 
 -- what is there is overwritten
 abbrev pub overwrites : Disposition → Bool
@@ -98,7 +99,7 @@ wants_no_right asked = asked.wanted == 0 || has_other asked.wanted 0xF01F01FF
 
 -- DELETE_ON_CLOSE without DELETE, which GENERIC_ALL has in it
 abbrev pub lacks_delete : Asked → Bool
-lacks_delete asked = deletes_on_close asked && not (has_any (access_of asked) 0x10000)
+lacks_delete asked = deletes_on_close asked && not (has_any (access_of asked) DELETE)
 
 -- a path has a stream part, which may be `::$DATA`; the name of its stream, empty for the default stream
 -- and without a stream part; it names a stream that isn't the default stream
@@ -113,10 +114,7 @@ names_stream units = not (length (stream_name units) == 0)
 
 -- ---- what is there
 
--- the client's SIDs; the first owns what the client makes
-abbrev pub sids_of : Volume → ℕ → List ℕ
-sids_of v client = option_map_or (λ row. row.sids) (slice_get v.clients client) []
-
+-- the client's first SID owns what the client makes
 abbrev pub first_sid : Volume → ℕ → ℕ
 first_sid v client = unwrap_or (slice_get (sids_of v client) 0) 0
 
@@ -125,27 +123,19 @@ abbrev pub grants : Volume → ℕ → ℕ → ℕ → Bool
 grants v file client rights =
     option_map_or (λ row. not (denied row.dacl row.owner (sids_of v client) rights)) (row_of v.files file) false
 
--- the attributes of a file
-abbrev pub attributes_of : Volume → ℕ → ℕ
-attributes_of v file = option_map_or (λ row. row.attributes) (row_of v.files file) 0
-
--- READONLY
+-- a file may not be written
 abbrev pub is_readonly : Volume → ℕ → Bool
-is_readonly v file = has_any (attributes_of v file) 0x1
+is_readonly v file = has_any (attributes_of v file) READONLY
 
 -- HIDDEN or SYSTEM, and a request without that attribute
 abbrev pub uncovers : ℕ → ℕ → Bool
-uncovers kept asked = (has_any kept 0x2 && not (has_any asked 0x2)) || (has_any kept 0x4 && not (has_any asked 0x4))
-
--- a stream is marked for deletion
-abbrev pub is_marked : Volume → ℕ → Bool
-is_marked v stream = option_map_or (λ row. row.deleted) (row_of v.streams stream) false
+uncovers kept asked = (has_any kept HIDDEN && not (has_any asked HIDDEN)) || (has_any kept SYSTEM && not (has_any asked SYSTEM))
 
 -- ---- how it ends
 
 -- how a reparse point of this tag stops an open: as a symbolic link, or as another
 abbrev pub stop_status : ℕ → Status
-stop_status tag = if tag == 0xA000000C then StoppedOnSymlink else Reparse
+stop_status tag = if tag == IO_REPARSE_TAG_SYMLINK then StoppedOnSymlink else Reparse
 
 -- the reparse point of the file stops the open: its tag and bytes, and these units, which are left of the path
 unfoldable pub stopped : Volume → ℕ → List ℕ → Outcome
@@ -205,7 +195,7 @@ kept_attributes attributes = bit_and attributes 0x27
 
 -- a file has ARCHIVE
 abbrev pub file_attributes : ℕ → ℕ
-file_attributes attributes = bit_or (kept_attributes attributes) 0x20
+file_attributes attributes = bit_or (kept_attributes attributes) ARCHIVE
 
 -- the directory made, with its link
 abbrev pub with_directory_made : Volume → Asked → ℕ → List ℕ → Volume
@@ -220,11 +210,11 @@ with_file_made v asked dir name =
 -- it is opened, and noted: FILE_ACTION_ADDED, under FILE_NOTIFY_CHANGE_DIR_NAME or FILE_NOTIFY_CHANGE_FILE_NAME
 abbrev pub with_new_directory : Volume → Asked → ℕ → List ℕ → Volume
 with_new_directory v asked dir name =
-    with_change_noted (with_open (with_directory_made v asked dir name) asked (v.last_link + 1) None) (v.last_link + 1) 1 0x2 None
+    with_change_noted (with_open (with_directory_made v asked dir name) asked (v.last_link + 1) None) (v.last_link + 1) FILE_ACTION_ADDED FILE_NOTIFY_CHANGE_DIR_NAME None
 
 abbrev pub with_new_file : Volume → Asked → ℕ → List ℕ → Volume
 with_new_file v asked dir name =
-    with_change_noted (with_open (with_file_made v asked dir name) asked (v.last_link + 1) (Some (v.last_stream + 1))) (v.last_link + 1) 1 0x1 None
+    with_change_noted (with_open (with_file_made v asked dir name) asked (v.last_link + 1) (Some (v.last_stream + 1))) (v.last_link + 1) FILE_ACTION_ADDED FILE_NOTIFY_CHANGE_FILE_NAME None
 
 -- a file with a named stream, which is opened; the file is noted, and then the stream:
 -- FILE_ACTION_ADDED_STREAM, under FILE_NOTIFY_CHANGE_STREAM_NAME
@@ -233,14 +223,14 @@ with_new_file_and_stream v asked dir name =
     with_change_noted
     (with_change_noted
     (with_open (with_stream (with_file_made v asked dir name) (v.last_file + 1) (stream_name asked.path)) asked (v.last_link + 1) (Some (v.last_stream + 2)))
-    (v.last_link + 1) 1 0x1 None)
-    (v.last_link + 1) 6 0x200 (Some (v.last_stream + 2))
+    (v.last_link + 1) FILE_ACTION_ADDED FILE_NOTIFY_CHANGE_FILE_NAME None)
+    (v.last_link + 1) FILE_ACTION_ADDED_STREAM FILE_NOTIFY_CHANGE_STREAM_NAME (Some (v.last_stream + 2))
 
 -- a named stream of a file made, opened by this link, and noted
 abbrev pub with_new_stream : Volume → Asked → ℕ → ℕ → Volume
 with_new_stream v asked link file =
     with_change_noted (with_open (with_stream v file (stream_name asked.path)) asked link (Some (v.last_stream + 1)))
-    link 6 0x200 (Some (v.last_stream + 1))
+    link FILE_ACTION_ADDED_STREAM FILE_NOTIFY_CHANGE_STREAM_NAME (Some (v.last_stream + 1))
 
 -- it ends so
 unfoldable pub make_directory : Volume → Asked → ℕ → List ℕ → Outcome
@@ -254,13 +244,13 @@ make_file v asked dir name =
 -- what the parent has to grant: ADD_SUBDIRECTORY, which is APPEND_DATA, for a directory, and ADD_FILE,
 -- which is WRITE_DATA, for a file
 abbrev pub parent_right : Asked → ℕ
-parent_right asked = if wants_directory asked then 0x4 else 0x2
+parent_right asked = if wants_directory asked then APPEND_DATA else WRITE_DATA
 
 -- nothing has the last name
 unfoldable pub create_missing : Volume → Asked → ℕ → List ℕ → Outcome
 create_missing v asked dir name =
     if only_opens asked.disposition then refused v ObjectNameNotFound
-    else if deletes_on_close asked && has_any asked.attributes 0x1 then refused v CannotDelete
+    else if deletes_on_close asked && has_any asked.attributes READONLY then refused v CannotDelete
     else if not (grants v dir asked.client (parent_right asked)) then refused v AccessDenied
     else if wants_directory asked then make_directory v asked dir name
     else make_file v asked dir name
@@ -285,21 +275,22 @@ open_existing v asked link stream on =
     else if completes_if_oplocked asked then opened (with_breaks v on ReadOpen None asked.key) asked link stream OplockBreakInProgress action.Opened
     else held v on ReadOpen asked.key
 
--- the times of a file that an overwrite leaves as they are
-abbrev pub creation_time : Volume → ℕ → ℕ
-creation_time v file = option_map_or (λ row. row.creation) (row_of v.files file) 0
-
-abbrev pub access_time : Volume → ℕ → ℕ
-access_time v file = option_map_or (λ row. row.access) (row_of v.files file) 0
-
 -- a file that is overwritten: these attributes in place of the old ones, write and change time the clock
 abbrev pub with_file_overwritten : Volume → ℕ → ℕ → Volume
 with_file_overwritten v file attributes = with_basic v file (creation_time v file) (access_time v file) v.clock v.clock attributes
 
--- FILE_ACTION_MODIFIED of the file for its default stream, FILE_ACTION_MODIFIED_STREAM of a named stream
+-- the filters of an overwrite, of the default stream and of a named one
+abbrev pub overwrite_filters : ℕ
+overwrite_filters = bit_or (bit_or FILE_NOTIFY_CHANGE_ATTRIBUTES FILE_NOTIFY_CHANGE_SIZE) FILE_NOTIFY_CHANGE_LAST_WRITE
+
+abbrev pub stream_overwrite_filters : ℕ
+stream_overwrite_filters = bit_or FILE_NOTIFY_CHANGE_STREAM_SIZE FILE_NOTIFY_CHANGE_STREAM_WRITE
+
+-- the overwrite noted: of the file for its default stream, and of a named stream
 abbrev pub with_overwrite_noted : Volume → ℕ → ℕ → Bool → Volume
 with_overwrite_noted v link stream named =
-    if named then with_change_noted v link 8 0xC00 (Some stream) else with_change_noted v link 3 0x1C None
+    if named then with_change_noted v link FILE_ACTION_MODIFIED_STREAM stream_overwrite_filters (Some stream)
+    else with_change_noted v link FILE_ACTION_MODIFIED overwrite_filters None
 
 -- the stream noted and without bytes, and its file overwritten
 abbrev pub with_overwritten : Volume → Asked → ℕ → ℕ → ℕ → Volume
@@ -334,9 +325,9 @@ open_directory v asked link file =
 
 -- the right to what a disposition does to a stream that is there: DELETE, or WRITE_DATA
 abbrev pub replacing_right : Disposition → ℕ
-replacing_right Supersede = 0x10000
-replacing_right Overwrite = 0x2
-replacing_right OverwriteIf = 0x2
+replacing_right Supersede = DELETE
+replacing_right Overwrite = WRITE_DATA
+replacing_right OverwriteIf = WRITE_DATA
 replacing_right _ = 0
 
 -- a stream that may be opened so, unless it clashes with a handle
@@ -352,7 +343,7 @@ create_on_stream v asked link file stream =
     if names_stream asked.path && is_marked v stream then refused v DeletePending
     else if names_stream asked.path && only_makes asked.disposition then refused v ObjectNameCollision
     else if not (grants v file asked.client (bit_or (access_of asked) (replacing_right asked.disposition))) then refused v AccessDenied
-    else if is_readonly v file && (has_any (access_of asked) 0x6 || overwrites asked.disposition) then refused v AccessDenied
+    else if is_readonly v file && (has_any (access_of asked) (bit_or WRITE_DATA APPEND_DATA) || overwrites asked.disposition) then refused v AccessDenied
     else if is_readonly v file && deletes_on_close asked then refused v CannotDelete
     else if overwrites asked.disposition && uncovers (attributes_of v file) asked.attributes then refused v AccessDenied
     else open_stream v asked link file stream
@@ -361,7 +352,7 @@ create_on_stream v asked link file stream =
 unfoldable pub create_stream : Volume → Asked → ℕ → ℕ → Outcome
 create_stream v asked link file =
     if only_opens asked.disposition then refused v ObjectNameNotFound
-    else if not (grants v file asked.client (bit_or (access_of asked) 0x2)) then refused v AccessDenied
+    else if not (grants v file asked.client (bit_or (access_of asked) WRITE_DATA)) then refused v AccessDenied
     else if is_readonly v file then refused v AccessDenied
     else opens (with_new_stream v asked link file) Success action.Created
 

@@ -2,6 +2,7 @@
 use Rattle.std.specs.Prelude.{ℕ, ◌+◌, ◌==◌, not, nat_lt, nat_le, [], length, Some, if◌then◌else◌}
 use Rattle.std.specs.Option.{option_map_or}
 use Rattle.fsa_types.specs.Access.{has_any}
+use Rattle.fsa_types.specs.Masks.{READ_DATA}
 use Rattle.fsa_types.specs.Rows.{row_of}
 use Rattle.fsa_types.specs.StreamBytes.{slice}
 use Rattle.fsa_types.specs.declared.oplock.Class.TheVariants.{ReadOpen}
@@ -10,14 +11,10 @@ use Rattle.fsa_types.specs.declared.reply.Body.TheVariants.{Got}
 use Rattle.fsa_types.specs.declared.status.Status.TheVariants.{Success, InvalidHandle, InvalidDeviceRequest, AccessDenied, InvalidParameter, EndOfFile, FileLockConflict}
 use Rattle.fsa_model.specs.Breaks.{with_breaks}
 use Rattle.fsa_model.specs.Locked.{read_is_locked}
-use Rattle.fsa_model.specs.Lookups.{handle_of, bytes_of}
+use Rattle.fsa_model.specs.Lookups.{bytes_of, handle_of, largest_end}
 use Rattle.fsa_model.specs.Outcome.{Outcome, Done, refused}
 use Rattle.fsa_model.specs.Volume.{Handle, Volume}
 use Rattle.fsa_model.specs.Waits.{waits_for, held_by}
-
--- the largest end of a read or a write
-abbrev pub largest_end : ℕ
-largest_end = 0x7FFFFFFFFFFFFFFF
 
 -- the bytes of the stream from this place on, up to its end
 unfoldable pub read_bytes : Volume → ℕ → ℕ → ℕ → Outcome
@@ -39,7 +36,7 @@ read_range v handle key stream at count =
 -- the rights of the handle, and then the range; of no bytes nothing more is asked
 unfoldable pub read_stream : Volume → ℕ → Handle → ℕ → ℕ → ℕ → Outcome
 read_stream v id handle stream at count =
-    if not (has_any handle.access 0x1) then refused v AccessDenied
+    if not (has_any handle.access READ_DATA) then refused v AccessDenied
     else if nat_lt largest_end (at + count) then refused v InvalidParameter
     else if count == 0 then Done v (record { status = Success; body = Got [] })
     else read_range v id handle.key stream at count

@@ -1,18 +1,18 @@
 -- Setting the owner and the access list, after [MS-FSA] 'Server Requests Setting of Security
 -- Information': its checks in order, each by its name, and what it changes.
-use Rattle.std.specs.Prelude.{ℕ, Bool, true, false, ◌+◌, ◌*◌, ◌==◌, ◌&&◌, ◌||◌, not, nat_lt, List, length, map, filter, sum_by, Option, Some, None, is_some, if◌then◌else◌}
+use Rattle.std.specs.Prelude.{ℕ, Bool, true, false, ◌+◌, ◌==◌, ◌&&◌, ◌||◌, not, nat_lt, List, map, Option, Some, None, is_some, if◌then◌else◌}
 use Rattle.std.specs.Option.{option_map_or}
 use Rattle.fsa_types.specs.Access.{has_any, has_sid, map_generic}
+use Rattle.fsa_types.specs.Masks.{FILE_ACTION_MODIFIED, FILE_NOTIFY_CHANGE_SECURITY, WRITE_DAC, WRITE_OWNER}
 use Rattle.fsa_types.specs.Rows.{row_of}
 use Rattle.fsa_types.specs.declared.request.Ace.{Ace}
 use Rattle.fsa_types.specs.declared.request.DaclChange.{DaclChange}
 use Rattle.fsa_types.specs.declared.request.DaclChange.TheVariants.{Keep, Remove, Put}
 use Rattle.fsa_types.specs.declared.status.Status.TheVariants.{Success, InvalidHandle, AccessDenied, QuotaExceeded}
 use Rattle.fsa_model.specs.Changes.{with_change_noted}
-use Rattle.fsa_model.specs.Charge.{charge, clusters_for, limit}
+use Rattle.fsa_model.specs.Charge.{charge, charge_of_file, limit}
 use Rattle.fsa_model.specs.Edits.{with_basic, with_dacl, with_owner}
-use Rattle.fsa_model.specs.Lookups.{file_of_link, handle_of}
-use Rattle.fsa_model.specs.Open.{sids_of, attributes_of, creation_time, access_time}
+use Rattle.fsa_model.specs.Lookups.{access_time, attributes_of, creation_time, file_of_link, handle_of, owner_of, sids_of, write_time}
 use Rattle.fsa_model.specs.Outcome.{Outcome, ends_with, refused}
 use Rattle.fsa_model.specs.Volume.{Handle, Volume}
 
@@ -30,21 +30,13 @@ asks_something owner dacl = is_some owner || changes_dacl dacl
 -- an owner needs WRITE_OWNER, a change of the access list WRITE_DAC
 abbrev pub lacks_right : ℕ → Option ℕ → DaclChange → Bool
 lacks_right access owner dacl =
-    (is_some owner && not (has_any access 0x80000)) || (changes_dacl dacl && not (has_any access 0x40000))
+    (is_some owner && not (has_any access WRITE_OWNER)) || (changes_dacl dacl && not (has_any access WRITE_DAC))
 
 -- the owner that is asked for is none of the client's SIDs
 abbrev pub is_foreign : Volume → ℕ → Option ℕ → Bool
 is_foreign v client owner = option_map_or (λ sid. not (has_sid (sids_of v client) sid)) owner false
 
 -- ---- what the owner is charged
-
--- the owner of a file
-abbrev pub owner_of : Volume → ℕ → ℕ
-owner_of v file = option_map_or (λ row. row.owner) (row_of v.files file) 0
-
--- the bytes of the clusters of all streams of a file
-abbrev pub charge_of_file : Volume → ℕ → ℕ
-charge_of_file v file = sum_by (λ entry. 4096 * clusters_for (length entry.1.bytes)) (filter (λ entry. entry.1.file == file) v.streams)
 
 -- the owner that is asked for is another than the present one, and his charge with this file's would
 -- pass his limit
@@ -67,15 +59,12 @@ with_dacl_asked v file Remove = with_dacl v file None
 with_dacl_asked v file (Put dacl) = with_dacl v file (Some (mapped dacl.items))
 
 -- the time of the last write stays, and the change time is the clock
-abbrev pub write_time : Volume → ℕ → ℕ
-write_time v file = option_map_or (λ row. row.write) (row_of v.files file) 0
-
 abbrev pub with_change_time : Volume → ℕ → Volume
 with_change_time v file = with_basic v file (creation_time v file) (access_time v file) (write_time v file) v.clock (attributes_of v file)
 
 -- noted of the file, where something is asked: FILE_ACTION_MODIFIED, under FILE_NOTIFY_CHANGE_SECURITY
 abbrev pub with_security_noted : Volume → ℕ → Bool → Volume
-with_security_noted v link asks = if asks then with_change_noted v link 3 0x100 None else v
+with_security_noted v link asks = if asks then with_change_noted v link FILE_ACTION_MODIFIED FILE_NOTIFY_CHANGE_SECURITY None else v
 
 abbrev pub with_security : Volume → ℕ → ℕ → Option ℕ → DaclChange → Volume
 with_security v link file owner dacl =

@@ -2,7 +2,10 @@
 use Rattle.std.specs.Prelude.{◌≡◌, ℕ, Bool, true, false, ◌-◌, ◌^◌, ◌<◌, ◌≤◌, ◌&&◌, ◌||◌, ◌==◌, List, is_some, length, All, AllPairs, IsTrue, IfSome}
 use Rattle.std.specs.Option.{option_map_or}
 use Rattle.std.specs.List.{list_any}
-use Rattle.fsa_types.specs.Rows.{lives, IsNumbered}
+use Rattle.fsa_types.specs.OplockLists.{AreOplocks}
+use Rattle.fsa_types.specs.Rows.{row_of, lives, IsNumbered}
+use Rattle.fsa_types.specs.declared.reply.Blocker.{Blocker}
+use Rattle.fsa_types.specs.declared.reply.Blocker.TheVariants.{Break, Lock as LockOf}
 use Rattle.fsa_model.specs.Setup.{Client}
 use Rattle.fsa_model.specs.Volume.{File, Link, Stream, Handle, Lock, Oplock, Pending, Watch, Volume}
 use Rattle.fsa_model.specs.Lookups.{is_named, is_stream_named, is_opened_by, is_directory, has_child, leads_to}
@@ -76,10 +79,19 @@ pub record AreClients (clients : List Client) (left : List Bool) : Type 0 where
   pub have_sids : All (λ client. 0 < length client.sids) clients
   pub may_leave : length left ≡ length clients
 
--- locks, oplocks and watches are of living handles, at most one watch each
+-- the number of what blocks a call was given
+abbrev pub IsGiven : ℕ → ℕ → Blocker → Type 0
+IsGiven last_lock last_break (LockOf number) = number ≤ last_lock
+IsGiven last_lock last_break (Break number) = number ≤ last_break
+
+-- an oplock's handle lives and has its key
+abbrev pub has_its_key : List (ℕ × Handle) → Oplock → Bool
+has_its_key handles oplock = option_map_or (λ row. row.key == oplock.key) (row_of handles oplock.handle) false
+
+-- locks, oplocks and watches are of living handles, at most one watch each; an oplock has its handle's key
 pub record AreOfHandles (handles : List (ℕ × Handle)) (locks : List (ℕ × Lock)) (oplocks : List Oplock) (watches : List Watch) : Type 0 where
   pub locks_live : All (λ entry. IsTrue (lives handles entry.1.handle)) locks
-  pub oplocks_live : All (λ oplock. IsTrue (lives handles oplock.handle)) oplocks
+  pub oplocks_have_keys : All (λ oplock. IsTrue (has_its_key handles oplock)) oplocks
   pub watches_live : All (λ watch. IsTrue (lives handles watch.handle)) watches
   pub watches_differ : AllPairs (λ a b. (a.handle == b.handle) ≡ false) watches
 
@@ -106,6 +118,12 @@ pub record IsSound (v : Volume) : Type 0 where
   pub links_numbered : IsNumbered v.links v.last_link
   pub streams_numbered : IsNumbered v.streams v.last_stream
   pub handles_numbered : IsNumbered v.handles v.last_handle
+  pub locks_numbered : IsNumbered v.locks v.last_lock
+  -- at most one oplock is of a handle, with a break exactly where it has a target within its level; breaks
+  -- have numbers that differ
+  pub oplocks : AreOplocks v.oplocks v.last_break
+  -- what blocks a call is a lock or a break whose number was given
+  pub blockers_given : All (λ entry. All (IsGiven v.last_lock v.last_break) entry.1.blockers) v.pending
   -- a stream has at most 2^26 bytes, and a reparse point at most 16,376
   pub streams_fit : All (λ entry. length entry.1.bytes ≤ 2 ^ 26) v.streams
   pub points_fit : All (λ entry. PointFits entry.1) v.files

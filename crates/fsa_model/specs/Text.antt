@@ -1,20 +1,16 @@
 -- The printed text of a history.
-use Rattle.std.specs.Prelude.{ℕ, ◌+◌, ◌/◌, ◌%◌, nat_lt, List, [], ◌∷◌, ◌++◌, length, slice_get, codes, decimal, if◌then◌else◌, false, nat_eq, ◌==◌, Bool}
+use Rattle.std.specs.Prelude.{ℕ, ◌+◌, ◌/◌, ◌%◌, nat_lt, List, [], ◌∷◌, ◌++◌, length, slice_get, codes, decimal, if◌then◌else◌, false, true, nat_eq, ◌==◌, Bool}
 use Rattle.std.specs.List.{slice_split, list_any}
 use Rattle.std.specs.Cmp.Lexicographic.{pointwise}
 use Rattle.std.specs.Option.{option_map_or}
 use Rattle.fsa_types.specs.Status.{status_name}
-use Rattle.fsa_types.specs.declared.request.Request.{Request}
-use Rattle.fsa_types.specs.declared.request.Request.TheVariants.{Create, Close, Read, Write, Flush, Lock, Unlock, QueryDir, Notify, QueryInfo, SetBasic, SetEnd, SetDisposition, Rename, Link, SetSecurity, SetReparse, GetReparse, DeleteReparse, SetQuota, QueryQuota, Oplock, Ack, Cancel}
-use Rattle.fsa_types.specs.declared.request.What.{What}
-use Rattle.fsa_types.specs.declared.request.What.TheVariants.{Ask, Tick, WaitFor, Leave}
 use Rattle.fsa_types.specs.declared.request.Level.{Level}
 use Rattle.fsa_types.specs.declared.request.Level.TheVariants.{Nil, R, RH, RW, RWH}
 use Rattle.fsa_types.specs.declared.request.Call.{Call}
 use Rattle.fsa_types.specs.declared.reply.Action.{Action}
 use Rattle.fsa_types.specs.declared.reply.Action.TheVariants.{Superseded, Opened as WasOpened, Created, Overwritten}
 use Rattle.fsa_types.specs.declared.reply.Body.{Body}
-use Rattle.fsa_types.specs.declared.reply.Body.TheVariants.{Nothing, Opened, Got, Count}
+use Rattle.fsa_types.specs.declared.reply.Body.TheVariants.{Nothing, Opened, Got, Count, Broken, Left, Stopped, Quota}
 use Rattle.fsa_types.specs.declared.reply.Reply.{Reply}
 use Rattle.fsa_types.specs.declared.reply.Interim.{Interim}
 use Rattle.fsa_types.specs.declared.reply.Interim.TheVariants.{Held, LockWait, Watch, Granted, Waiting}
@@ -22,42 +18,10 @@ use Rattle.fsa_types.specs.declared.reply.Answer.{Answer}
 use Rattle.fsa_types.specs.declared.reply.Answer.TheVariants.{Ended, Pending}
 use Rattle.fsa_types.specs.declared.reply.EndOf.{EndOf}
 use Rattle.fsa_model.specs.Setup.{Client, Script}
+use Rattle.fsa_model.specs.FieldText.{mask_text, text_text}
+use Rattle.fsa_model.specs.Verbs.{verb}
 use Rattle.fsa_model.specs.Outcome.{TurnOut}
 use Rattle.fsa_model.specs.History.{HistoryEntry, run}
-
--- the word of a request
-abbrev pub request_word : Request → List ℕ
-request_word (Create path wanted share disposition options attributes key) = codes "create"
-request_word (Close handle) = codes "close"
-request_word (Read handle at count) = codes "read"
-request_word (Write handle at bytes) = codes "write"
-request_word (Flush handle) = codes "flush"
-request_word (Lock handle at count exclusive wait) = codes "lock"
-request_word (Unlock handle at count) = codes "unlock"
-request_word (QueryDir handle kind expression restart room) = codes "querydir"
-request_word (Notify handle filter tree room) = codes "notify"
-request_word (QueryInfo handle kind room) = codes "query"
-request_word (SetBasic handle creation access write change attributes) = codes "setbasic"
-request_word (SetEnd handle length) = codes "setend"
-request_word (SetDisposition handle delete) = codes "setdelete"
-request_word (Rename handle path replace) = codes "rename"
-request_word (Link handle path replace) = codes "link"
-request_word (SetSecurity handle owner dacl) = codes "setsecurity"
-request_word (SetReparse handle bytes) = codes "setreparse"
-request_word (GetReparse handle room) = codes "getreparse"
-request_word (DeleteReparse handle tag) = codes "deletereparse"
-request_word (SetQuota sid limit) = codes "setquota"
-request_word (QueryQuota sid) = codes "queryquota"
-request_word (Oplock handle level) = codes "oplock"
-request_word (Ack handle level) = codes "ack"
-request_word (Cancel number) = codes "cancel"
-
--- the word of a call
-abbrev pub verb : What → List ℕ
-verb (Ask request) = request_word request
-verb (Tick ticks) = codes "tick"
-verb (WaitFor number) = codes "wait"
-verb Leave = codes "leave"
 
 -- `none`, `r`, `rh`, `rw` or `rwh`
 abbrev pub level_word : Level → List ℕ
@@ -85,12 +49,21 @@ action_text WasOpened = codes " opened"
 action_text Created = codes " created"
 action_text Overwritten = codes " overwritten"
 
--- what follows the status; the bodies that no call gives yet print nothing
+-- an acknowledgement is wanted
+abbrev pub wanted_text : Bool → List ℕ
+wanted_text true = codes " ack"
+wanted_text false = []
+
+-- what follows the status; packed entries print nothing yet
 abbrev pub body_text : Body → List ℕ
 body_text Nothing = []
 body_text (Opened action) = action_text action
 body_text (Got bytes) = 32 ∷ bytes_text bytes
 body_text (Count count) = 32 ∷ decimal count
+body_text (Broken level ack) = codes " broken " ++ level_word level ++ wanted_text ack
+body_text (Left level) = 32 ∷ level_word level
+body_text (Stopped tag bytes rest) = mask_text tag ++ 32 ∷ bytes_text bytes ++ text_text rest
+body_text (Quota charge limit) = 32 ∷ decimal charge ++ 32 ∷ decimal limit
 body_text _ = []
 
 abbrev pub interim_text : Interim → List ℕ

@@ -1,12 +1,13 @@
 -- The volume: a record of plain lists, after the abstract data model of [MS-FSA], 'Per Volume' to
 -- 'Per Oplock'.
 use Rattle.std.specs.Prelude.{ℕ, Bool, true, List, [], ◌∷◌, Option, None, false, map}
+pub use Rattle.fsa_types.specs.Oplocks.{Oplock}
+pub use Rattle.fsa_types.specs.Pending.{Pending}
+pub use Rattle.fsa_types.specs.Ranges.{Lock}
 pub use Rattle.fsa_types.specs.Rows.{row_of, lives, without_row, with_row_changed}
+pub use Rattle.fsa_types.specs.Watches.{Watch, Change}
 use Rattle.fsa_types.specs.declared.request.Ace.{Ace}
-use Rattle.fsa_types.specs.declared.request.Call.{Call}
-use Rattle.fsa_types.specs.declared.request.Level.{Level}
 use Rattle.fsa_types.specs.declared.reply.EndOf.{EndOf}
-use Rattle.fsa_types.specs.declared.reply.Blocker.{Blocker}
 use Rattle.fsa_model.specs.Setup.{Client, Setup}
 
 -- a file or a directory ('Per File'); times are ticks of the clock; without an
@@ -55,43 +56,6 @@ pub record Handle : Type 0 where
   pub key : ℕ
   pub delete_on_close : Bool
   pub enumeration : Option (List ℕ × Cursor)
-
--- a byte-range lock ('Per ByteRangeLock') of a handle
-pub record Lock : Type 0 where
-  pub handle : ℕ
-  pub at : ℕ
-  pub count : ℕ
-  pub exclusive : Bool
-
--- an oplock ('Per Oplock') of a handle: its level; while a break is in progress its target,
--- which is the most that may stay, and the number of the break, 0 without one; and the turn of the call that is pending as granted, if there is one
-pub record Oplock : Type 0 where
-  pub handle : ℕ
-  pub key : ℕ
-  pub level : Level
-  pub target : Option Level
-  pub number : ℕ
-  pub call : Option ℕ
-
--- a call that hasn't ended, and what it waits for
-pub record Pending : Type 0 where
-  pub call : Call
-  pub blockers : List Blocker
-
--- a watch of a directory ('Per ChangeNotifyEntry'): its handle, what it asks for, whether the whole
--- tree counts, and the place in the list of changes from which on it is due
-pub record Watch : Type 0 where
-  pub handle : ℕ
-  pub filter : ℕ
-  pub tree : Bool
-  pub from : ℕ
-
--- a change: its action, its filter bits, and each ancestor directory of what changed, the parent
--- first, with the name relative to it
-pub record Change : Type 0 where
-  pub action : ℕ
-  pub bits : ℕ
-  pub seen_from : List (ℕ × List ℕ)
 
 -- files, links, streams, handles and locks stand under their numbers, pending calls under their
 -- turns; for each client, in order, whether it has left

@@ -5,6 +5,18 @@ use Rattle.std.specs.Cmp.Lexicographic.{pointwise}
 use Rattle.fsa_model.specs.Fault.{Kind, BadSyntax, ◌>>=◌, read_as, only_if}
 use Rattle.fsa_model.specs.Numbers.{digit_of, number_of}
 
+-- handles, numbers of calls and SIDs are below 2 ^ 32
+abbrev pub most_id : ℕ
+most_id = 4294967295
+
+-- masks are below 2 ^ 32
+abbrev pub most_mask : ℕ
+most_mask = 4294967295
+
+-- the lengths of reads, writes and buffers go up to here
+abbrev pub most_bytes : ℕ
+most_bytes = 16384
+
 -- the bytes are these
 abbrev pub same : List ℕ → List ℕ → Bool
 same bytes text = pointwise nat_eq bytes text

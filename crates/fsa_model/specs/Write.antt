@@ -1,8 +1,9 @@
 -- Writing bytes, after [MS-FSA] 'Server Requests a Write': its checks in order, each by its name, and
 -- what a write changes.
-use Rattle.std.specs.Prelude.{ℕ, Bool, false, ◌+◌, ◌==◌, ◌&&◌, ◌||◌, not, nat_lt, List, length, Option, Some, None, is_none, if◌then◌else◌, unwrap_or, bit_or}
+use Rattle.std.specs.Prelude.{ℕ, Bool, ◌+◌, ◌==◌, ◌&&◌, ◌||◌, not, nat_lt, List, length, Option, Some, None, is_none, if◌then◌else◌, unwrap_or, bit_or}
 use Rattle.std.specs.Option.{option_map_or}
 use Rattle.fsa_types.specs.Access.{has_any}
+use Rattle.fsa_types.specs.Masks.{APPEND_DATA, ARCHIVE, FILE_ACTION_MODIFIED, FILE_ACTION_MODIFIED_STREAM, FILE_NOTIFY_CHANGE_LAST_WRITE, FILE_NOTIFY_CHANGE_SIZE, FILE_NOTIFY_CHANGE_STREAM_SIZE, FILE_NOTIFY_CHANGE_STREAM_WRITE, WRITE_DATA}
 use Rattle.fsa_types.specs.Rows.{row_of}
 use Rattle.fsa_types.specs.declared.oplock.Class.TheVariants.{Change}
 use Rattle.fsa_types.specs.declared.oplock.HandleSet.TheVariants.{Stream}
@@ -13,36 +14,32 @@ use Rattle.fsa_model.specs.Changes.{with_change_noted}
 use Rattle.fsa_model.specs.Edits.{with_bytes, with_basic}
 use Rattle.fsa_model.specs.Growth.{growth_fault}
 use Rattle.fsa_model.specs.Locked.{write_is_locked}
-use Rattle.fsa_model.specs.Lookups.{handle_of, bytes_of}
-use Rattle.fsa_model.specs.Open.{attributes_of, creation_time, access_time}
+use Rattle.fsa_model.specs.Lookups.{access_time, attributes_of, bytes_of, creation_time, file_of_stream, handle_of, is_named_stream, largest_end}
 use Rattle.fsa_model.specs.Outcome.{Outcome, Done, refused}
-use Rattle.fsa_model.specs.Read.{largest_end}
 use Rattle.fsa_model.specs.Volume.{Handle, Volume}
 use Rattle.fsa_model.specs.Waits.{waits_for, held_by}
 
 -- ---- what a write changes
 
--- the file of a stream, and whether the stream is named
-abbrev pub file_of_stream : Volume → ℕ → ℕ
-file_of_stream v stream = option_map_or (λ row. row.file) (row_of v.streams stream) 0
-
-abbrev pub is_named_stream : Volume → ℕ → Bool
-is_named_stream v stream = option_map_or (λ row. not (length row.name == 0)) (row_of v.streams stream) false
-
 -- a file that is written: ARCHIVE is set, and write and change time are the clock
 abbrev pub with_file_written : Volume → ℕ → Volume
 with_file_written v file =
-    with_basic v file (creation_time v file) (access_time v file) v.clock v.clock (bit_or (attributes_of v file) 0x20)
+    with_basic v file (creation_time v file) (access_time v file) v.clock v.clock (bit_or (attributes_of v file) ARCHIVE)
 
--- the write noted, of the file for its default stream: FILE_ACTION_MODIFIED, under
--- FILE_NOTIFY_CHANGE_LAST_WRITE, and FILE_NOTIFY_CHANGE_SIZE where the length changes
+-- the filters of a write, of the default stream and of a named one: those of the length too where it changes
+abbrev pub write_filters : Bool → ℕ
+write_filters longer = if longer then bit_or FILE_NOTIFY_CHANGE_LAST_WRITE FILE_NOTIFY_CHANGE_SIZE else FILE_NOTIFY_CHANGE_LAST_WRITE
+
+abbrev pub stream_write_filters : Bool → ℕ
+stream_write_filters longer =
+    if longer then bit_or FILE_NOTIFY_CHANGE_STREAM_WRITE FILE_NOTIFY_CHANGE_STREAM_SIZE else FILE_NOTIFY_CHANGE_STREAM_WRITE
+
+-- the write noted: of the file for its default stream, and of a named stream
 abbrev pub with_file_write_noted : Volume → ℕ → Bool → Volume
-with_file_write_noted v link longer = with_change_noted v link 3 (if longer then 0x18 else 0x10) None
+with_file_write_noted v link longer = with_change_noted v link FILE_ACTION_MODIFIED (write_filters longer) None
 
--- of a named stream: FILE_ACTION_MODIFIED_STREAM, under FILE_NOTIFY_CHANGE_STREAM_WRITE, and
--- FILE_NOTIFY_CHANGE_STREAM_SIZE where the length changes
 abbrev pub with_stream_write_noted : Volume → ℕ → ℕ → Bool → Volume
-with_stream_write_noted v link stream longer = with_change_noted v link 8 (if longer then 0xC00 else 0x800) (Some stream)
+with_stream_write_noted v link stream longer = with_change_noted v link FILE_ACTION_MODIFIED_STREAM (stream_write_filters longer) (Some stream)
 
 abbrev pub with_write_noted : Volume → ℕ → ℕ → Bool → Volume
 with_write_noted v link stream longer =
@@ -75,19 +72,20 @@ write_unlocked v handle link stream at bytes =
     if write_is_locked v handle stream at (length bytes) then refused v FileLockConflict else write_grown v link stream at bytes
 
 -- once the breaks that the write waits for have ended
-unfoldable pub write_range : Volume → ℕ → Handle → ℕ → ℕ → List ℕ → Outcome
-write_range v id handle stream at bytes =
-    if waits_for v (Stream stream) Change (Some id) handle.key then held_by v (Stream stream) Change (Some id) handle.key
-    else write_unlocked (with_breaks v (Stream stream) Change (Some id) handle.key) id handle.link stream at bytes
+unfoldable pub write_range : Volume → ℕ → ℕ → ℕ → ℕ → ℕ → List ℕ → Outcome
+write_range v handle key link stream at bytes =
+    if waits_for v (Stream stream) Change (Some handle) key then held_by v (Stream stream) Change (Some handle) key
+    else write_unlocked (with_breaks v (Stream stream) Change (Some handle) key) handle link stream at bytes
 
 -- the end of the range
 unfoldable pub write_at_place : Volume → ℕ → Handle → ℕ → ℕ → List ℕ → Outcome
 write_at_place v id handle stream at bytes =
-    if nat_lt largest_end (at + length bytes) then refused v InvalidParameter else write_range v id handle stream at bytes
+    if nat_lt largest_end (at + length bytes) then refused v InvalidParameter
+    else write_range v id handle.key handle.link stream at bytes
 
 -- WRITE_DATA is granted, or APPEND_DATA where the place is the end
 abbrev pub can_write : ℕ → Option ℕ → Bool
-can_write access at = has_any access 0x2 || (has_any access 0x4 && is_none at)
+can_write access at = has_any access WRITE_DATA || (has_any access APPEND_DATA && is_none at)
 
 -- the rights of the handle; of no bytes nothing more is asked; without a place it is the end of the stream
 unfoldable pub write_stream : Volume → ℕ → Handle → ℕ → Option ℕ → List ℕ → Outcome

@@ -1,3 +1,11 @@
 //! The definitions of the store. It has no product code: what stands here is what a reader has to
-//! believe, and what the contracts of the crates above cite.
+//! believe, and what the contracts of the crates above cite. What is proved of the definitions alone is
+//! said by functions that do nothing.
 #![tactic(auto)]
+
+mod law;
+
+pub use law::{
+    each_call_ends_once, each_call_is_made_once, each_try_keeps_its_frame, no_call_is_left_ready,
+    released_calls_are_tried_once, some_client_goes_on, watches_report_what_is_due,
+};

@@ -1,0 +1,385 @@
+-- What is read as the fields of a verb is written so: owners, access lists, and each verb's fields, backwards.
+use Rattle.std.proofs.Common.{◌≡◌, ◌∙◌, sym, ap, subst, ℕ, zero, suc, ◌+◌, ◌≤◌, Bool, true, false, List, [], ◌∷◌, ◌++◌, Option, Some, None, Result, Ok, Err, length, drop, inl, inr, refl, arith, append-nil, le-leb, eqb-true, eq-eqb}
+use Rattle.std.specs.Prelude.{◌==◌, ◌||◌, ◌⊎◌, nat_le, nat_eq, if◌then◌else◌, codes}
+use Rattle.std.specs.Option.{option_map_or}
+use Rattle.std.specs.List.{before_first, flat_map, list_all, position_or_len, starts_with}
+use Rattle.std.proofs.lemmas.List.{take-append-drop}
+use Rattle.std.proofs.lemmas.Bool.{cases_Bool}
+use Rattle.std.proofs.lemmas.Bool.Decides.{Decides-eqb}
+use Rattle.std.proofs.lemmas.Slice.Eq.{slice_eq-Decides, starts_is}
+use Rattle.fsa_types.specs.BoundedList.{full}
+use Rattle.fsa_types.specs.declared.request.Ace.{Ace}
+use Rattle.fsa_types.specs.declared.request.DaclChange.{DaclChange}
+use Rattle.fsa_types.specs.declared.request.DaclChange.TheVariants.{Keep, Remove, Put}
+use Rattle.fsa_types.specs.declared.request.Disposition.{Disposition}
+use Rattle.fsa_types.specs.declared.request.Disposition.TheVariants.{Supersede, OpenExisting, CreateNew, OpenIf, Overwrite, OverwriteIf}
+use Rattle.fsa_types.specs.declared.request.Request.TheVariants.{Create, Close, Read, Write, SetSecurity}
+use Rattle.fsa_types.specs.declared.request.What.{What}
+use Rattle.fsa_types.specs.declared.request.What.TheVariants.{Ask, Tick}
+use Rattle.fsa_model.specs.Fault.{Kind, BadSyntax, ◌>>=◌, only_if}
+use Rattle.fsa_model.specs.Numbers.{number_of, spelled}
+use Rattle.fsa_model.specs.Words.{most_id, same, field_at, number_at, mask_at, mask_of, text_at, string_at}
+use Rattle.fsa_model.specs.FieldText.{number_text, mask_text, string_text}
+use Rattle.fsa_model.specs.OpenLines.{most_key, disposition_of, disposition_at, disposition_text, is_built_create, create_fields, close_fields}
+use Rattle.fsa_model.specs.ByteLines.{most_place, read_fields, write_fields}
+use Rattle.fsa_model.specs.InformationLines.{sid_of, owner_at, owner_text, ace_with, ace_of, ace_text, entry_of, after_entry, ace_onto, aces_of, most_aces, dacl_of, dacl_at, dacl_text, is_ace, is_dacl, set_security_fields}
+use Rattle.fsa_model.specs.ClockLines.{tick_fields}
+use Rattle.fsa_model.specs.Requests.{what_of}
+use Rattle.fsa_model.specs.Verbs.{verb}
+use Rattle.fsa_model.specs.Spelling.{is_built}
+use Rattle.fsa_model.specs.Spelled.{SpellsFields}
+use Rattle.fsa_model.proofs.SpeltLaws.{bind_ok, only_if_ok, if_ok, read_as_ok, ended_ok, none_left, field_back, number_back, number_of-most, number_at-back, mask_of-back, mask_at-back, text_at-back, string_at-back}
+
+-- bytes that are told to be a text are it
+pub same-is : (bytes text : List ℕ) → same bytes text ≡ true → bytes ≡ text
+same-is bytes text is = (slice_eq-Decides Decides-eqb bytes text (same bytes text) refl).0 is
+
+pub starts-is : (bytes front : List ℕ) → starts_with nat_eq bytes front ≡ true → bytes ≡ front ++ drop (length front) bytes
+starts-is bytes front is = (starts_is Decides-eqb bytes front (starts_with nat_eq bytes front) refl).0 is
+
+-- one of two readings
+pub if_or : {A : Type 0} (test : Bool) (one other : Result A Kind) (value : A) → (if test then one else other) ≡ Ok value → ((test ≡ true) × (one ≡ Ok value)) ⊎ (other ≡ Ok value)
+if_or true one other value is = inl (refl, is)
+if_or false one other value is = inr is
+
+-- ---- owners
+
+sid_back : (word : List ℕ) (sid : ℕ) → sid_of word ≡ Ok sid → (word ≡ spelled 10 sid) × (sid ≤ 4294967295)
+sid_back word sid is =
+    let read : number_of 10 most_id word ≡ Some sid = read_as_ok (number_of 10 most_id word) sid is in
+    (number_back 10 most_id sid word (omega arith) (omega arith) read, number_of-most 10 most_id sid word read)
+
+abbrev ReadsOwner : Option ℕ → List ℕ → Type 0
+ReadsOwner owner text = (text ≡ owner_text owner) × (option_map_or (λ sid. nat_le sid most_id) owner true ≡ true)
+
+owner_word : (word : List ℕ) (owner : Option ℕ) → (if same word (codes "keep") then Ok None else sid_of word >>= (λ sid. Ok (Some sid))) ≡ Ok owner → ReadsOwner owner (32 ∷ word)
+owner_word word owner is =
+    elim (if_or (same word (codes "keep")) (Ok None) (sid_of word >>= (λ sid. Ok (Some sid))) owner is) [
+      | inl kept ↦
+          let none : None ≡ owner = (let e : Ok None ≡ Ok owner = kept.1 in cc) in
+          subst (λ (o : Option ℕ). ReadsOwner o (32 ∷ word)) none (ap (λ (w : List ℕ). 32 ∷ w) (same-is word (codes "keep") kept.0), refl)
+      | inr read ↦
+          let sid = bind_ok (sid_of word) (λ s. Ok (Some s)) owner read in
+          let some : Some sid.0 ≡ owner = (let e : Ok (Some sid.0) ≡ Ok owner = sid.2 in cc) in
+          let back = sid_back word sid.0 sid.1 in
+          subst (λ (o : Option ℕ). ReadsOwner o (32 ∷ word)) some (ap (λ (w : List ℕ). 32 ∷ w) back.0, le-leb sid.0 4294967295 back.1)
+    ]
+
+owner_at-back : (bytes : List ℕ) (owner : Option ℕ × List ℕ) → owner_at bytes ≡ Ok owner
+    → (bytes ≡ owner_text owner.0 ++ owner.1) × (option_map_or (λ sid. nat_le sid most_id) owner.0 true ≡ true)
+unfolding owner_at
+owner_at-back bytes owner is =
+    let word = bind_ok (field_at bytes) _ owner is in
+    let value = bind_ok (if same word.0.0 (codes "keep") then Ok None else sid_of word.0.0 >>= (λ sid. Ok (Some sid))) _ owner word.2 in
+    let pair : (value.0, word.0.1) ≡ owner = (let e : Ok (value.0, word.0.1) ≡ Ok owner = value.2 in cc) in
+    let back = owner_word word.0.0 value.0 value.1 in (
+      field_back bytes word.0 word.1
+          ∙ ap (λ (w : List ℕ). w ++ word.0.1) back.0
+          ∙ ap (λ (p : Option ℕ × List ℕ). owner_text p.0 ++ p.1) pair,
+      subst (λ (p : Option ℕ × List ℕ). option_map_or (λ sid. nat_le sid most_id) p.0 true ≡ true) pair back.1,
+    )
+
+-- ---- access lists
+
+-- a mark that stands somewhere, and what is around it
+around : (mark : ℕ) (bytes : List ℕ) (next : ℕ) (after : List ℕ) → drop (position_or_len (λ byte. byte == mark) bytes + 1) bytes ≡ next ∷ after
+    → bytes ≡ before_first (λ byte. byte == mark) bytes ++ mark ∷ next ∷ after
+around mark [] next after is = absurd (let e : [] ≡ next ∷ after = is in cc)
+around mark (byte ∷ bytes) next after is =
+    elim (cases_Bool (byte == mark)) [
+      | inl here ↦
+          let rest : bytes ≡ next ∷ after = rw here at is in
+          let same : byte ≡ mark = eqb-true byte mark here in
+          rw here (ap (λ (b : ℕ). b ∷ bytes) same ∙ ap (λ (more : List ℕ). mark ∷ more) rest)
+      | inr other ↦
+          let place = position_or_len (λ b. b == mark) bytes in
+          let one : 1 + place ≡ suc place = omega arith in
+          let two : suc place + 1 ≡ suc (place + 1) = omega arith in
+          let later : drop (place + 1) bytes ≡ next ∷ after = rw (other, one, two) at is in
+          rw (other, one) (ap (λ (more : List ℕ). byte ∷ more) (around mark bytes next after later))
+    ]
+
+mask_some : (word : List ℕ) (mask : ℕ) → mask_of word ≡ Ok mask → (next : ℕ) × (after : List ℕ) × (word ≡ next ∷ after)
+unfolding mask_of
+mask_some [] mask is = absurd (let e : Err BadSyntax ≡ Ok mask = is in cc)
+mask_some (next ∷ after) mask is = (next, after, refl)
+
+abbrev ReadsAce : Ace → List ℕ → Type 0
+ReadsAce ace text = (text ≡ ace_text ace) × (is_ace ace ≡ true)
+
+ace_with-back : (allow : Bool) (bytes : List ℕ) (ace : Ace) → ace_with allow bytes ≡ Ok ace → ReadsAce ace (44 ∷ (if allow then 43 else 45) ∷ bytes)
+unfolding ace_with
+ace_with-back allow bytes ace is =
+    let sid = bind_ok (sid_of (before_first (λ byte. byte == 58) bytes)) _ ace is in
+    let mask = bind_ok (mask_of (drop (position_or_len (λ byte. byte == 58) bytes + 1) bytes)) _ ace sid.2 in
+    let made : record { allow = allow; sid = sid.0; mask = mask.0 } ≡ ace = (let e : Ok (record { allow = allow; sid = sid.0; mask = mask.0 }) ≡ Ok ace = mask.2 in cc) in
+    let sid_is = sid_back (before_first (λ byte. byte == 58) bytes) sid.0 sid.1 in
+    let mask_is = mask_of-back (drop (position_or_len (λ byte. byte == 58) bytes + 1) bytes) mask.0 mask.1 in
+    let some = mask_some (drop (position_or_len (λ byte. byte == 58) bytes + 1) bytes) mask.0 mask.1 in
+    let split : bytes ≡ spelled 10 sid.0 ++ 58 ∷ 48 ∷ 120 ∷ spelled 16 mask.0 =
+    around 58 bytes some.0 some.1 some.2
+    ∙ ap (λ (rest : List ℕ). before_first (λ byte. byte == 58) bytes ++ 58 ∷ rest) (sym some.2 ∙ mask_is.0)
+    ∙ ap (λ (front : List ℕ). front ++ 58 ∷ 48 ∷ 120 ∷ spelled 16 mask.0) sid_is.0 in
+    subst (λ (a : Ace). ReadsAce a (44 ∷ (if allow then 43 else 45) ∷ bytes)) made (
+      ap (λ (rest : List ℕ). 44 ∷ (if allow then 43 else 45) ∷ rest) split,
+      rw (le-leb sid.0 4294967295 sid_is.1, le-leb mask.0 4294967295 mask_is.1) refl,
+    )
+
+ace_of-back : (bytes : List ℕ) (ace : Ace) → ace_of bytes ≡ Ok ace → ReadsAce ace (44 ∷ bytes)
+unfolding ace_of
+ace_of-back [] ace is = absurd (let e : Err BadSyntax ≡ Ok ace = is in cc)
+ace_of-back (sign ∷ bytes) ace is =
+    let parts = if_ok (sign == 43 || sign == 45) (ace_with (sign == 43) bytes) ace is in
+    let back = ace_with-back (sign == 43) bytes ace parts.1 in
+    subst (λ (s : ℕ). ReadsAce ace (44 ∷ s ∷ bytes)) (signed sign parts.0) back
+  where
+    signed : (sign : ℕ) → (sign == 43 || sign == 45) ≡ true → (if sign == 43 then 43 else 45) ≡ sign
+    signed sign is = elim (cases_Bool (sign == 43)) [
+      | inl plus ↦ rw plus (sym (eqb-true sign 43 plus))
+      | inr other ↦ let minus : (sign == 45) ≡ true = rw other at is in rw other (sym (eqb-true sign 45 minus))
+    ]
+
+ace_onto_ok : (ace : Ace) (read : Result (List Ace) Kind) (value : List Ace) → ace_onto ace read ≡ Ok value → (aces : List Ace) × (read ≡ Ok aces) × (ace ∷ aces ≡ value)
+ace_onto_ok ace (Ok aces) value is = (aces, refl, (let e : Ok (ace ∷ aces) ≡ Ok value = is in cc))
+ace_onto_ok ace (Err kind) value is = absurd (let e : Err kind ≡ Ok value = is in cc)
+
+abbrev ReadsAces : ℕ → List Ace → List ℕ → Type 0
+ReadsAces most aces text = (text ≡ flat_map ace_text aces) × (list_all is_ace aces ≡ true) × (length aces ≤ most)
+
+no_aces : (most : ℕ) (aces : List Ace) → [] ≡ aces → ReadsAces most aces []
+no_aces most aces none = subst (λ (a : List Ace). ReadsAces most a []) none (refl, refl, omega arith)
+
+aces_of-back : (most : ℕ) (bytes : List ℕ) (aces : List Ace) → aces_of most bytes ≡ Ok aces → ReadsAces most aces bytes
+unfolding aces_of
+aces_of-back zero bytes aces is =
+    let parts = only_if_ok (length bytes == 0) [] aces is in
+    subst (λ (b : List ℕ). ReadsAces zero aces b) (sym (none_left bytes parts.0)) (no_aces zero aces parts.1)
+aces_of-back (suc most) [] aces is = no_aces (suc most) aces (let e : Ok [] ≡ Ok aces = is in cc)
+aces_of-back (suc most) (comma ∷ bytes) aces is =
+    let parts = if_ok (comma == 44) (ace_of (entry_of bytes) >>= (λ ace. ace_onto ace (aces_of most (after_entry bytes)))) aces is in
+    let ace = bind_ok (ace_of (entry_of bytes)) (λ ace. ace_onto ace (aces_of most (after_entry bytes))) aces parts.1 in
+    let more = ace_onto_ok ace.0 (aces_of most (after_entry bytes)) aces ace.2 in
+    let first = ace_of-back (entry_of bytes) ace.0 ace.1 in
+    let rest = aces_of-back most (after_entry bytes) more.0 more.1 in
+    let few : length more.0 ≤ most = rest.2 in
+    subst (λ (a : List Ace). ReadsAces (suc most) a (comma ∷ bytes)) more.2 (
+      ap (λ (b : ℕ). b ∷ bytes) (eqb-true comma 44 parts.0)
+          ∙ ap (λ (all : List ℕ). 44 ∷ all) (sym (take-append-drop (position_or_len (λ byte. byte == 44) bytes) bytes))
+          ∙ ap (λ (front : List ℕ). front ++ after_entry bytes) first.0
+          ∙ ap (λ (back : List ℕ). ace_text ace.0 ++ back) rest.0,
+      rw first.1 rest.1,
+      omega arith,
+    )
+
+abbrev ReadsDacl : DaclChange → List ℕ → Type 0
+ReadsDacl dacl text = (text ≡ dacl_text dacl) × (is_dacl dacl ≡ true)
+
+put_back : (word : List ℕ) (dacl : DaclChange) → (starts_with nat_eq word (codes "acl")) ≡ true → aces_of most_aces (drop 3 word) >>= (λ aces. Ok (Put (full aces))) ≡ Ok dacl → ReadsDacl dacl (32 ∷ word)
+put_back word dacl starts is =
+    let aces = bind_ok (aces_of most_aces (drop 3 word)) (λ aces. Ok (Put (full aces))) dacl is in
+    let made : Put (full aces.0) ≡ dacl = (let e : Ok (Put (full aces.0)) ≡ Ok dacl = aces.2 in cc) in
+    let back = aces_of-back most_aces (drop 3 word) aces.0 aces.1 in
+    subst (λ (d : DaclChange). ReadsDacl d (32 ∷ word)) made (
+      ap (λ (w : List ℕ). 32 ∷ w) (starts-is word (codes "acl") starts) ∙ ap (λ (rest : List ℕ). 32 ∷ (codes "acl" ++ rest)) back.0,
+      rw (back.1, le-leb (length aces.0) most_aces back.2, eq-eqb (length aces.0) (length aces.0) refl) refl,
+    )
+
+dacl_of-back : (word : List ℕ) (dacl : DaclChange) → dacl_of word ≡ Ok dacl → ReadsDacl dacl (32 ∷ word)
+unfolding dacl_of
+dacl_of-back word dacl is =
+    elim (if_or (same word (codes "keep")) (Ok Keep) _ dacl is) [
+      | inl kept ↦
+          let made : Keep ≡ dacl = (let e : Ok Keep ≡ Ok dacl = kept.1 in cc) in
+          subst (λ (d : DaclChange). ReadsDacl d (32 ∷ word)) made (ap (λ (w : List ℕ). 32 ∷ w) (same-is word (codes "keep") kept.0), refl)
+      | inr others ↦
+          elim (if_or (same word (codes "null")) (Ok Remove) _ dacl others) [
+            | inl removed ↦
+                let made : Remove ≡ dacl = (let e : Ok Remove ≡ Ok dacl = removed.1 in cc) in
+                subst (λ (d : DaclChange). ReadsDacl d (32 ∷ word)) made (ap (λ (w : List ℕ). 32 ∷ w) (same-is word (codes "null") removed.0), refl)
+            | inr put ↦
+                let parts = if_ok (starts_with nat_eq word (codes "acl")) (aces_of most_aces (drop 3 word) >>= (λ aces. Ok (Put (full aces)))) dacl put in
+                put_back word dacl parts.0 parts.1
+          ]
+    ]
+
+dacl_at-back : (bytes : List ℕ) (dacl : DaclChange × List ℕ) → dacl_at bytes ≡ Ok dacl → (bytes ≡ dacl_text dacl.0 ++ dacl.1) × (is_dacl dacl.0 ≡ true)
+unfolding dacl_at
+dacl_at-back bytes dacl is =
+    let word = bind_ok (field_at bytes) _ dacl is in
+    let value = bind_ok (dacl_of word.0.0) _ dacl word.2 in
+    let pair : (value.0, word.0.1) ≡ dacl = (let e : Ok (value.0, word.0.1) ≡ Ok dacl = value.2 in cc) in
+    let back = dacl_of-back word.0.0 value.0 value.1 in (
+      field_back bytes word.0 word.1 ∙ ap (λ (w : List ℕ). w ++ word.0.1) back.0 ∙ ap (λ (p : DaclChange × List ℕ). dacl_text p.0 ++ p.1) pair,
+      subst (λ (p : DaclChange × List ℕ). is_dacl p.0 ≡ true) pair back.1,
+    )
+
+-- ---- dispositions
+
+disposition_case : (word name : List ℕ) (this disposition : Disposition) (other : Result Disposition Kind) → disposition_text this ≡ 32 ∷ name
+    → (if same word name then Ok this else other) ≡ Ok disposition → (other ≡ Ok disposition → 32 ∷ word ≡ disposition_text disposition) → 32 ∷ word ≡ disposition_text disposition
+disposition_case word name this disposition other text is else_so =
+    elim (if_or (same word name) (Ok this) other disposition is) [
+      | inl h ↦
+          let made : this ≡ disposition = (let e : Ok this ≡ Ok disposition = h.1 in cc) in
+          ap (λ (w : List ℕ). 32 ∷ w) (same-is word name h.0) ∙ sym text ∙ ap disposition_text made
+      | inr h ↦ else_so h
+    ]
+
+disposition_of-back : (word : List ℕ) (disposition : Disposition) → disposition_of word ≡ Ok disposition → 32 ∷ word ≡ disposition_text disposition
+disposition_of-back word disposition is =
+    disposition_case word (codes "supersede") Supersede disposition _ refl is (λ is.
+    disposition_case word (codes "open") OpenExisting disposition _ refl is (λ is.
+    disposition_case word (codes "create") CreateNew disposition _ refl is (λ is.
+    disposition_case word (codes "open_if") OpenIf disposition _ refl is (λ is.
+    disposition_case word (codes "overwrite") Overwrite disposition _ refl is (λ is.
+    disposition_case word (codes "overwrite_if") OverwriteIf disposition (Err BadSyntax) refl is (λ is. absurd (let e : Err BadSyntax ≡ Ok disposition = is in cc)))))))
+
+disposition_at-back : (bytes : List ℕ) (disposition : Disposition × List ℕ) → disposition_at bytes ≡ Ok disposition → bytes ≡ disposition_text disposition.0 ++ disposition.1
+unfolding disposition_at
+disposition_at-back bytes disposition is =
+    let word = bind_ok (field_at bytes) _ disposition is in
+    let value = bind_ok (disposition_of word.0.0) _ disposition word.2 in
+    let pair : (value.0, word.0.1) ≡ disposition = (let e : Ok (value.0, word.0.1) ≡ Ok disposition = value.2 in cc) in
+    field_back bytes word.0 word.1 ∙ ap (λ (w : List ℕ). w ++ word.0.1) (disposition_of-back word.0.0 value.0 value.1) ∙ ap (λ (p : Disposition × List ℕ). disposition_text p.0 ++ p.1) pair
+
+-- ---- the fields of each verb
+
+-- what was read is said by a verb of this name, whose fields these bytes write
+abbrev ReadsVerb : List ℕ → What → List ℕ → Type 0
+ReadsVerb name what fields = (verb what ≡ name) × SpellsFields what fields × (is_built what ≡ true)
+
+close_back : (fields : List ℕ) (what : What) → close_fields fields ≡ Ok what → ReadsVerb (codes "close") what fields
+unfolding close_fields
+close_back fields what is =
+    let handle = bind_ok (number_at most_id fields) _ what is in
+    let last = ended_ok handle.0.1 (Ask (Close handle.0.0)) what handle.2 in
+    let first = number_at-back most_id fields handle.0 handle.1 in
+    subst (λ (w : What). ReadsVerb (codes "close") w fields) last.1
+    (refl, first.0 ∙ ap (λ (rest : List ℕ). number_text handle.0.0 ++ rest) last.0 ∙ append-nil (number_text handle.0.0), le-leb handle.0.0 4294967295 first.1)
+
+tick_back : (fields : List ℕ) (what : What) → tick_fields fields ≡ Ok what → ReadsVerb (codes "tick") what fields
+unfolding tick_fields
+tick_back fields what is =
+    let ticks = bind_ok (number_at most_id fields) _ what is in
+    let last = ended_ok ticks.0.1 (Tick ticks.0.0) what ticks.2 in
+    let first = number_at-back most_id fields ticks.0 ticks.1 in
+    subst (λ (w : What). ReadsVerb (codes "tick") w fields) last.1
+    (refl, first.0 ∙ ap (λ (rest : List ℕ). number_text ticks.0.0 ++ rest) last.0 ∙ append-nil (number_text ticks.0.0), le-leb ticks.0.0 4294967295 first.1)
+
+read_back : (fields : List ℕ) (what : What) → read_fields fields ≡ Ok what → ReadsVerb (codes "read") what fields
+unfolding read_fields
+read_back fields what is =
+    let handle = bind_ok (number_at most_id fields) _ what is in
+    let place = bind_ok (number_at most_place handle.0.1) _ what handle.2 in
+    let count = bind_ok (number_at 16384 place.0.1) _ what place.2 in
+    let last = ended_ok count.0.1 (Ask (Read handle.0.0 place.0.0 count.0.0)) what count.2 in
+    let first = number_at-back most_id fields handle.0 handle.1 in
+    let second = number_at-back most_place handle.0.1 place.0 place.1 in
+    let third = number_at-back 16384 place.0.1 count.0 count.1 in
+    subst (λ (w : What). ReadsVerb (codes "read") w fields) last.1 (
+      refl,
+      first.0
+          ∙ ap (λ (rest : List ℕ). number_text handle.0.0 ++ rest) (second.0
+          ∙ ap (λ (rest : List ℕ). number_text place.0.0 ++ rest) (third.0
+          ∙ ap (λ (rest : List ℕ). number_text count.0.0 ++ rest) last.0 ∙ append-nil (number_text count.0.0))),
+      rw (le-leb handle.0.0 4294967295 first.1, le-leb place.0.0 65535 second.1, le-leb count.0.0 16384 third.1) refl,
+    )
+
+write_back : (fields : List ℕ) (what : What) → write_fields fields ≡ Ok what → ReadsVerb (codes "write") what fields
+unfolding write_fields
+write_back fields what is =
+    let handle = bind_ok (number_at most_id fields) _ what is in
+    let place = bind_ok (number_at most_place handle.0.1) _ what handle.2 in
+    let string = bind_ok (string_at place.0.1) _ what place.2 in
+    let last = ended_ok string.0.1 (Ask (Write handle.0.0 (Some place.0.0) string.0.0)) what string.2 in
+    let first = number_at-back most_id fields handle.0 handle.1 in
+    let second = number_at-back most_place handle.0.1 place.0 place.1 in
+    let third = string_at-back place.0.1 string.0 string.1 in
+    subst (λ (w : What). ReadsVerb (codes "write") w fields) last.1 (
+      refl,
+      first.0
+          ∙ ap (λ (rest : List ℕ). number_text handle.0.0 ++ rest) (second.0
+          ∙ ap (λ (rest : List ℕ). number_text place.0.0 ++ rest) (third.0
+          ∙ ap (λ (rest : List ℕ). string_text string.0.0 ++ rest) last.0 ∙ append-nil (string_text string.0.0))),
+      rw (le-leb handle.0.0 4294967295 first.1, le-leb place.0.0 65535 second.1, third.1, le-leb (length string.0.0) 16384 third.2) refl,
+    )
+
+set_security_back : (fields : List ℕ) (what : What) → set_security_fields fields ≡ Ok what → ReadsVerb (codes "setsecurity") what fields
+unfolding set_security_fields
+set_security_back fields what is =
+    let handle = bind_ok (number_at most_id fields) _ what is in
+    let owner = bind_ok (owner_at handle.0.1) _ what handle.2 in
+    let dacl = bind_ok (dacl_at owner.0.1) _ what owner.2 in
+    let last = ended_ok dacl.0.1 (Ask (SetSecurity handle.0.0 owner.0.0 dacl.0.0)) what dacl.2 in
+    let first = number_at-back most_id fields handle.0 handle.1 in
+    let second = owner_at-back handle.0.1 owner.0 owner.1 in
+    let third = dacl_at-back owner.0.1 dacl.0 dacl.1 in
+    subst (λ (w : What). ReadsVerb (codes "setsecurity") w fields) last.1 (
+      refl,
+      first.0
+          ∙ ap (λ (rest : List ℕ). number_text handle.0.0 ++ rest) (second.0
+          ∙ ap (λ (rest : List ℕ). owner_text owner.0.0 ++ rest) (third.0
+          ∙ ap (λ (rest : List ℕ). dacl_text dacl.0.0 ++ rest) last.0 ∙ append-nil (dacl_text dacl.0.0))),
+      rw (le-leb handle.0.0 4294967295 first.1, second.1, third.1) refl,
+    )
+
+create_back : (fields : List ℕ) (what : What) → create_fields fields ≡ Ok what → ReadsVerb (codes "create") what fields
+unfolding create_fields
+create_back fields what is =
+    let path = bind_ok (text_at fields) _ what is in
+    let wanted = bind_ok (mask_at path.0.1) _ what path.2 in
+    let share = bind_ok (mask_at wanted.0.1) _ what wanted.2 in
+    let disposition = bind_ok (disposition_at share.0.1) _ what share.2 in
+    let options = bind_ok (mask_at disposition.0.1) _ what disposition.2 in
+    let attributes = bind_ok (mask_at options.0.1) _ what options.2 in
+    let key = bind_ok (number_at most_key attributes.0.1) _ what attributes.2 in
+    let said = bind_ok (only_if (is_built_create options.0.0) (Ask (Create path.0.0 wanted.0.0 share.0.0 disposition.0.0 options.0.0 attributes.0.0 key.0.0))) _ what key.2 in
+    let built = only_if_ok (is_built_create options.0.0) (Ask (Create path.0.0 wanted.0.0 share.0.0 disposition.0.0 options.0.0 attributes.0.0 key.0.0)) said.0 said.1 in
+    let last = ended_ok key.0.1 said.0 what said.2 in
+    let b1 = text_at-back fields path.0 path.1 in
+    let b2 = mask_at-back path.0.1 wanted.0 wanted.1 in
+    let b3 = mask_at-back wanted.0.1 share.0 share.1 in
+    let b4 = disposition_at-back share.0.1 disposition.0 disposition.1 in
+    let b5 = mask_at-back disposition.0.1 options.0 options.1 in
+    let b6 = mask_at-back options.0.1 attributes.0 attributes.1 in
+    let b7 = number_at-back most_key attributes.0.1 key.0 key.1 in
+    subst (λ (w : What). ReadsVerb (codes "create") w fields) (built.1 ∙ last.1) (
+      refl,
+      (
+        b1.0,
+        b1.1.0,
+        b1.2
+            ∙ ap (λ (rest : List ℕ). 32 ∷ 61 ∷ (b1.0 ++ rest)) (b2.0
+            ∙ ap (λ (rest : List ℕ). mask_text wanted.0.0 ++ rest) (b3.0
+            ∙ ap (λ (rest : List ℕ). mask_text share.0.0 ++ rest) (b4
+            ∙ ap (λ (rest : List ℕ). disposition_text disposition.0.0 ++ rest) (b5.0
+            ∙ ap (λ (rest : List ℕ). mask_text options.0.0 ++ rest) (b6.0
+            ∙ ap (λ (rest : List ℕ). mask_text attributes.0.0 ++ rest) (b7.0
+            ∙ ap (λ (rest : List ℕ). number_text key.0.0 ++ rest) last.0 ∙ append-nil (number_text key.0.0))))))),
+      ),
+      rw (b1.1.1, le-leb wanted.0.0 4294967295 b2.1, le-leb share.0.0 4294967295 b3.1, le-leb options.0.0 4294967295 b5.1, le-leb attributes.0.0 4294967295 b6.1, le-leb key.0.0 most_key b7.1, built.0) refl,
+    )
+
+-- ---- the verbs
+
+-- what a verb and its fields were read as, and how they write it
+abbrev pub SaysVerb : List ℕ → List ℕ → What → Type 0
+SaysVerb word fields what = (word ≡ verb what) × SpellsFields what fields × (is_built what ≡ true)
+
+verb_case : (word name fields : List ℕ) (one other : Result What Kind) (what : What) → (if same word name then one else other) ≡ Ok what
+    → (one ≡ Ok what → ReadsVerb name what fields) → (other ≡ Ok what → SaysVerb word fields what) → SaysVerb word fields what
+verb_case word name fields one other what is here else_so =
+    elim (if_or (same word name) one other what is) [
+      | inl h ↦ let says = here h.1 in (same-is word name h.0 ∙ sym says.0, says.1, says.2)
+      | inr h ↦ else_so h
+    ]
+
+pub what_of-back : (word fields : List ℕ) (what : What) → what_of word fields ≡ Ok what → SaysVerb word fields what
+unfolding what_of
+what_of-back word fields what is =
+    verb_case word (codes "create") fields (create_fields fields) _ what is (create_back fields what) (λ is.
+    verb_case word (codes "close") fields (close_fields fields) _ what is (close_back fields what) (λ is.
+    verb_case word (codes "read") fields (read_fields fields) _ what is (read_back fields what) (λ is.
+    verb_case word (codes "write") fields (write_fields fields) _ what is (write_back fields what) (λ is.
+    verb_case word (codes "setsecurity") fields (set_security_fields fields) _ what is (set_security_back fields what) (λ is.
+    verb_case word (codes "tick") fields (tick_fields fields) (Err BadSyntax) what is (tick_back fields what) (λ is. absurd (let e : Err BadSyntax ≡ Ok what = is in cc)))))))

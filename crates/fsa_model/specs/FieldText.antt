@@ -1,0 +1,32 @@
+-- The text of a line's fields: numbers, masks, texts of units and strings of bytes, each behind a space.
+use Rattle.std.specs.Prelude.{ℕ, ◌+◌, ◌/◌, ◌%◌, nat_lt, List, [], ◌∷◌, if◌then◌else◌}
+use Rattle.std.specs.List.{flat_map}
+use Rattle.fsa_model.specs.Numbers.{glyph, spelled}
+use Rattle.fsa_model.specs.Words.{is_plain}
+
+-- a decimal number, and a mask, as fields
+abbrev pub number_text : ℕ → List ℕ
+number_text n = 32 ∷ spelled 10 n
+
+abbrev pub mask_text : ℕ → List ℕ
+mask_text n = 32 ∷ 48 ∷ 120 ∷ spelled 16 n
+
+-- the upper-case hexadecimal digit of a value
+abbrev pub upper_glyph : ℕ → ℕ
+upper_glyph digit = if nat_lt digit 10 then 48 + digit else 55 + digit
+
+-- a unit, as itself or as `%` and four digits
+abbrev pub unit_text : ℕ → List ℕ
+unit_text unit =
+    if is_plain unit then unit ∷ []
+    else 37 ∷ upper_glyph (unit / 16 / 16 / 16) ∷ upper_glyph (unit / 16 / 16 % 16) ∷ upper_glyph (unit / 16 % 16) ∷ upper_glyph (unit % 16) ∷ []
+
+abbrev pub text_text : List ℕ → List ℕ
+text_text units = 32 ∷ 61 ∷ flat_map unit_text units
+
+-- a byte in two digits
+abbrev pub byte_text : ℕ → List ℕ
+byte_text byte = glyph (byte / 16) ∷ glyph (byte % 16) ∷ []
+
+abbrev pub string_text : List ℕ → List ℕ
+string_text bytes = 32 ∷ 120 ∷ flat_map byte_text bytes

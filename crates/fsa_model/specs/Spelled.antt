@@ -1,0 +1,38 @@
+-- Which bytes write a line. A line has one text but for the units of a path: each is written as itself,
+-- where it may be, or as an escape.
+use Rattle.std.specs.Prelude.{◌≡◌, ℕ, ◌/◌, ◌%◌, ◌⊎◌, true, List, [], ◌∷◌, ◌++◌}
+use Rattle.fsa_types.specs.declared.request.What.{What}
+use Rattle.fsa_types.specs.declared.request.What.TheVariants.{Ask}
+use Rattle.fsa_types.specs.declared.request.Request.TheVariants.{Create}
+use Rattle.fsa_model.specs.Words.{is_plain}
+use Rattle.fsa_model.specs.FieldText.{upper_glyph, mask_text, number_text}
+use Rattle.fsa_model.specs.OpenLines.{disposition_text}
+use Rattle.fsa_model.specs.Lines.{Line, RequestLine}
+use Rattle.fsa_model.specs.Spelling.{fields_text, line_text}
+use Rattle.fsa_model.specs.Verbs.{verb}
+
+-- `%` and the four digits of a unit
+abbrev pub escape_text : ℕ → List ℕ
+escape_text unit = 37 ∷ upper_glyph (unit / 16 / 16 / 16) ∷ upper_glyph (unit / 16 / 16 % 16) ∷ upper_glyph (unit / 16 % 16) ∷ upper_glyph (unit % 16) ∷ []
+
+-- these bytes write the unit
+abbrev pub SpellsUnit : ℕ → List ℕ → Type 0
+SpellsUnit unit bytes = ((is_plain unit ≡ true) × (bytes ≡ unit ∷ [])) ⊎ (bytes ≡ escape_text unit)
+
+-- these bytes write the units, one after another
+abbrev pub SpellsUnits : List ℕ → List ℕ → Type 0
+SpellsUnits [] bytes = bytes ≡ []
+SpellsUnits (unit ∷ units) bytes = (front back : List ℕ) × (bytes ≡ front ++ back) × SpellsUnit unit front × SpellsUnits units back
+
+-- these bytes write the fields behind a verb
+abbrev pub SpellsFields : What → List ℕ → Type 0
+SpellsFields (Ask (Create path wanted share disposition options attributes key)) bytes =
+    (text : List ℕ) × SpellsUnits path text
+    × (bytes ≡ 32 ∷ 61 ∷ (text ++ (mask_text wanted ++ (mask_text share ++ (disposition_text disposition ++ (mask_text options ++ (mask_text attributes ++ number_text key)))))))
+SpellsFields what bytes = bytes ≡ fields_text what
+
+-- these bytes write the line, without its line feed
+abbrev pub Spells : Line → List ℕ → Type 0
+Spells (RequestLine name number what) bytes =
+    (fields : List ℕ) × SpellsFields what fields × (bytes ≡ name ++ (number_text number ++ (32 ∷ (verb what ++ fields))))
+Spells line bytes = bytes ≡ line_text line

@@ -1,0 +1,62 @@
+-- One try of a call.
+use Rattle.std.specs.Prelude.{ℕ, if◌then◌else◌}
+use Rattle.fsa_types.specs.declared.status.Status.TheVariants.{Success, InvalidHandle, InvalidDeviceRequest}
+use Rattle.fsa_types.specs.declared.request.Request.{Request}
+use Rattle.fsa_types.specs.declared.request.Request.TheVariants.{Create, Close, Read, Write, Flush, SetEnd, Lock, Unlock, Oplock, Ack, SetSecurity, Cancel, Notify}
+use Rattle.fsa_types.specs.declared.request.What.{What}
+use Rattle.fsa_types.specs.declared.request.What.TheVariants.{Ask, Tick, WaitFor, Leave}
+use Rattle.fsa_types.specs.declared.request.Call.{Call}
+use Rattle.fsa_model.specs.Close.{try_close, try_leave}
+use Rattle.fsa_model.specs.Edits.{with_ticks}
+use Rattle.fsa_model.specs.Flush.{try_flush}
+use Rattle.fsa_model.specs.Grant.{try_ack, try_oplock}
+use Rattle.fsa_model.specs.Locking.{try_lock, try_unlock}
+use Rattle.fsa_model.specs.Lookups.{has_left}
+use Rattle.fsa_model.specs.Open.{try_create}
+use Rattle.fsa_model.specs.Outcome.{Outcome, ends_with, refused}
+use Rattle.fsa_model.specs.Read.{try_read}
+use Rattle.fsa_model.specs.Security.{try_set_security}
+use Rattle.fsa_model.specs.SetEnd.{try_set_end}
+use Rattle.fsa_model.specs.Volume.{Volume}
+use Rattle.fsa_model.specs.Watching.{try_notify}
+use Rattle.fsa_model.specs.Waiting.{try_cancel, try_wait}
+use Rattle.fsa_model.specs.Write.{try_write}
+
+-- one try of a request, from its first check, by the client's call of this number, which is or will be
+-- pending under this turn; of a request that no script can make yet nothing is promised
+abbrev pub try_request : Volume → ℕ → ℕ → ℕ → Request → Outcome
+try_request v turn client number (Create path wanted share disposition options attributes key) =
+    try_create v (record {
+      client = client;
+      number = number;
+      path = path;
+      wanted = wanted;
+      share = share;
+      disposition = disposition;
+      options = options;
+      attributes = attributes;
+      key = key;
+    })
+try_request v turn client number (Close handle) = try_close v client handle
+try_request v turn client number (Read handle at count) = try_read v client handle at count
+try_request v turn client number (Write handle at bytes) = try_write v client handle at bytes
+try_request v turn client number (Flush handle) = try_flush v client handle
+try_request v turn client number (SetEnd handle length) = try_set_end v client handle length
+try_request v turn client number (Lock handle at count exclusive wait) = try_lock v client handle at count exclusive wait
+try_request v turn client number (Unlock handle at count) = try_unlock v client handle at count
+try_request v turn client number (Oplock handle level) = try_oplock v client handle level turn
+try_request v turn client number (Ack handle level) = try_ack v client handle level turn
+try_request v turn client number (SetSecurity handle owner dacl) = try_set_security v client handle owner dacl
+try_request v turn client number (Notify handle filter tree room) = try_notify v client handle filter tree room
+try_request v turn client number (Cancel cancelled) = try_cancel v client cancelled
+try_request v turn client number _ = refused v InvalidDeviceRequest
+
+abbrev pub try_what : Volume → ℕ → ℕ → ℕ → What → Outcome
+try_what v turn client number (Ask request) = try_request v turn client number request
+try_what v turn client number (Tick ticks) = ends_with (with_ticks v ticks) Success
+try_what v turn client number (WaitFor earlier) = try_wait v client earlier
+try_what v turn client number Leave = try_leave v client
+
+-- one try of a call in this turn, or under it; a client that has left has no handle
+abbrev pub try : Volume → Call → ℕ → Outcome
+try v call turn = if has_left v call.client then refused v InvalidHandle else try_what v turn call.client call.number call.what

@@ -1,0 +1,64 @@
+//! What holds of every turn of every run: laws that other crates' contracts may rest on. No function here
+//! does anything.
+
+ghost use Rattle.std.specs.Prelude.{◌≡◌, [], ◌∷◌, ◌++◌, suc, ℕ, Bool, List, Some};
+ghost use Rattle.fsa_types.specs.Rows.{row_of};
+ghost use Rattle.fsa_types.specs.declared.request.Call.{Call};
+ghost use Rattle.fsa_types.specs.declared.request.Request.TheVariants.{Notify};
+ghost use Rattle.fsa_types.specs.declared.request.What.TheVariants.{Ask};
+ghost use Rattle.fsa_model.specs.Engine.{CallsDiffer, EndsOnce, NoneReady, SomeGoesOn, TakesReleased};
+ghost use Rattle.fsa_model.specs.Frame.{InFrame, PointsFit};
+ghost use Rattle.fsa_model.specs.History.{HistoryEntry, Run, run};
+ghost use Rattle.fsa_model.specs.Lookups.{handle_of};
+ghost use Rattle.fsa_model.specs.Reports.{PassesChecks, TakesReport, TriesNotify, settling_after};
+ghost use Rattle.fsa_model.specs.Schedule.{Scheduled};
+ghost use Rattle.fsa_model.specs.Setup.{Script, Setup};
+ghost use Rattle.fsa_model.specs.Turn.{try};
+ghost use Rattle.fsa_model.specs.Volume.{Handle, Pending, Volume};
+ghost use Rattle.fsa_model.specs.Waiting.{next_ready};
+ghost use Rattle.fsa_model.specs.Watching.{try_notify, with_watch_begun};
+
+/// In the history of a script on one thread no call is made twice, as the laws below ask.
+pub fn each_call_is_made_once()
+    ensures differ { (script : Script) (history : List HistoryEntry) → Scheduled script history → CallsDiffer history }
+{}
+
+/// A turn takes up what is pending until nothing is ready.
+pub fn no_call_is_left_ready()
+    ensures none_ready { (setup : Setup) (history : List HistoryEntry) (r : Run) → CallsDiffer history → run setup history ≡ Some r → NoneReady r.volume }
+{}
+
+/// Clients never all wait for each other: where all that haven't left do, the turn ends all waits.
+pub fn some_client_goes_on()
+    ensures goes_on { (setup : Setup) (history : List HistoryEntry) (r : Run) → run setup history ≡ Some r → SomeGoesOn r.volume }
+{}
+
+/// No call ends twice, and each call that was made has ended or is pending.
+pub fn each_call_ends_once()
+    ensures once { (setup : Setup) (history : List HistoryEntry) (r : Run) → CallsDiffer history → run setup history ≡ Some r → EndsOnce history r }
+{}
+
+/// A held call is tried in a turn just where the turn's own call hasn't ended it and the last of what it
+/// waited for ended in that call's own try; it is then tried once, or finds no memory.
+pub fn released_calls_are_tried_once()
+    ensures released { (setup : Setup) (history : List HistoryEntry) (entry : HistoryEntry) (r : Run) → CallsDiffer (history ++ entry ∷ []) → run setup history ≡ Some r
+        → TakesReleased r.volume entry.call entry.starved }
+{}
+
+/// A try of a call changes only what a call of its kind may, gives few numbers, ends only calls that were
+/// pending, and its reply is short. Where it fails or is held, it changed nothing but breaks that it began, and
+/// how far a directory is enumerated; it stays pending without a blocker only where its kind may.
+pub fn each_try_keeps_its_frame()
+    ensures frame { (v : Volume) (call : Call) (turn : ℕ) → PointsFit v → InFrame call v (try v call turn) }
+{}
+
+/// A notification that is taken up reports all that is due to its watch, where that fits its room, and
+/// nothing is due afterwards; or it finds no memory. One that asks reports so at once where something is due.
+pub fn watches_report_what_is_due()
+    ensures taken { (setup : Setup) (history : List HistoryEntry) (entry : HistoryEntry) (r : Run) (steps : ℕ) (pending : ℕ × Pending) (handle filter : ℕ) (tree : Bool) (room : ℕ)
+        → CallsDiffer (history ++ entry ∷ []) → run setup history ≡ Some r
+        → next_ready (settling_after r.volume entry.call entry.starved steps).volume ≡ Some pending → pending.1.call.what ≡ Ask (Notify handle filter tree room)
+        → TakesReport (settling_after r.volume entry.call entry.starved steps) pending.1 handle room (settling_after r.volume entry.call entry.starved (suc steps)) }
+    ensures asked { (v : Volume) (client handle filter : ℕ) (tree : Bool) (room id : ℕ) (row : Handle) → handle_of v client handle ≡ Some id → row_of v.handles id ≡ Some row → PassesChecks v row filter
+        → TriesNotify (with_watch_begun v id filter tree) id room (try_notify v client handle filter tree room) }
+{}
