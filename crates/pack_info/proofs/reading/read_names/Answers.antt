@@ -1,0 +1,7 @@
+use Rattle.std.proofs.Common.{refl}
+use Rattle.pack_info.specs.Reading.{raw_head}
+use Rattle.pack_info.proofs.reading.read_names.Goals as goal
+
+pub returns-clause-read : goal.returns-clause-read
+unfolding raw_head
+returns-clause-read c = rw (c.u32_at-next.ensures.read, c.u32_at-index.ensures.read, c.u32_at-len.ensures.read, c.head_of-head.ensures) refl

@@ -1,0 +1,4 @@
+pub mod Numbers
+pub mod Entries
+pub mod Reading
+pub mod Walks

@@ -1,0 +1,189 @@
+-- What a change of the turns and of the blockers under turns leaves of the calls that are held.
+use Rattle.std.proofs.Common.{◌≡◌, ℕ, Bool, suc, true, false, not, ◌+◌, ◌<◌, List, [], ◌∷◌, ◌++◌, length, get_or, refl, ap, sym, ◌∙◌, arith, inl, inr, eq-eqb}
+use Rattle.std.specs.List.{list_any, AllPairs}
+use Rattle.std.specs.Prelude.{◌==◌, ◌||◌, map, filter}
+use Rattle.std.proofs.lemmas.Bool.{cases_Bool, ne_eqb, eqb-true, eqb-false, false≢true}
+use Rattle.std.proofs.lemmas.List.{map-append, append-nil, length-append, length-map, get_or-map}
+use Rattle.std.proofs.lemmas.List.Folds.{list_any_at}
+use Rattle.std.proofs.lemmas.List.Quantifiers.{all_pairs_push}
+use Rattle.std.proofs.lemmas.List.Elements.{filter-append}
+use Rattle.fsa_types.specs.Rows.{lives, without_row, with_row_changed}
+use Rattle.fsa_types.specs.declared.reply.Blocker.{Blocker}
+use Rattle.pending_queue.specs.Lists.{with_turn, is_free, least}
+use Rattle.pending_queue.specs.PendingQueue.{blockers_of, held_of, is_same, with_held, with_ended, calls_added, next_ready}
+use Rattle.pending_queue.proofs.LeastLemmas.{in_order-first}
+
+-- ---- the blockers of one turn
+
+other_way : (a b : ℕ) → (a == b) ≡ false → (b == a) ≡ false
+other_way a b differ = ne_eqb b a (λ same. eqb-false a b differ (sym same))
+
+-- those of another turn stay where one turn's are taken out, and its own go
+blockers-kept : (waited : List (ℕ × Blocker)) (turn other : ℕ) → (other == turn) ≡ false
+    → blockers_of (filter (λ e. not (e.0 == turn)) waited) other ≡ blockers_of waited other
+blockers-kept [] turn other differ = refl
+blockers-kept (e ∷ es) turn other differ =
+    elim (cases_Bool (e.0 == turn)) [
+      | inl own ↦ (let is : e.0 ≡ turn = eqb-true e.0 turn own in
+          let not_its : (e.0 == other) ≡ false = ne_eqb e.0 other (λ same. eqb-false other turn differ (sym same ∙ is)) in
+          rw (own, not_its) (blockers-kept es turn other differ))
+      | inr kept ↦ elim (cases_Bool (e.0 == other)) [
+        | inl its ↦ rw (kept, its) (ap (λ rest. e.1 ∷ rest) (blockers-kept es turn other differ))
+        | inr not_its ↦ rw (kept, not_its) (blockers-kept es turn other differ)
+      ]
+    ]
+
+blockers-gone : (waited : List (ℕ × Blocker)) (turn : ℕ) → blockers_of (filter (λ e. not (e.0 == turn)) waited) turn ≡ []
+blockers-gone [] turn = refl
+blockers-gone (e ∷ es) turn =
+    elim (cases_Bool (e.0 == turn)) [
+      | inl own ↦ rw own (blockers-gone es turn)
+      | inr kept ↦ rw (kept, kept) (blockers-gone es turn)
+    ]
+
+-- those that are put under one turn are its own, and no other's
+blockers-own : (blockers : List Blocker) (turn : ℕ) → blockers_of (map (λ blocker. (turn, blocker)) blockers) turn ≡ blockers
+blockers-own [] turn = refl
+blockers-own (b ∷ bs) turn = rw (eq-eqb turn turn refl) (ap (λ rest. b ∷ rest) (blockers-own bs turn))
+
+blockers-others : (blockers : List Blocker) (turn other : ℕ) → (other == turn) ≡ false → blockers_of (map (λ blocker. (turn, blocker)) blockers) other ≡ []
+blockers-others [] turn other differ = refl
+blockers-others (b ∷ bs) turn other differ = rw (other_way other turn differ) (blockers-others bs turn other differ)
+
+blockers-append : (some more : List (ℕ × Blocker)) (turn : ℕ) → blockers_of (some ++ more) turn ≡ blockers_of some turn ++ blockers_of more turn
+blockers-append some more turn =
+    ap (map (λ (e : ℕ × Blocker). e.1)) (filter-append (λ (e : ℕ × Blocker). e.0 == turn) some more)
+    ∙ map-append (λ (e : ℕ × Blocker). e.1) (filter (λ e. e.0 == turn) some) (filter (λ e. e.0 == turn) more)
+
+-- these blockers in place of those of this turn
+abbrev pub put : List (ℕ × Blocker) → ℕ → List Blocker → List (ℕ × Blocker)
+put waited turn blockers = filter (λ e. not (e.0 == turn)) waited ++ map (λ blocker. (turn, blocker)) blockers
+
+put-own : (waited : List (ℕ × Blocker)) (turn : ℕ) (blockers : List Blocker) → blockers_of (put waited turn blockers) turn ≡ blockers
+put-own waited turn blockers = blockers-append (filter (λ e. not (e.0 == turn)) waited) (map (λ blocker. (turn, blocker)) blockers) turn
+    ∙ ap (λ front. front ++ blockers_of (map (λ blocker. (turn, blocker)) blockers) turn) (blockers-gone waited turn) ∙ blockers-own blockers turn
+
+put-others : (waited : List (ℕ × Blocker)) (turn : ℕ) (blockers : List Blocker) (other : ℕ) → (other == turn) ≡ false
+    → blockers_of (put waited turn blockers) other ≡ blockers_of waited other
+put-others waited turn blockers other differ = blockers-append (filter (λ e. not (e.0 == turn)) waited) (map (λ blocker. (turn, blocker)) blockers) other
+    ∙ ap (λ back. blockers_of (filter (λ e. not (e.0 == turn)) waited) other ++ back) (blockers-others blockers turn other differ)
+    ∙ append-nil (blockers_of (filter (λ e. not (e.0 == turn)) waited) other) ∙ blockers-kept waited turn other differ
+
+-- one blocker taken out
+blockers-ended : (waited : List (ℕ × Blocker)) (blocker : Blocker) (turn : ℕ)
+    → blockers_of (filter (λ e. not (is_same blocker e.1)) waited) turn ≡ filter (λ other. not (is_same blocker other)) (blockers_of waited turn)
+blockers-ended [] blocker turn = refl
+blockers-ended (e ∷ es) blocker turn =
+    elim (cases_Bool (is_same blocker e.1)) [
+      | inl gone ↦ elim (cases_Bool (e.0 == turn)) [
+        | inl own ↦ rw (gone, own, gone) (blockers-ended es blocker turn)
+        | inr other ↦ rw (gone, other) (blockers-ended es blocker turn)
+      ]
+      | inr kept ↦ elim (cases_Bool (e.0 == turn)) [
+        | inl own ↦ rw (kept, own, kept) (ap (λ rest. e.1 ∷ rest) (blockers-ended es blocker turn))
+        | inr other ↦ rw (kept, other) (blockers-ended es blocker turn)
+      ]
+    ]
+
+-- ---- the calls that are held
+
+pub held-lives : (turns : List ℕ) (waited : List (ℕ × Blocker)) (turn : ℕ) → lives (held_of turns waited) turn ≡ list_any (λ other. other == turn) turns
+held-lives [] waited turn = refl
+held-lives (t ∷ ts) waited turn = ap (λ rest. t == turn || rest) (held-lives ts waited turn)
+
+pub held-ended : (turns : List ℕ) (waited : List (ℕ × Blocker)) (blocker : Blocker)
+    → held_of turns (filter (λ e. not (is_same blocker e.1)) waited) ≡ with_ended (held_of turns waited) blocker
+held-ended [] waited blocker = refl
+held-ended (t ∷ ts) waited blocker = rw (blockers-ended waited blocker t, held-ended ts waited blocker) refl
+
+pub held-removed : (turns : List ℕ) (waited : List (ℕ × Blocker)) (turn : ℕ)
+    → held_of (filter (λ other. not (other == turn)) turns) (filter (λ e. not (e.0 == turn)) waited) ≡ without_row (held_of turns waited) turn
+held-removed [] waited turn = refl
+held-removed (t ∷ ts) waited turn =
+    elim (cases_Bool (t == turn)) [
+      | inl own ↦ rw own (held-removed ts waited turn)
+      | inr kept ↦ rw (kept, blockers-kept waited turn t kept, held-removed ts waited turn) refl
+    ]
+
+held-changed : (turns : List ℕ) (waited : List (ℕ × Blocker)) (turn : ℕ) (blockers : List Blocker)
+    → held_of turns (put waited turn blockers) ≡ with_row_changed (λ _. blockers) (held_of turns waited) turn
+held-changed [] waited turn blockers = refl
+held-changed (t ∷ ts) waited turn blockers =
+    elim (cases_Bool (t == turn)) [
+      | inl own ↦ (let is : t ≡ turn = eqb-true t turn own in
+          let its : blockers_of (put waited turn blockers) t ≡ blockers = rw is (put-own waited turn blockers) in
+          rw (own, its, held-changed ts waited turn blockers) refl)
+      | inr kept ↦ rw (kept, put-others waited turn blockers t kept, held-changed ts waited turn blockers) refl
+    ]
+
+held-others : (turns : List ℕ) (waited : List (ℕ × Blocker)) (turn : ℕ) (blockers : List Blocker) → list_any (λ other. other == turn) turns ≡ false
+    → held_of turns (put waited turn blockers) ≡ held_of turns waited
+held-others [] waited turn blockers none = refl
+held-others (t ∷ ts) waited turn blockers none =
+    elim (cases_Bool (t == turn)) [
+      | inl own ↦ (let never : true ≡ false = rw own at none in absurd (false≢true (sym never)))
+      | inr kept ↦ (let rest : list_any (λ other. other == turn) ts ≡ false = rw kept at none in
+          rw (put-others waited turn blockers t kept, held-others ts waited turn blockers rest) refl)
+    ]
+
+pub held-held : (turns : List ℕ) (waited : List (ℕ × Blocker)) (turn : ℕ) (blockers : List Blocker)
+    → held_of (with_turn turns turn) (put waited turn blockers) ≡ with_held (held_of turns waited) turn blockers
+held-held turns waited turn blockers =
+    elim (cases_Bool (list_any (λ other. other == turn) turns)) [
+      | inl there ↦ rw (held-lives turns waited turn, there) (held-changed turns waited turn blockers)
+      | inr none ↦ rw (held-lives turns waited turn, none) (
+          map-append (λ t. (t, blockers_of (put waited turn blockers) t)) turns (turn ∷ [])
+          ∙ ap (λ front. front ++ (turn, blockers_of (put waited turn blockers) turn) ∷ []) (held-others turns waited turn blockers none)
+          ∙ ap (λ its. held_of turns waited ++ (turn, its) ∷ []) (put-own waited turn blockers))
+    ]
+
+-- how many turns there are then
+pub length-with_turn : (turns : List ℕ) (waited : List (ℕ × Blocker)) (turn : ℕ) → length (with_turn turns turn) ≡ length turns + calls_added (held_of turns waited) turn
+length-with_turn turns waited turn =
+    elim (cases_Bool (list_any (λ other. other == turn) turns)) [
+      | inl there ↦ rw (held-lives turns waited turn, there) (omega arith)
+      | inr none ↦ rw (held-lives turns waited turn, none) (length-append turns (turn ∷ []))
+    ]
+
+-- ---- the calls none of whose blockers lives
+
+free-none : (waited : List (ℕ × Blocker)) (turn : ℕ) → (length (blockers_of waited turn) == 0) ≡ is_free waited turn
+free-none [] turn = refl
+free-none (e ∷ es) turn =
+    elim (cases_Bool (e.0 == turn)) [
+      | inl own ↦ rw own (ne_eqb (suc (length (blockers_of es turn))) 0 (λ none. absurd (omega arith)))
+      | inr other ↦ rw other (free-none es turn)
+    ]
+
+free-turns : (turns : List ℕ) (waited : List (ℕ × Blocker)) → map (λ e. e.0) (filter (λ e. length e.1 == 0) (held_of turns waited)) ≡ filter (is_free waited) turns
+free-turns [] waited = refl
+free-turns (t ∷ ts) waited =
+    elim (cases_Bool (is_free waited t)) [
+      | inl free ↦ rw (free-none waited t, free) (ap (λ rest. t ∷ rest) (free-turns ts waited))
+      | inr blocked ↦ rw (free-none waited t, blocked) (free-turns ts waited)
+    ]
+
+pub next_ready-least : (turns : List ℕ) (waited : List (ℕ × Blocker)) → next_ready (held_of turns waited) ≡ least (filter (is_free waited) turns)
+next_ready-least turns waited = in_order-first (filter (λ e. length e.1 == 0) (held_of turns waited)) ∙ ap least (free-turns turns waited)
+
+-- ---- no two turns are the same
+
+none-at : (test : ℕ → Bool) (turns : List ℕ) → list_any test turns ≡ false → (k d : ℕ) → k < length turns → test (get_or turns k d) ≡ false
+none-at test turns none k d within =
+    elim (cases_Bool (test (get_or turns k d))) [
+      | inl passes ↦ absurd (false≢true (sym none ∙ list_any_at test turns k d within passes))
+      | inr fails ↦ fails
+    ]
+
+pub differ-with_turn : (turns : List ℕ) (turn : ℕ) → AllPairs (λ a b. (a == b) ≡ false) turns → AllPairs (λ a b. (a == b) ≡ false) (with_turn turns turn)
+differ-with_turn turns turn differ =
+    elim (cases_Bool (list_any (λ other. other == turn) turns)) [
+      | inl there ↦ rw there differ
+      | inr none ↦ rw none (all_pairs_push (λ a b. (a == b) ≡ false) turns turn differ (none-at (λ other. other == turn) turns none))
+    ]
+
+pub differ-held_of : (turns : List ℕ) (waited : List (ℕ × Blocker)) → AllPairs (λ a b. (a == b) ≡ false) turns → AllPairs (λ a b. (a.0 == b.0) ≡ false) (held_of turns waited)
+differ-held_of turns waited differ i j d below within =
+    let view : ℕ → ℕ × List Blocker = λ turn. (turn, blockers_of waited turn) in
+    let few : j < length turns = (let len = length-map turns view in omega arith) in
+    rw (get_or-map view turns i 0 d (omega arith), get_or-map view turns j 0 d few) (differ i j 0 below few)

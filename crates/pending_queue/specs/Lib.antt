@@ -1,0 +1,2 @@
+pub mod PendingQueue
+pub mod Lists

@@ -1,0 +1,112 @@
+//! The queue of the calls that are held.
+
+ghost use Rattle.std.specs.Prelude.{◌≡◌, ◌≤◌, ◌+◌, ◌==◌, [], false, length, AllPairs, IsOk, OnOk, OnErr};
+ghost use Rattle.fsa_types.specs.Rows.{lives, without_row};
+ghost use Rattle.pending_queue.specs.PendingQueue.{with_held, with_ended, next_ready, calls_added};
+
+use crate::lists::{
+    add_turn, drop_blocker, drop_blockers_of, drop_turn, has_turn, least_ready, put_blockers,
+};
+use fsa_types::{Blocker, BlockerList, NoMemory};
+use std::alloc::Global;
+use std::marker::Model;
+
+/// The calls that are held, each under its turn with those of its blockers that live, in the order in
+/// which they were held.
+#[derive(Debug, Drop)]
+pub struct PendingQueue {
+    // The turns of the calls.
+    turns: Vec<u64>,
+    // The blockers that live, each with the turn of the call that waits for it.
+    waited: Vec<(u64, Blocker)>,
+}
+
+impl Model for PendingQueue {
+    ghost use Rattle.pending_queue.specs.PendingQueue.{Queue, held_of};
+    ghost use Rattle.std.specs.Prelude.{◌≡◌, ◌==◌, ◌-◌, false, AllPairs};
+    ghost use Rattle.std.specs.Vec.{vec_capacity, vec_len};
+
+    ghost Value = { Queue };
+
+    ghost view = { λ q. record {
+      held = held_of q.turns.items q.waited.items;
+      room_for_calls = vec_capacity q.turns - vec_len q.turns;
+      room_for_blockers = vec_capacity q.waited - vec_len q.waited;
+    } };
+
+    ghost invariant = { λ q. AllPairs (λ a b. (a == b) ≡ false) q.turns.items };
+}
+
+impl PendingQueue {
+    /// No call is held. It takes no memory.
+    pub fn new(alloc: Global) -> PendingQueue
+        ensures { result.held ≡ [] }
+    {
+        PendingQueue {
+            turns: Vec::new(alloc),
+            waited: Vec::new(alloc),
+        }
+    }
+
+    /// Takes room for so many more calls with so many blockers in all. `NoMemory` where there is
+    /// none; no call's blockers have changed then.
+    pub fn reserve(&mut self, calls: usize, blockers: usize) -> Result<(), NoMemory>
+        ensures held { self.new.held ≡ self.old.held }
+        ensures calls { OnOk result (calls ≤ self.new.room_for_calls) }
+        ensures blockers { OnOk result (blockers ≤ self.new.room_for_blockers) }
+        ensures calls_kept { self.old.room_for_calls ≤ self.new.room_for_calls }
+        ensures blockers_kept { self.old.room_for_blockers ≤ self.new.room_for_blockers }
+    {
+        self.turns.reserve(calls)?;
+        self.waited.reserve(blockers)?;
+        Ok(())
+    }
+
+    /// Holds the call of this turn by these blockers; where it is held already, by these in place of
+    /// those that it was held by. It takes memory only where there is no spare room for what is new.
+    /// After `NoMemory` all calls are held as before.
+    pub fn hold(&mut self, turn: u64, blockers: BlockerList) -> Result<(), NoMemory>
+        ensures ok { OnOk result (self.new.held ≡ with_held self.old.held turn blockers.items) }
+        ensures err { OnErr result (self.new.held ≡ self.old.held) }
+        ensures succeeds { calls_added self.old.held turn ≤ self.old.room_for_calls → length blockers.items ≤ self.old.room_for_blockers → IsOk result }
+        ensures calls_left { self.old.room_for_calls ≤ self.new.room_for_calls + calls_added self.old.held turn }
+        ensures blockers_left { self.old.room_for_blockers ≤ self.new.room_for_blockers + length blockers.items }
+    {
+        self.waited.reserve(blockers.len())?;
+        add_turn(&mut self.turns, turn)?;
+        put_blockers(&mut self.waited, turn, blockers.as_slice());
+        Ok(())
+    }
+
+    /// The break or the lock has ended: no call waits for it any more. It takes no memory, and leaves
+    /// the room as it was or larger.
+    pub fn ended(&mut self, blocker: Blocker)
+        ensures held { self.new.held ≡ with_ended self.old.held blocker }
+        ensures calls_kept { self.old.room_for_calls ≤ self.new.room_for_calls }
+        ensures blockers_kept { self.old.room_for_blockers ≤ self.new.room_for_blockers }
+    {
+        drop_blocker(&mut self.waited, blocker);
+    }
+
+    /// The least turn of a call none of whose blockers lives; `None` exactly where there is none.
+    pub fn next_ready(&self) -> Option<u64>
+        ensures turn { result ≡ next_ready self.now.held }
+        ensures differ { AllPairs (λ a b. (a.0 == b.0) ≡ false) self.now.held }
+    {
+        least_ready(&self.turns, &self.waited)
+    }
+
+    /// Holds the call of this turn no more; `false` exactly where it isn't held. It takes no memory, and
+    /// leaves the room as it was or larger.
+    pub fn remove(&mut self, turn: u64) -> bool
+        ensures found { result ≡ lives self.old.held turn }
+        ensures held { self.new.held ≡ without_row self.old.held turn }
+        ensures calls_kept { self.old.room_for_calls ≤ self.new.room_for_calls }
+        ensures blockers_kept { self.old.room_for_blockers ≤ self.new.room_for_blockers }
+    {
+        let found = has_turn(&self.turns, turn);
+        drop_turn(&mut self.turns, turn);
+        drop_blockers_of(&mut self.waited, turn);
+        found
+    }
+}
