@@ -1,7 +1,5 @@
 -- A break of oplocks, as its parts see it.
-use Rattle.std.specs.Prelude.{ℕ, List, [], ◌==◌, find, Some, None, if◌then◌else◌}
-use Rattle.std.specs.Option.{option_map_or}
-use Rattle.fsa_types.specs.declared.request.Level.{Level}
+use Rattle.std.specs.Prelude.{ℕ, List, []}
 use Rattle.fsa_types.specs.declared.reply.EndOf.{EndOf}
 use Rattle.fsa_model.specs.Volume.{Link, Stream, Handle, Oplock, Pending, Volume}
 
@@ -38,15 +36,3 @@ with_calls v pending ended = record v { pending = pending; ended = ended }
 -- the same with these oplocks, and the last number of a break
 abbrev pub with_held : Volume → List Oplock → ℕ → List (ℕ × Pending) → List EndOf → Volume
 with_held v oplocks last pending ended = record v { oplocks = oplocks; last_break = last; pending = pending; ended = ended }
-
--- the number of the break in progress on a handle
-abbrev pub number_of_break : List Oplock → ℕ → ℕ
-number_of_break oplocks handle = option_map_or (λ oplock. oplock.number) (find (λ oplock. oplock.handle == handle) oplocks) 0
-
--- an oplock once a break of this number to this level has begun, where it is this handle's
-abbrev pub begun : ℕ → Level → ℕ → Oplock → Oplock
-begun handle level number oplock = if oplock.handle == handle then record oplock { target = Some level; number = number; call = None } else oplock
-
--- an oplock once its break in progress goes on to this level, where it is this handle's
-abbrev pub lowered : ℕ → Level → Oplock → Oplock
-lowered handle level oplock = if oplock.handle == handle then record oplock { target = Some level } else oplock

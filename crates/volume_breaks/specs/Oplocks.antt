@@ -1,5 +1,6 @@
 -- The oplocks of a volume as they are kept, beside what a break of them sets aside.
 use Rattle.std.specs.Prelude.{ℕ, ◌^◌, ◌<◌, ◌≤◌, List}
+use Rattle.fsa_types.specs.OplockLists.{OplockState}
 use Rattle.fsa_model.specs.Volume.{Oplock}
 
 -- the oplocks; copies of those that the last break chose, in order; the breaks that it waits for; the
@@ -10,6 +11,10 @@ pub record Held : Type 0 where
   pub waited : List ℕ
   pub last : ℕ
   pub room : ℕ
+
+-- the oplocks, with the number of the last break that began
+abbrev pub state_of : Held → OplockState
+state_of held = record { oplocks = held.rows; last_break = held.last }
 
 -- there is room for so many oplocks in all, and for as many that are chosen and waited for; their count
 -- is below 2^32, and so is that of those chosen last

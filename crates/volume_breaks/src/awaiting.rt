@@ -2,9 +2,9 @@
 
 ghost use Rattle.std.specs.Prelude.{ℕ, ◌≡◌, ◌≤◌, ◌<◌, ◌+◌, ◌++◌, ◌∷◌, [], length, filter, map, if◌then◌else◌};
 ghost use Rattle.std.specs.Vec.{vec_capacity};
+ghost use Rattle.fsa_types.specs.OplockLists.{awaited_among, number_of_break};
 ghost use Rattle.fsa_types.specs.Oplocks.{is_awaited};
 ghost use Rattle.fsa_types.specs.declared.reply.Blocker.TheVariants.{Break};
-ghost use Rattle.volume_breaks.specs.Breaks.{number_of_break};
 
 use fsa_types::{Blocker, BlockerList, Class};
 use volume_rows::{OplockRow, find_break, is_awaited};
@@ -39,7 +39,7 @@ pub fn await_breaks(
     waited: &mut Vec<u64>,
 )
     requires room { length chosen.now ≤ vec_capacity waited.old }
-    ensures waited { waited.new.items ≡ map (λ oplock. number_of_break oplocks.now oplock.handle) (filter (λ oplock. is_awaited class oplock.level oplock.target) chosen.now) }
+    ensures waited { waited.new.items ≡ awaited_among class chosen.now oplocks.now }
     ensures few { length waited.new.items ≤ length chosen.now }
     ensures room { vec_capacity waited.old ≤ vec_capacity waited.new }
 {

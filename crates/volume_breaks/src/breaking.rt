@@ -1,16 +1,19 @@
 //! What a break does to oplocks that were chosen, and which calls it tells, after [MS-FSA] 'Algorithm
 //! to Check for an Oplock Break'.
 
-ghost use Rattle.std.specs.Prelude.{ℕ, ◌≡◌, ◌≤◌, ◌<◌, ◌+◌, ◌++◌, ◌∷◌, ◌^◌, ◌&&◌, [], not, true, length, filter, fold, is_some, option_map, option_and_then, if◌then◌else◌};
+ghost use Rattle.std.specs.Prelude.{ℕ, ◌≡◌, ◌≤◌, ◌<◌, ◌+◌, ◌++◌, ◌∷◌, ◌^◌, ◌&&◌, [], not, true, length, filter, fold, is_some, option_map, option_and_then, All, if◌then◌else◌};
+ghost use Rattle.fsa_types.specs.OplockLists.{OplockState, after_effect, effect_on, is_told, told_among, CanHave, IsCopy, IsOplock};
 ghost use Rattle.fsa_types.specs.Oplocks.{effect};
 ghost use Rattle.fsa_types.specs.Rows.{row_of};
 ghost use Rattle.fsa_types.specs.declared.reply.Body.TheVariants.{Broken};
 ghost use Rattle.fsa_types.specs.declared.status.Status.TheVariants.{Success};
-ghost use Rattle.fsa_model.specs.Breaks.{is_told, with_effect, with_told};
+ghost use Rattle.fsa_model.specs.Breaks.{with_effect, with_told};
 ghost use Rattle.fsa_model.specs.Edits.{is_call};
 ghost use Rattle.fsa_model.specs.Volume.{Volume};
+ghost use Rattle.object_tables.specs.Series.{HoldsAsMany};
 ghost use Rattle.volume_rows.specs.Effects.{effect_of};
 ghost use Rattle.volume_breaks.specs.Breaks.{with_calls, with_held};
+ghost use Rattle.volume_breaks.specs.Oplocks.{state_of};
 
 use crate::oplock_list::Oplocks;
 use crate::spare_list::SpareList;
@@ -30,6 +33,7 @@ pub fn end_call(
     ensures pending { pending.new ≡ record pending.old { items = filter (λ entry. not (is_call client number entry.1)) pending.old.items } }
     ensures ended { ended.new.items ≡ ended.old.items ++ record { client = client; number = number; reply = reply } ∷ [] }
     ensures left { ended.old.room ≤ ended.new.room + 1 }
+    ensures ends { HoldsAsMany ended.old ended.new }
 {
     drop_call(pending, client, number);
     ended.push(EndOf {
@@ -73,6 +77,7 @@ fn tell(
     ensures told { (v : Volume) → with_calls v pending.new.items ended.new.items ≡ with_told (with_calls v pending.old.items ended.old.items) turn level ack }
     ensures room { pending.new.room ≡ pending.old.room }
     ensures left { ended.old.room ≤ ended.new.room + (if is_some turn then 1 else 0) }
+    ensures ends { HoldsAsMany ended.old ended.new }
 {
     let Some((client, number)) = pending_call(pending.as_slice(), turn) else {
         return;
@@ -99,11 +104,14 @@ fn apply(
 )
     requires room { (is_told (effect_of done) && is_some oplock.call) ≡ true → 1 ≤ ended.old.room }
     requires numbers { oplocks.old.last + 1 < 2 ^ 64 }
+    requires fits { CanHave (effect_of done) oplock.handle oplocks.old.rows }
+    ensures oplocks { state_of oplocks.new ≡ after_effect (effect_of done) oplock.handle (state_of oplocks.old) }
     ensures done { (v : Volume) → with_held v oplocks.new.rows oplocks.new.last pending.new.items ended.new.items ≡ with_effect (with_held v oplocks.old.rows oplocks.old.last pending.old.items ended.old.items) oplock (effect_of done) }
     ensures others { oplocks.new ≡ record oplocks.old { rows = oplocks.new.rows; last = oplocks.new.last } }
     ensures numbers { oplocks.new.last ≤ oplocks.old.last + 1 }
     ensures room { pending.new.room ≡ pending.old.room }
     ensures left { ended.old.room ≤ ended.new.room + (if is_told (effect_of done) && is_some oplock.call then 1 else 0) }
+    ensures ends { HoldsAsMany ended.old ended.new }
 {
     match done {
         BreakEffect::Stays => {}
@@ -127,31 +135,39 @@ fn break_one(
     class: Class,
     oplock: OplockRow,
 )
-    requires room { (is_told (effect class oplock.level oplock.target) && is_some oplock.call) ≡ true → 1 ≤ ended.old.room }
+    requires room { (is_told (effect_on class oplock) && is_some oplock.call) ≡ true → 1 ≤ ended.old.room }
     requires numbers { oplocks.old.last + 1 < 2 ^ 64 }
-    ensures done { (v : Volume) → with_held v oplocks.new.rows oplocks.new.last pending.new.items ended.new.items ≡ with_effect (with_held v oplocks.old.rows oplocks.old.last pending.old.items ended.old.items) oplock (effect class oplock.level oplock.target) }
+    requires sound { IsOplock oplock }
+    requires copy { IsCopy oplocks.old.rows oplock }
+    ensures oplocks { state_of oplocks.new ≡ after_effect (effect_on class oplock) oplock.handle (state_of oplocks.old) }
+    ensures done { (v : Volume) → with_held v oplocks.new.rows oplocks.new.last pending.new.items ended.new.items ≡ with_effect (with_held v oplocks.old.rows oplocks.old.last pending.old.items ended.old.items) oplock (effect_on class oplock) }
     ensures others { oplocks.new ≡ record oplocks.old { rows = oplocks.new.rows; last = oplocks.new.last } }
     ensures numbers { oplocks.new.last ≤ oplocks.old.last + 1 }
     ensures room { pending.new.room ≡ pending.old.room }
-    ensures left { ended.old.room ≤ ended.new.room + (if is_told (effect class oplock.level oplock.target) && is_some oplock.call then 1 else 0) }
+    ensures left { ended.old.room ≤ ended.new.room + (if is_told (effect_on class oplock) && is_some oplock.call then 1 else 0) }
+    ensures ends { HoldsAsMany ended.old ended.new }
 {
     let done = effect(class, oplock.level, oplock.target);
     apply(oplocks, pending, ended, oplock, done);
 }
 
-/// Breaks the oplocks that were chosen, one after the other, as a request of this class does.
+/// Breaks the oplocks that were chosen, one after the other, as a request of this class does. They have
+/// to be copies of those that are there.
 pub fn break_chosen(
     oplocks: &mut Oplocks,
     pending: &mut SpareList<(u64, PendingRow)>,
     ended: &mut Series<EndOf>,
     class: Class,
 )
-    requires room { length (filter (λ oplock. is_told (effect class oplock.level oplock.target) && is_some oplock.call) oplocks.old.chosen) ≤ ended.old.room }
+    requires room { length (told_among class oplocks.old.chosen) ≤ ended.old.room }
     requires numbers { oplocks.old.last + length oplocks.old.chosen < 2 ^ 64 }
-    ensures done { (v : Volume) → with_held v oplocks.new.rows oplocks.new.last pending.new.items ended.new.items ≡ fold (λ w oplock. with_effect w oplock (effect class oplock.level oplock.target)) (with_held v oplocks.old.rows oplocks.old.last pending.old.items ended.old.items) oplocks.old.chosen }
+    requires sound { All IsOplock oplocks.old.chosen }
+    requires copies { All (IsCopy oplocks.old.rows) oplocks.old.chosen }
+    ensures done { (v : Volume) → with_held v oplocks.new.rows oplocks.new.last pending.new.items ended.new.items ≡ fold (λ w oplock. with_effect w oplock (effect_on class oplock)) (with_held v oplocks.old.rows oplocks.old.last pending.old.items ended.old.items) oplocks.old.chosen }
     ensures others { oplocks.new ≡ record oplocks.old { rows = oplocks.new.rows; last = oplocks.new.last } }
     ensures room { pending.new.room ≡ pending.old.room }
-    ensures left { ended.old.room ≤ ended.new.room + length (filter (λ oplock. is_told (effect class oplock.level oplock.target) && is_some oplock.call) oplocks.old.chosen) }
+    ensures left { ended.old.room ≤ ended.new.room + length (told_among class oplocks.old.chosen) }
+    ensures ends { HoldsAsMany ended.old ended.new }
 {
     for place in 0..oplocks.chosen_len() {
         let oplock = oplocks.chosen_at(place);

@@ -2,11 +2,10 @@
 
 ghost use Rattle.std.specs.Prelude.{ℕ, ◌≡◌, ◌≤◌, ◌<◌, ◌+◌, ◌^◌, ◌==◌, not, [], List, Some, None, length, map, filter, OnOk, if◌then◌else◌, slice_index_or};
 ghost use Rattle.fsa_types.specs.Sorting.{in_order};
-ghost use Rattle.fsa_types.specs.Oplocks.{is_awaited};
+ghost use Rattle.fsa_types.specs.OplockLists.{awaited_among, begun, lowered, without_oplock_of, CanBegin, CanGoOn};
 ghost use Rattle.fsa_model.specs.Breaks.{is_broken_before, is_chosen};
 ghost use Rattle.fsa_model.specs.Volume.{Oplock};
 ghost use Rattle.volume_breaks.specs.Oplocks.{Held};
-ghost use Rattle.volume_breaks.specs.Breaks.{begun, lowered, number_of_break};
 ghost use Rattle.std.specs.Vec.{vec_capacity};
 
 use crate::awaiting::await_breaks;
@@ -18,7 +17,8 @@ use volume_rows::{OplockRow, is_oplock_of};
 
 /// The oplocks of a volume, in the order in which they were granted. A break of them takes no memory:
 /// there is room for copies of all of them, and for the numbers of as many breaks. There are fewer
-/// than 2^32.
+/// than 2^32. At most one is of a handle, with a numbered break exactly where it has a target, which is
+/// within its level; the numbers of breaks differ, and none is above the last one given.
 #[derive(Drop)]
 pub struct Oplocks {
     rows: Vec<OplockRow>,
@@ -35,13 +35,14 @@ pub struct Oplocks {
 impl Model for Oplocks {
     ghost use Rattle.std.specs.Prelude.{◌+◌};
     ghost use Rattle.std.specs.Vec.{vec_capacity, vec_len};
+    ghost use Rattle.fsa_types.specs.OplockLists.{AreOplocks};
     ghost use Rattle.volume_breaks.specs.Oplocks.{Held, IsRoomy};
 
     ghost Value = { Held };
 
     ghost view = { λ o. record { rows = o.rows.items; chosen = o.chosen.items; waited = o.waited.items; last = o.last; room = o.room } };
 
-    ghost invariant = { λ o. IsRoomy (vec_len o.rows + o.room) (vec_capacity o.rows) (vec_capacity o.chosen) (vec_capacity o.waited) (vec_len o.chosen) };
+    ghost invariant = { λ o. IsRoomy (vec_len o.rows + o.room) (vec_capacity o.rows) (vec_capacity o.chosen) (vec_capacity o.waited) (vec_len o.chosen) × AreOplocks o.rows.items o.last };
 }
 
 impl Oplocks {
@@ -119,23 +120,25 @@ impl Oplocks {
 
     /// Takes the oplock of this handle out.
     pub fn drop_of(&mut self, handle: u64)
-        ensures { self.new ≡ record self.old { rows = filter (λ oplock. not (oplock.handle == handle)) self.old.rows } }
+        ensures { self.new ≡ record self.old { rows = without_oplock_of handle self.old.rows } }
     {
         drop_of(&mut self.rows, handle);
     }
 
-    /// A numbered break to this level begins of the oplock of this handle, and no call is pending as
-    /// granted any more.
+    /// A numbered break begins of the oplock of this handle, to a level that is no more than it has, and
+    /// no call is pending as granted any more.
     pub fn begin_break(&mut self, handle: u64, level: Level)
-        requires { self.old.last + 1 < 2 ^ 64 }
+        requires numbers { self.old.last + 1 < 2 ^ 64 }
+        requires level { CanBegin level handle self.old.rows }
         ensures { self.new ≡ record self.old { rows = map (begun handle level (self.old.last + 1)) self.old.rows; last = self.old.last + 1 } }
     {
         self.last += 1;
         begin_break(&mut self.rows, handle, level, self.last);
     }
 
-    /// The break in progress on this handle goes on to this level.
+    /// The break in progress on this handle goes on to this level, which is no more than the oplock has.
     pub fn lower(&mut self, handle: u64, level: Level)
+        requires level { CanGoOn level handle self.old.rows }
         ensures { self.new ≡ record self.old { rows = map (lowered handle level) self.old.rows } }
     {
         lower(&mut self.rows, handle, level);
@@ -144,7 +147,7 @@ impl Oplocks {
     /// Sets aside the numbers of the breaks that a request of this class waits for, of those that were
     /// chosen, and counts them.
     pub fn await_breaks(&mut self, class: Class) -> u32
-        ensures waited { self.new ≡ record self.old { waited = map (λ oplock. number_of_break self.old.rows oplock.handle) (filter (λ oplock. is_awaited class oplock.level oplock.target) self.old.chosen) } }
+        ensures waited { self.new ≡ record self.old { waited = awaited_among class self.old.chosen self.old.rows } }
         ensures count { result ≡ length self.new.waited }
     {
         await_breaks(&self.rows, &self.chosen, class, &mut self.waited);

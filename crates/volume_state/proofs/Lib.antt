@@ -1,7 +1,6 @@
 pub mod DropLaws
 pub mod GrowthLemmas
 pub mod HandleLaws
-pub mod LockLaws
 pub mod MarkLaws
 pub mod OpenLaws
 pub mod PathLaws

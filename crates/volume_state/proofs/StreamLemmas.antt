@@ -7,7 +7,7 @@ use Rattle.std.proofs.lemmas.List.{length-replicate, length-map, get_or-map}
 use Rattle.std.proofs.lemmas.List.Folds.{find-append, list_any_none}
 use Rattle.std.proofs.lemmas.List.Elements.{All-filter}
 use Rattle.std.specs.List.{All, find}
-use Rattle.fsa_types.specs.Rows.{row_of, lives, without_row, with_row_changed}
+use Rattle.fsa_types.specs.Rows.{row_of, lives, with_row_changed}
 use Rattle.fsa_types.specs.StreamBytes.{put, cut}
 use Rattle.fsa_types.proofs.RowLemmas.{AreRising, AreRising-rest, AreRising-first, map-change, map-unseen, row_of-map, with_row_changed-none}
 use Rattle.fsa_model.specs.Volume.{Stream}

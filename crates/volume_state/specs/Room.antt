@@ -1,8 +1,8 @@
 -- Room that was asked for, and room that stays.
-use Rattle.std.specs.Prelude.{◌≡◌, ℕ, ◌≤◌, Option, Some}
+use Rattle.std.specs.Prelude.{◌≡◌, ℕ, ◌+◌, ◌≤◌, Option, Some, length}
 use Rattle.fsa_model.specs.Volume.{Volume}
 use Rattle.volume_rows.specs.declared.rows.Need.{Need}
-use Rattle.volume_state.specs.Seen.{Spare, room_for, CanWrite}
+use Rattle.volume_state.specs.Seen.{Seen, Spare, room_for, CanWrite}
 use Rattle.volume_tables.specs.HandleTable as table
 
 -- the stream of a handle, where it has one
@@ -45,3 +45,8 @@ pub record IsNoLess (old new : Spare) : Type 0 where
   pub units : old.units ≤ new.units
   pub dirs : old.dirs ≤ new.dirs
   pub bytes : (stream at count : ℕ) → CanWrite old stream at count → CanWrite new stream at count
+
+-- the room for ends together with the calls that have ended is no less than it was: each end takes one, so
+-- that room which was taken for the ends of a whole turn is there for each of them
+abbrev pub KeepsEnds : Seen → Seen → Type 0
+KeepsEnds old new = old.spare.ends + length old.content.ended ≤ new.spare.ends + length new.content.ended

@@ -1,8 +1,5 @@
 -- A file made in a directory, step by step.
 use Rattle.std.specs.Prelude.{ℕ, Bool, ◌+◌, false, List, Some, None}
-use Rattle.fsa_types.specs.declared.oplock.Class.TheVariants.{Change}
-use Rattle.fsa_types.specs.declared.oplock.HandleSet.TheVariants.{Stream as OfStream}
-use Rattle.fsa_model.specs.Breaks.{with_breaks}
 use Rattle.fsa_model.specs.Changes.{with_change_noted}
 use Rattle.fsa_model.specs.Edits.{with_file, with_link, with_stream, with_handle}
 use Rattle.fsa_model.specs.Volume.{File, Volume}
@@ -32,23 +29,6 @@ abbrev pub with_file_made : Volume → ℕ → File → List ℕ → List ℕ �
 with_file_made v parent file name stream client number =
     with_change_noted (with_change_noted (with_new_open v parent file name stream client number) (v.last_link + 1) 1 1 None)
     (v.last_link + 1) 6 0x200 (Some (v.last_stream + 1))
-
--- a stream opened by a link, where that breaks oplocks, and noted
-abbrev pub with_file_opened : Volume → ℕ → ℕ → ℕ → ℕ → Volume
-with_file_opened v link stream client number =
-    with_change_noted
-    (with_handle (with_breaks v (OfStream stream) Change None 0) (record {
-      client = client;
-      number = number;
-      link = link;
-      stream = Some stream;
-      access = 1;
-      share = 1;
-      key = 0;
-      delete_on_close = false;
-      enumeration = None;
-    }))
-    link 3 0x1c None
 
 -- a file or a directory as it is made
 abbrev pub directory : Bool → File

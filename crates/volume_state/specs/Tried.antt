@@ -14,7 +14,8 @@ Gives outcome old new (tried.Stay interim) = outcome ≡ Stay new interim
 Gives outcome old new (tried.Hold blockers interim) = outcome ≡ Hold new blockers.items interim
 Gives outcome old new tried.NoMemory = new ≡ old
 
--- where the call is held there is room to make it pending with what it waits for
+-- where the call stays or is held there is room to make it pending with what it waits for
 abbrev pub HasHoldRoom : Tried → Spare → Type 0
 HasHoldRoom (tried.Hold blockers interim) spare = (1 ≤ spare.pending) × (length blockers.items ≤ spare.blockers)
+HasHoldRoom (tried.Stay interim) spare = 1 ≤ spare.pending
 HasHoldRoom _ spare = Unit {0}

@@ -3,8 +3,7 @@
 ghost use Rattle.std.specs.Prelude.{◌≡◌, ◌<◌, ◌+◌, ◌*◌, ◌/◌, ◌-◌, ◌^◌, ◌==◌, false, length, filter, sum_by};
 ghost use Rattle.std.specs.Option.{option_map_or};
 ghost use Rattle.fsa_types.specs.Rows.{row_of};
-ghost use Rattle.fsa_model.specs.Charge.{charge, clusters, clusters_for, limit};
-ghost use Rattle.fsa_model.specs.Security.{charge_of_file};
+ghost use Rattle.fsa_model.specs.Charge.{charge, charge_of_file, clusters, clusters_for, limit};
 
 use crate::volume::Volume;
 use object_tables::Table;

@@ -32,7 +32,8 @@
 //! each as a condition of the call. What soundness says of a row that is found or added is told by the
 //! call that finds or adds it, so that no caller needs a law of its own.
 //!
-//! A look-up costs time linear in the rows of a table. The next handle of a client, the next pending
+//! A file, a link, a stream or a handle is found by its number in time logarithmic in the rows of its
+//! table; any other look-up costs time linear in them. The next handle of a client, the next pending
 //! call, the handles below a directory and an owner's charge cost that for each row, and a note costs a
 //! look through the links for each directory above. A break costs what `volume_breaks` says.
 //!

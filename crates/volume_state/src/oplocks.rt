@@ -7,6 +7,7 @@ ghost use Rattle.fsa_types.specs.declared.oplock.Class.{Class};
 ghost use Rattle.fsa_types.specs.declared.oplock.HandleSet.{HandleSet};
 ghost use Rattle.fsa_model.specs.Breaks.{with_breaks, awaited, told};
 ghost use Rattle.std.specs.Prelude.{Option};
+ghost use Rattle.volume_state.specs.Room.{KeepsEnds};
 
 use crate::volume::Volume;
 use fsa_types::{BlockerList, Class, HandleSet};
@@ -37,6 +38,7 @@ impl Volume {
         ensures waited { self.new.beside ≡ record self.old.beside { waited = awaited self.old.content handles class handle key } }
         ensures others { self.new.spare ≡ record self.old.spare { ends = self.new.spare.ends } }
         ensures left { self.old.spare.ends ≤ self.new.spare.ends + length (told self.old.content handles class handle key) }
+        ensures ends { KeepsEnds self.old self.new }
         ensures count { result ≡ length (awaited self.old.content handles class handle key) }
     {
         let tree = Tree {

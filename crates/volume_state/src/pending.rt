@@ -7,6 +7,7 @@ ghost use Rattle.fsa_types.specs.Rows.{lives, row_of};
 ghost use Rattle.fsa_model.specs.Edits.{with_end};
 ghost use Rattle.fsa_model.specs.Lookups.{next_pending};
 ghost use Rattle.fsa_model.specs.Sound.{ArePending};
+ghost use Rattle.volume_state.specs.Room.{KeepsEnds};
 
 use crate::volume::Volume;
 use fsa_types::{Call, EndOf, Reply};
@@ -58,6 +59,7 @@ impl Volume {
         ensures beside { self.new.beside ≡ self.old.beside }
         ensures others { self.new.spare ≡ record self.old.spare { ends = self.new.spare.ends; pending = self.new.spare.pending; blockers = self.new.spare.blockers } }
         ensures left { self.old.spare.ends ≤ self.new.spare.ends + 1 }
+        ensures ends { KeepsEnds self.old self.new }
         ensures pending_kept { self.old.spare.pending ≤ self.new.spare.pending }
         ensures blockers_kept { self.old.spare.blockers ≤ self.new.spare.blockers }
     {

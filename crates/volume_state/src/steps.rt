@@ -1,17 +1,19 @@
-//! A file made in a directory, one opened, and ranges locked, step by step: that one reservation covers
-//! all steps is proved.
+//! For the tests alone: a file made in a directory, and ranges locked, step by step. That one reservation
+//! covers all steps is proved.
 
-ghost use Rattle.std.specs.Prelude.{ℕ, List, ◌≡◌, ◌≤◌, ◌<◌, ◌+◌, ◌-◌, ◌*◌, ◌^◌, ◌==◌, ◌&&◌, IsTrue, IfSome, OnOk, OnErr, IfOk, Some, None, true, false, length};
-ghost use Rattle.fsa_model.specs.Lookups.{child_of, handle_of, is_directory, has_row, stream_of};
-ghost use Rattle.fsa_model.specs.Sound.{LeadsUp, PointFits, is_stream_of_link};
+ghost use Rattle.std.specs.Prelude.{ℕ, List, ◌≡◌, ◌≤◌, ◌<◌, ◌+◌, ◌-◌, ◌*◌, ◌^◌, ◌==◌, ◌&&◌, not, IsTrue, IfSome, OnOk, OnErr, IfOk, Some, None, is_some, true, false, length};
+ghost use Rattle.fsa_model.specs.Lookups.{child_of, handle_of, is_directory, has_row};
+ghost use Rattle.fsa_model.specs.Sound.{LeadsUp, PointFits};
 ghost use Rattle.fsa_types.specs.Rows.{lives};
 ghost use Rattle.fsa_model.specs.Edits.{with_lock};
 ghost use Rattle.volume_state.specs.Room.{stream_of_handle};
 ghost use Rattle.volume_state.specs.Paths.{units_in, dirs_in};
-ghost use Rattle.volume_state.specs.Steps.{with_file_made, with_file_opened};
+ghost use Rattle.range_locks.specs.RangeTable.{conflicts, first_id};
+ghost use Rattle.volume_state.specs.Locks.{ranges_on};
+ghost use Rattle.volume_state.specs.Steps.{with_file_made};
 
 use crate::volume::Volume;
-use fsa_types::{Class, HandleSet, Name, NoMemory};
+use fsa_types::{Name, NoMemory};
 use range_locks::Want;
 use volume_rows::{FileRow, HandleRow, Need};
 
@@ -96,12 +98,13 @@ pub(crate) fn make_file(
     Ok(())
 }
 
-// Locks two ranges by a handle, unless its stream has a lock with which the first conflicts; whether it
-// did.
+// Locks two ranges by a handle, unless its stream has a lock with which the first conflicts; tells
+// whether it did.
 pub(crate) fn lock_ranges(volume: &mut Volume, handle: u64, stream: u64) -> Result<bool, NoMemory>
     requires handle { stream_of_handle volume.old.content handle ≡ Some stream }
     requires lives { IsTrue (lives volume.old.content.streams stream) }
     requires numbers { volume.old.content.last_lock + 2 < 2 ^ 64 }
+    ensures when { IfOk result (λ locked. locked ≡ not (is_some (first_id (conflicts Want.Exclusive handle 0 10) (ranges_on volume.old.content stream)))) }
     ensures done { IfOk result (λ locked. locked ≡ true → volume.new.content ≡ with_lock (with_lock volume.old.content handle 0 10 true) handle 20 5 false) }
     ensures refused { OnErr result (volume.new.content ≡ volume.old.content) }
     ensures taken { IfOk result (λ locked. locked ≡ false → volume.new.content ≡ volume.old.content) }
@@ -118,76 +121,4 @@ pub(crate) fn lock_ranges(volume: &mut Volume, handle: u64, stream: u64) -> Resu
     volume.add_lock(handle, 0, 10, true);
     volume.add_lock(handle, 20, 5, false);
     Ok(true)
-}
-
-// A stream opened by a link once it breaks no oplock, and noted; whether it was.
-fn open_stream(
-    volume: &mut Volume,
-    link: u64,
-    stream: u64,
-    client: u32,
-    number: u32,
-) -> Result<bool, NoMemory>
-    requires ids_left { (volume.old.content.last_handle < 2 ^ 32 - 4) × (volume.old.content.last_break < 2 ^ 63) }
-    requires link { IsTrue (lives volume.old.content.links link) }
-    requires stream { IsTrue (is_stream_of_link volume.old.content.links volume.old.content.streams link stream) }
-    requires client { client < length volume.old.content.clients }
-    requires call { handle_of volume.old.content client number ≡ None }
-    ensures done { IfOk result (λ opened. opened ≡ true → volume.new.content ≡ with_file_opened volume.old.content link stream client number) }
-    ensures refused { OnErr result (volume.new.content ≡ volume.old.content) }
-{
-    let Some(room) = volume.note_room(link, None) else {
-        return Err(NoMemory);
-    };
-    let oplocks = volume.oplocks();
-    volume.reserve(&Need {
-        handles: 1,
-        changes: 1,
-        ends: oplocks,
-        units: room.units,
-        dirs: room.dirs,
-        ..Need::nothing()
-    })?;
-    let waits = volume.begin(HandleSet::Stream(stream), Class::Change, None, 0);
-    if waits > 0 {
-        return Ok(false);
-    }
-    volume.add_handle(HandleRow {
-        client,
-        number,
-        link,
-        stream: Some(stream),
-        access: 1,
-        share: 1,
-        key: 0,
-        delete_on_close: false,
-        enumeration: None,
-    });
-    volume.note(link, 3, 0x1c, None);
-    Ok(true)
-}
-
-// The default stream of the file of this name opened, where it is there; whether it was.
-pub(crate) fn open_file(
-    volume: &mut Volume,
-    parent: u64,
-    name: &[u16],
-    client: u32,
-    number: u32,
-) -> Result<bool, NoMemory>
-    requires ids_left { (volume.old.content.last_handle < 2 ^ 32 - 4) × (volume.old.content.last_break < 2 ^ 63) }
-    requires client { client < length volume.old.content.clients }
-    requires call { handle_of volume.old.content client number ≡ None }
-    ensures refused { OnErr result (volume.new.content ≡ volume.old.content) }
-{
-    let Some(link) = volume.child(parent, name) else {
-        return Ok(false);
-    };
-    let Some(row) = volume.link(link) else {
-        unreachable!()
-    };
-    let Some(stream) = volume.stream_of(row.file, &[]) else {
-        return Ok(false);
-    };
-    open_stream(volume, link, stream, client, number)
 }

@@ -2,7 +2,7 @@ use Rattle.std.proofs.Common.{◌≡◌, ◌≤◌, ◌++◌, length, drop}
 use Rattle.std.specs.Prelude.{filter, map}
 use Rattle.std.specs.Vec.{vec_capacity}
 use Rattle.fsa_types.specs.Oplocks.{is_awaited}
-use Rattle.volume_breaks.specs.Breaks.{number_of_break}
+use Rattle.fsa_types.specs.OplockLists.{number_of_break}
 use Rattle.volume_breaks.proofs.awaiting.await_breaks.Given as goal
 
 -- the numbers that were set aside, and then those of the oplocks that are left, are all

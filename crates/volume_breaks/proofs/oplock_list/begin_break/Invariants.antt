@@ -1,6 +1,6 @@
 use Rattle.std.proofs.Common.{◌≡◌, ◌++◌, take, drop}
 use Rattle.std.specs.Prelude.{map}
-use Rattle.volume_breaks.specs.Breaks.{begun}
+use Rattle.fsa_types.specs.OplockLists.{begun}
 use Rattle.volume_breaks.proofs.oplock_list.begin_break.Given as goal
 
 abbrev pub invariant-loop-row : goal.invariant-loop-row

@@ -1,7 +1,7 @@
 use Rattle.std.proofs.Common.{arith}
 use Rattle.std.proofs.lemmas.Grind.{common_steps}
 use Rattle.std.proofs.lemmas.List.Edits.{map_over_more}
-use Rattle.volume_breaks.specs.Breaks.{lowered}
+use Rattle.fsa_types.specs.OplockLists.{lowered}
 use Rattle.volume_breaks.proofs.oplock_list.lower.Goals as goal
 
 pub loop-row-preserved : goal.loop-row-preserved

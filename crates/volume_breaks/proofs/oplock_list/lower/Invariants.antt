@@ -1,6 +1,6 @@
 use Rattle.std.proofs.Common.{◌≡◌, ◌++◌, take, drop}
 use Rattle.std.specs.Prelude.{map}
-use Rattle.volume_breaks.specs.Breaks.{lowered}
+use Rattle.fsa_types.specs.OplockLists.{lowered}
 use Rattle.volume_breaks.proofs.oplock_list.lower.Given as goal
 
 abbrev pub invariant-loop-row : goal.invariant-loop-row

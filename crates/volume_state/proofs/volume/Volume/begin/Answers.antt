@@ -1,11 +1,11 @@
-use Rattle.std.proofs.Common.{◌≡◌, ℕ, Bool, ◌∙◌, List, length, sym, ap, subst, arith}
-use Rattle.std.specs.Prelude.{filter, map}
-use Rattle.fsa_types.specs.Oplocks.{is_awaited}
-use Rattle.fsa_model.specs.Breaks.{with_breaks, chosen, awaited}
+use Rattle.std.proofs.Common.{◌≡◌, ℕ, ◌∙◌, List, length, sym, ap, subst, arith}
+use Rattle.fsa_types.proofs.OplockLemmas.{chosen-are}
+use Rattle.fsa_types.specs.OplockLists.{awaited_among}
+use Rattle.fsa_model.specs.Breaks.{with_breaks, is_broken_before, is_chosen, chosen, awaited}
 use Rattle.fsa_model.specs.Sound.{IsSound}
 use Rattle.fsa_model.specs.Volume.{Oplock, Volume}
 use Rattle.fsa_model.proofs.BreakLaws.{IsSound-with_breaks, chosen-few, with_breaks-few, with_breaks-numbers}
-use Rattle.volume_breaks.specs.Breaks.{with_held, number_of_break}
+use Rattle.volume_breaks.specs.Breaks.{with_held}
 use Rattle.volume_state.specs.Inside.{content_of}
 use Rattle.volume_breaks.specs.Oplocks.{Held}
 use Rattle.volume_state.specs.Seen.{Seen}
@@ -19,6 +19,18 @@ break_chosen-requires-clause-numbers c =
     let few = chosen-few (content_of c.self.inside) c.args.handles c.args.handle c.args.key in
     let numbers = rw (← c.self.view_is) at c.requires.numbers in
     rw c.choose.ensures (omega arith)
+
+pub break_chosen-requires-clause-sound : goal.break_chosen-requires-clause-sound
+break_chosen-requires-clause-sound c =
+    let v : Volume = content_of c.self.inside in
+    let are = chosen-are (is_broken_before v) (is_chosen v c.args.handles c.args.handle c.args.key) v.oplocks v.last_break c.self.invariant.oplocks in
+    rw c.choose.ensures are.0
+
+pub break_chosen-requires-clause-copies : goal.break_chosen-requires-clause-copies
+break_chosen-requires-clause-copies c =
+    let v : Volume = content_of c.self.inside in
+    let are = chosen-are (is_broken_before v) (is_chosen v c.args.handles c.args.handle c.args.key) v.oplocks v.last_break c.self.invariant.oplocks in
+    rw c.choose.ensures are.1
 
 pub invariant_of-self : goal.invariant_of-self
 invariant_of-self c =
@@ -57,11 +69,10 @@ returns-clause-waited c =
     ≡ with_breaks v c.args.handles c.args.class c.args.handle c.args.key = rw c.choose.ensures at (c.break_chosen.ensures.done v) in
     let picked : c.break_chosen.new.oplocks.chosen ≡ chosen v c.args.handles c.args.handle c.args.key
     = ap (λ (held : Held). held.chosen) c.break_chosen.ensures.others ∙ ap (λ (held : Held). held.chosen) c.choose.ensures in
-    let waits : Oplock → Bool = λ oplock. is_awaited c.args.class oplock.level oplock.target in
     let waited : c.await_breaks.new.self.waited ≡ awaited v c.args.handles c.args.class c.args.handle c.args.key
     = ap (λ (held : Held). held.waited) c.await_breaks.ensures.waited
-    ∙ ap (λ (w : Volume). map (λ oplock. number_of_break w.oplocks oplock.handle) (filter waits c.break_chosen.new.oplocks.chosen)) broken
-    ∙ ap (λ (oplocks : List Oplock). map (λ oplock. number_of_break (with_breaks v c.args.handles c.args.class c.args.handle c.args.key).oplocks oplock.handle) (filter waits oplocks)) picked in
+    ∙ ap (λ (w : Volume). awaited_among c.args.class c.break_chosen.new.oplocks.chosen w.oplocks) broken
+    ∙ ap (λ (oplocks : List Oplock). awaited_among c.args.class oplocks (with_breaks v c.args.handles c.args.class c.args.handle c.args.key).oplocks) picked in
     rw (← c.self.view_is, waited)
 
 pub returns-clause-others : goal.returns-clause-others
@@ -80,9 +91,8 @@ returns-clause-count c =
     ≡ with_breaks v c.args.handles c.args.class c.args.handle c.args.key = rw c.choose.ensures at (c.break_chosen.ensures.done v) in
     let picked : c.break_chosen.new.oplocks.chosen ≡ chosen v c.args.handles c.args.handle c.args.key
     = ap (λ (held : Held). held.chosen) c.break_chosen.ensures.others ∙ ap (λ (held : Held). held.chosen) c.choose.ensures in
-    let waits : Oplock → Bool = λ oplock. is_awaited c.args.class oplock.level oplock.target in
     let waited : c.await_breaks.new.self.waited ≡ awaited v c.args.handles c.args.class c.args.handle c.args.key
     = ap (λ (held : Held). held.waited) c.await_breaks.ensures.waited
-    ∙ ap (λ (w : Volume). map (λ oplock. number_of_break w.oplocks oplock.handle) (filter waits c.break_chosen.new.oplocks.chosen)) broken
-    ∙ ap (λ (oplocks : List Oplock). map (λ oplock. number_of_break (with_breaks v c.args.handles c.args.class c.args.handle c.args.key).oplocks oplock.handle) (filter waits oplocks)) picked in
+    ∙ ap (λ (w : Volume). awaited_among c.args.class c.break_chosen.new.oplocks.chosen w.oplocks) broken
+    ∙ ap (λ (oplocks : List Oplock). awaited_among c.args.class oplocks (with_breaks v c.args.handles c.args.class c.args.handle c.args.key).oplocks) picked in
     c.await_breaks.ensures.count ∙ ap (λ (numbers : List ℕ). length numbers) waited ∙ ap (λ (seen : Seen). length (awaited seen.content c.args.handles c.args.class c.args.handle c.args.key)) c.self.view_is

@@ -1,5 +1,5 @@
 use Rattle.volume_state.specs.Inside.{content_of}
-use Rattle.volume_state.proofs.LockLaws.{IsSound-without_lock}
+use Rattle.fsa_model.proofs.SoundWaits.{IsSound-without_lock}
 use Rattle.volume_state.proofs.volume.Volume.drop_lock.Goals as goal
 
 pub invariant_of-self : goal.invariant_of-self

@@ -1,4 +1,4 @@
-use Rattle.std.proofs.Common.{◌≡◌, ℕ, ap, arith}
+use Rattle.std.proofs.Common.{arith}
 use Rattle.volume_state.proofs.volume.Volume.reserve.Goals as goal
 
 pub returns-clause-room : goal.returns-clause-room
