@@ -1,7 +1,6 @@
 pub mod GrowthLaws
 pub mod HandleLaws
 pub mod LockLaws
-pub mod LockingExamples
 pub mod ReadLaws
 pub mod RoomLaws
 pub mod SetEndLaws

@@ -12,7 +12,7 @@ use Rattle.fsa_model.specs.Outcome.{Outcome}
 use Rattle.fsa_model.specs.Volume.{Lock, Volume}
 use Rattle.fsa_model.specs.Waits.{waits_for}
 use Rattle.op_data.specs.Calls.{HasAnswer}
-use Rattle.op_data.specs.Locking.{conflicts_with, lock_blockers, lock_free, lock_range}
+use Rattle.fsa_model.specs.Locking.{conflicts_with, lock_blockers, lock_free, lock_range}
 use Rattle.range_locks.specs.RangeTable.{blockers_of, conflicts, first_id}
 use Rattle.range_locks.specs.declared.range.Range.{Range}
 use Rattle.range_locks.specs.declared.range.Want.TheVariants.{Read, Write, Shared, Exclusive}

@@ -1,14 +1,10 @@
--- What is true is true where there is a value, and what a break leaves of the room for a write.
-use Rattle.std.proofs.Common.{◌≡◌, ℕ, Ok, Err, Some, None}
-use Rattle.std.specs.Prelude.{IfNone, OnOk, Option, Result}
+-- What a break leaves of the room for a write.
+use Rattle.std.proofs.Common.{◌≡◌, ℕ, Some, None}
+use Rattle.std.specs.Prelude.{IfNone, Option}
 use Rattle.fsa_types.specs.declared.status.Status.{Status}
 use Rattle.fsa_model.specs.Volume.{Volume}
 use Rattle.op_data.specs.Conditions.{HasWriteRoom}
 use Rattle.volume_state.specs.Seen.{Spare}
-
-pub OnOk-any : {T E : Type 0} (P : Type 0) (r : Result T E) → P → OnOk r P
-OnOk-any P (Ok x) holds = holds
-OnOk-any P (Err e) holds = tt
 
 -- a break lowers the room for ends alone
 pub HasWriteRoom-broken : (v new : Volume) (had left : Spare) (fault : Option Status) (link stream at count : ℕ)

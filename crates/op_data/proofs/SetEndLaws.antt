@@ -2,8 +2,9 @@
 use Rattle.std.proofs.Common.{◌≡◌, ℕ, true, refl}
 use Rattle.fsa_model.specs.Edits.{with_length}
 use Rattle.fsa_model.specs.Volume.{Volume}
-use Rattle.fsa_model.specs.Write.{file_of_stream, with_write_noted}
-use Rattle.op_data.specs.SetEnd.{with_file_resized, with_resized}
+use Rattle.fsa_model.specs.Lookups.{file_of_stream}
+use Rattle.fsa_model.specs.Write.{with_write_noted}
+use Rattle.fsa_model.specs.SetEnd.{with_file_resized, with_resized}
 
 -- noted, cut or filled, and the file resized
 pub with_resized-steps : (v noted cut new : Volume) (link stream end file : ℕ)

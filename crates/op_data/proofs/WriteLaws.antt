@@ -5,7 +5,8 @@ use Rattle.fsa_types.specs.declared.status.Status.TheVariants.{Success}
 use Rattle.fsa_model.specs.Edits.{with_bytes}
 use Rattle.fsa_model.specs.Outcome.{Done}
 use Rattle.fsa_model.specs.Volume.{Volume}
-use Rattle.fsa_model.specs.Write.{file_of_stream, lengthens, with_file_written, with_write_noted, with_written, write_bytes}
+use Rattle.fsa_model.specs.Lookups.{file_of_stream}
+use Rattle.fsa_model.specs.Write.{lengthens, with_file_written, with_write_noted, with_written, write_bytes}
 
 -- noted, put, and the file written
 pub with_written-steps : (v noted put new : Volume) (link stream at file : ℕ) (bytes : List ℕ) (longer : Bool)

@@ -8,9 +8,9 @@ use Rattle.fsa_model.specs.Outcome.{Outcome, refused}
 use Rattle.fsa_model.specs.Read.{try_read}
 use Rattle.fsa_model.specs.Volume.{Volume}
 use Rattle.fsa_model.specs.Write.{try_write}
-use Rattle.op_data.specs.Flush.{try_flush}
-use Rattle.op_data.specs.Locking.{try_lock, try_unlock}
-use Rattle.op_data.specs.SetEnd.{try_set_end}
+use Rattle.fsa_model.specs.Flush.{try_flush}
+use Rattle.fsa_model.specs.Locking.{try_lock, try_unlock}
+use Rattle.fsa_model.specs.SetEnd.{try_set_end}
 use Rattle.volume_state.specs.declared.tried.Tried.{Tried}
 use Rattle.volume_state.specs.declared.tried.Tried.TheVariants as tried
 

@@ -1,17 +1,9 @@
--- What the calls ask of the volume, the room that they take first, and what they do through a handle whose
--- key and link are known.
+-- What the calls ask of the volume, and the room that they take first.
 use Rattle.std.specs.Prelude.{◌≡◌, ℕ, false, ◌+◌, ◌==◌, ◌<◌, ◌≤◌, ◌^◌, List, length, nat_le, Option, Some, None, if◌then◌else◌}
 use Rattle.fsa_types.specs.StreamBytes.{slice}
-use Rattle.fsa_types.specs.declared.oplock.Class.TheVariants.{Change}
-use Rattle.fsa_types.specs.declared.oplock.HandleSet.TheVariants.{Stream}
 use Rattle.fsa_types.specs.declared.reply.Blocker.{Blocker}
-use Rattle.fsa_model.specs.Breaks.{with_breaks}
-use Rattle.fsa_model.specs.Lookups.{bytes_of}
-use Rattle.fsa_model.specs.Outcome.{Outcome}
+use Rattle.fsa_model.specs.Lookups.{bytes_of, is_named_stream}
 use Rattle.fsa_model.specs.Volume.{Volume}
-use Rattle.fsa_model.specs.Waits.{waits_for, held_by}
-use Rattle.fsa_model.specs.Write.{is_named_stream, write_unlocked}
-use Rattle.op_data.specs.SetEnd.{set_end_grown}
 use Rattle.op_parts.specs.Room.{HasNoteRoom}
 use Rattle.volume_state.specs.Room.{stream_of_handle}
 use Rattle.volume_state.specs.Seen.{Spare, CanWrite, room_for}
@@ -53,15 +45,3 @@ pub record HasLockRoom (v : Volume) (spare : Spare) (handle stream : ℕ) (list 
 -- the bytes that a read gives; none at the end of the stream
 abbrev pub part_at : Volume → ℕ → ℕ → ℕ → Option (List ℕ)
 part_at v stream at count = if nat_le (length (bytes_of v stream)) at then None else Some (slice (bytes_of v stream) at count)
-
--- a write by a handle with this key and this link, once the breaks that it waits for have ended
-abbrev pub write_by_key : Volume → ℕ → ℕ → ℕ → ℕ → ℕ → List ℕ → Outcome
-write_by_key v handle key link stream at bytes =
-    if waits_for v (Stream stream) Change (Some handle) key then held_by v (Stream stream) Change (Some handle) key
-    else write_unlocked (with_breaks v (Stream stream) Change (Some handle) key) handle link stream at bytes
-
--- a new length by a handle with this key and this link, once the breaks that it waits for have ended
-abbrev pub set_end_by_key : Volume → ℕ → ℕ → ℕ → ℕ → ℕ → Outcome
-set_end_by_key v handle key link stream end =
-    if waits_for v (Stream stream) Change (Some handle) key then held_by v (Stream stream) Change (Some handle) key
-    else set_end_grown (with_breaks v (Stream stream) Change (Some handle) key) link stream end

@@ -2,7 +2,7 @@
 
 ghost use Rattle.std.specs.Prelude.{◌≡◌};
 ghost use Rattle.op_data.specs.Calls.{IsDone, IsFlush, asked_flush};
-ghost use Rattle.op_data.specs.Flush.{flush_at, try_flush};
+ghost use Rattle.fsa_model.specs.Flush.{flush_at, try_flush};
 ghost use Rattle.volume_state.specs.Tried.{Gives};
 
 use fsa_types::{AccessMask, Call, Request, Status, What};
@@ -11,7 +11,7 @@ use std::alloc::Global;
 use volume_state::{Tried, Volume};
 
 // Flushes through the handle of this number.
-#[tactic(auto, unfolding(crate::specs::Flush::flush_at))]
+#[tactic(auto, unfolding(fsa_model::specs::Flush::flush_at))]
 fn flush_at(volume: &Volume, id: u64) -> Tried
     ensures gives { Gives (flush_at volume.now.content id) volume.now.content volume.now.content result }
     ensures done { IsDone result }
@@ -28,7 +28,7 @@ fn flush_at(volume: &Volume, id: u64) -> Tried
 }
 
 // One try of a flush.
-#[tactic(auto, unfolding(crate::specs::Flush::try_flush))]
+#[tactic(auto, unfolding(fsa_model::specs::Flush::try_flush))]
 fn flush(volume: &Volume, client: u32, handle: u32) -> Tried
     ensures gives { Gives (try_flush volume.now.content client handle) volume.now.content volume.now.content result }
     ensures done { IsDone result }

@@ -1,12 +1,12 @@
 //! A lock of a range of bytes, in the order of its checks.
 
-ghost use Rattle.std.specs.Prelude.{◌≡◌, ◌≤◌, ◌+◌, IsTrue, Some, length};
+ghost use Rattle.std.specs.Prelude.{◌≡◌, IsTrue, Some};
 ghost use Rattle.fsa_types.specs.Rows.{lives};
 ghost use Rattle.op_data.specs.Calls.{HasAnswer, IsLock, asked_lock};
 ghost use Rattle.op_data.specs.Conditions.{HasLockRoom, MayLock};
-ghost use Rattle.op_data.specs.Locking.{lock_at, lock_blockers, lock_free, lock_range, passes_top, try_lock};
+ghost use Rattle.fsa_model.specs.Locking.{lock_at, lock_blockers, lock_free, lock_range, passes_top, try_lock};
 ghost use Rattle.op_parts.specs.Room.{HasWaitRoom};
-ghost use Rattle.volume_state.specs.Room.{stream_of_handle};
+ghost use Rattle.volume_state.specs.Room.{KeepsEnds, stream_of_handle};
 ghost use Rattle.volume_state.specs.Tried.{Gives, HasHoldRoom};
 
 use crate::locked::{Locking, lock_blockers};
@@ -26,14 +26,14 @@ struct Range {
 }
 
 // The lock is granted unless these locks are in the way. The room is taken.
-#[tactic(auto, unfolding(crate::specs::Locking::lock_free))]
+#[tactic(auto, unfolding(fsa_model::specs::Locking::lock_free))]
 fn lock_free(volume: &mut Volume, locking: Locking, conflicts: BlockerList) -> Tried
     requires room { HasLockRoom volume.old.content volume.old.spare locking.handle locking.stream conflicts.items }
     requires conflicts { conflicts.items ≡ lock_blockers volume.old.content locking.handle locking.stream locking.at locking.count locking.exclusive }
     ensures gives { Gives (lock_free volume.old.content locking.handle locking.stream locking.at locking.count locking.exclusive locking.wait) volume.old.content volume.new.content result }
     ensures answer { HasAnswer result }
     ensures room { HasHoldRoom result volume.new.spare }
-    ensures ends { volume.old.spare.ends ≤ volume.new.spare.ends }
+    ensures ends { KeepsEnds volume.old volume.new }
 {
     if conflicts.is_empty() {
         let Locking {
@@ -56,7 +56,7 @@ fn lock_free(volume: &mut Volume, locking: Locking, conflicts: BlockerList) -> T
 }
 
 // The lock goes on once the oplocks that a change breaks are broken. The room is taken.
-#[tactic(auto, using(crate::proofs::LockLaws::lock_unheld), unfolding(crate::specs::Locking::lock_range))]
+#[tactic(auto, using(crate::proofs::LockLaws::lock_unheld), unfolding(fsa_model::specs::Locking::lock_range))]
 fn lock_in_room(
     volume: &mut Volume,
     locking: Locking,
@@ -69,7 +69,7 @@ fn lock_in_room(
     requires conflicts { conflicts.items ≡ lock_blockers volume.old.content locking.handle locking.stream locking.at locking.count locking.exclusive }
     ensures gives { Gives (lock_range volume.old.content locking.handle locking.key locking.stream locking.at locking.count locking.exclusive locking.wait) volume.old.content volume.new.content result }
     ensures room { HasHoldRoom result volume.new.spare }
-    ensures ends { volume.old.spare.ends ≤ volume.new.spare.ends + length volume.old.content.oplocks }
+    ensures ends { KeepsEnds volume.old volume.new }
 {
     let mut blockers = blockers;
     let Locking {
@@ -94,7 +94,7 @@ fn lock_range(alloc: Global, volume: &mut Volume, locking: Locking) -> Tried
     requires may { MayLock volume.old.content }
     ensures gives { Gives (lock_range volume.old.content locking.handle locking.key locking.stream locking.at locking.count locking.exclusive locking.wait) volume.old.content volume.new.content result }
     ensures room { HasHoldRoom result volume.new.spare }
-    ensures ends { volume.old.spare.ends ≤ volume.new.spare.ends + length volume.old.content.oplocks }
+    ensures ends { KeepsEnds volume.old volume.new }
 {
     let Ok(conflicts) = lock_blockers(alloc, volume, locking) else {
         return Tried::NoMemory;
@@ -113,12 +113,12 @@ fn passes_top(at: u64, count: u64) -> bool
 }
 
 // Locks through the handle of this number.
-#[tactic(auto, using(crate::proofs::HandleLaws::stream_lives), unfolding(crate::specs::Locking::lock_at, crate::specs::Locking::lock_by, crate::specs::Locking::lock_stream))]
+#[tactic(auto, using(crate::proofs::HandleLaws::stream_lives), unfolding(fsa_model::specs::Locking::lock_at, fsa_model::specs::Locking::lock_by, fsa_model::specs::Locking::lock_stream))]
 fn lock_at(alloc: Global, volume: &mut Volume, id: u64, range: Range) -> Tried
     requires may { MayLock volume.old.content }
     ensures gives { Gives (lock_at volume.old.content id range.at range.count range.exclusive range.wait) volume.old.content volume.new.content result }
     ensures room { HasHoldRoom result volume.new.spare }
-    ensures ends { volume.old.spare.ends ≤ volume.new.spare.ends + length volume.old.content.oplocks }
+    ensures ends { KeepsEnds volume.old volume.new }
 {
     let Some(row) = volume.handle(id) else {
         return Tried::ends(Status::InvalidHandle);
@@ -147,12 +147,12 @@ fn lock_at(alloc: Global, volume: &mut Volume, id: u64, range: Range) -> Tried
 }
 
 // One try of a lock.
-#[tactic(auto, unfolding(crate::specs::Locking::try_lock))]
+#[tactic(auto, unfolding(fsa_model::specs::Locking::try_lock))]
 fn lock(alloc: Global, volume: &mut Volume, client: u32, handle: u32, range: Range) -> Tried
     requires may { MayLock volume.old.content }
     ensures gives { Gives (try_lock volume.old.content client handle range.at range.count range.exclusive range.wait) volume.old.content volume.new.content result }
     ensures room { HasHoldRoom result volume.new.spare }
-    ensures ends { volume.old.spare.ends ≤ volume.new.spare.ends + length volume.old.content.oplocks }
+    ensures ends { KeepsEnds volume.old volume.new }
 {
     let Some(id) = volume.handle_of(client, handle) else {
         return Tried::ends(Status::InvalidHandle);
@@ -165,15 +165,15 @@ fn lock(alloc: Global, volume: &mut Volume, client: u32, handle: u32, range: Ran
 ///
 /// `Done` with the reply, or `Hold` as the definition says: with the breaks of oplocks that it waits for,
 /// or, where the call asks to wait, with the locks that are in the way, in the order in which they were
-/// granted; never `Stay`. Where it is held there is room to make it pending, and of the room for ends it
-/// uses no more than one for each oplock that there was. `NoMemory` changes nothing, not even breaks.
-/// `_turn` is the number of the turn; no lock needs it.
+/// granted; never `Stay`. Where it is held there is room to make it pending. Of the room for ends it uses
+/// no more than one for each call that ends. `NoMemory` changes nothing, not even breaks. `_turn` is the
+/// number of the turn; no lock needs it.
 pub fn try_lock(alloc: Global, volume: &mut Volume, call: &Call, _turn: u64) -> Tried
     requires verb { IsLock call.now.what }
     requires may { MayLock volume.old.content }
     ensures gives { Gives (asked_lock volume.old.content call.now.client call.now.what) volume.old.content volume.new.content result }
     ensures room { HasHoldRoom result volume.new.spare }
-    ensures ends { volume.old.spare.ends ≤ volume.new.spare.ends + length volume.old.content.oplocks }
+    ensures ends { KeepsEnds volume.old volume.new }
 {
     let What::Ask(
         Request::Lock {

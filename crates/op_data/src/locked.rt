@@ -4,7 +4,7 @@ ghost use Rattle.std.specs.Prelude.{◌≡◌, IfOk, IsTrue, if◌then◌else◌
 ghost use Rattle.fsa_types.specs.BoundedList.{full};
 ghost use Rattle.fsa_types.specs.Rows.{lives};
 ghost use Rattle.fsa_model.specs.Locked.{read_is_locked, write_is_locked};
-ghost use Rattle.op_data.specs.Locking.{lock_blockers};
+ghost use Rattle.fsa_model.specs.Locking.{lock_blockers};
 
 use fsa_types::{BlockerList, NoMemory};
 use range_locks::Want;

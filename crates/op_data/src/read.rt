@@ -1,21 +1,21 @@
 //! A read, in the order of its checks.
 
-ghost use Rattle.std.specs.Prelude.{◌≡◌, ◌≤◌, ◌+◌, length, IfOk, IsTrue};
+ghost use Rattle.std.specs.Prelude.{◌≡◌, IfOk, IsTrue};
 ghost use Rattle.fsa_types.specs.Rows.{lives};
 ghost use Rattle.fsa_model.specs.Read.{read_at, read_bytes, read_range, read_unlocked, try_read};
 ghost use Rattle.op_data.specs.Calls.{IsRead, asked_read};
 ghost use Rattle.op_data.specs.Conditions.{MayUse, part_at};
 ghost use Rattle.op_data.specs.Ends.{Ends};
 ghost use Rattle.op_parts.specs.Room.{HasWaitRoom};
+ghost use Rattle.volume_state.specs.Room.{KeepsEnds};
 ghost use Rattle.volume_state.specs.Tried.{Gives, HasHoldRoom};
 
 use crate::locked::read_is_locked;
 use crate::rights::LARGEST_END;
-use crate::room::room_to_wait;
 use fsa_types::{AccessMask, BlockerList, Body, Bytes, Call, NoMemory, Request, Status, What};
-use op_parts::{break_for, has_right, held};
+use op_parts::{break_for, has_right, held, room_to_wait};
 use std::alloc::Global;
-use volume_state::{Class, HandleSet, Tried, Volume};
+use volume_state::{Class, HandleSet, Need, Tried, Volume};
 
 // A read of a range of a stream, by a handle with this key.
 #[derive(Clone, Copy, Debug)]
@@ -90,7 +90,7 @@ fn read_in_room(
     requires part { part ≡ part_at volume.old.content reading.stream reading.at reading.count }
     ensures gives { Gives (read_range volume.old.content reading.handle reading.key reading.stream reading.at reading.count) volume.old.content volume.new.content result }
     ensures room { HasHoldRoom result volume.new.spare }
-    ensures ends { volume.old.spare.ends ≤ volume.new.spare.ends + length volume.old.content.oplocks }
+    ensures ends { KeepsEnds volume.old volume.new }
 {
     let mut blockers = blockers;
     let Reading {
@@ -116,12 +116,12 @@ fn read_range(alloc: Global, volume: &mut Volume, reading: Reading) -> Tried
     requires may { MayUse volume.old.content }
     ensures gives { Gives (read_range volume.old.content reading.handle reading.key reading.stream reading.at reading.count) volume.old.content volume.new.content result }
     ensures room { HasHoldRoom result volume.new.spare }
-    ensures ends { volume.old.spare.ends ≤ volume.new.spare.ends + length volume.old.content.oplocks }
+    ensures ends { KeepsEnds volume.old volume.new }
 {
     let Ok(part) = part_at(alloc, volume, reading.stream, reading.at, reading.count) else {
         return Tried::NoMemory;
     };
-    let Ok(blockers) = room_to_wait(alloc, volume) else {
+    let Ok(blockers) = room_to_wait(alloc, volume, &Need::nothing()) else {
         return Tried::NoMemory;
     };
     read_in_room(volume, reading, part, blockers)
@@ -133,7 +133,7 @@ fn read_at(alloc: Global, volume: &mut Volume, id: u64, at: u64, count: u32) -> 
     requires may { MayUse volume.old.content }
     ensures gives { Gives (read_at volume.old.content id at count) volume.old.content volume.new.content result }
     ensures room { HasHoldRoom result volume.new.spare }
-    ensures ends { volume.old.spare.ends ≤ volume.new.spare.ends + length volume.old.content.oplocks }
+    ensures ends { KeepsEnds volume.old volume.new }
 {
     let Some(row) = volume.handle(id) else {
         return Tried::ends(Status::InvalidHandle);
@@ -166,7 +166,7 @@ fn read(alloc: Global, volume: &mut Volume, client: u32, handle: u32, at: u64, c
     requires may { MayUse volume.old.content }
     ensures gives { Gives (try_read volume.old.content client handle at count) volume.old.content volume.new.content result }
     ensures room { HasHoldRoom result volume.new.spare }
-    ensures ends { volume.old.spare.ends ≤ volume.new.spare.ends + length volume.old.content.oplocks }
+    ensures ends { KeepsEnds volume.old volume.new }
 {
     let Some(id) = volume.handle_of(client, handle) else {
         return Tried::ends(Status::InvalidHandle);
@@ -178,15 +178,15 @@ fn read(alloc: Global, volume: &mut Volume, client: u32, handle: u32, at: u64, c
 /// be left for breaks.
 ///
 /// `Done` with the reply, or `Hold` with the breaks of oplocks that it waits for, as the definition
-/// says; never `Stay`. Where it is held there is room to make it pending, and of the room for ends it
-/// uses no more than one for each oplock that there was. `NoMemory` changes nothing, not even breaks.
-/// `_turn` is the number of the turn; no read needs it.
+/// says; never `Stay`. Where it is held there is room to make it pending. Of the room for ends it uses
+/// no more than one for each call that ends. `NoMemory` changes nothing, not even breaks. `_turn` is the
+/// number of the turn; no read needs it.
 pub fn try_read(alloc: Global, volume: &mut Volume, call: &Call, _turn: u64) -> Tried
     requires verb { IsRead call.now.what }
     requires may { MayUse volume.old.content }
     ensures gives { Gives (asked_read volume.old.content call.now.client call.now.what) volume.old.content volume.new.content result }
     ensures room { HasHoldRoom result volume.new.spare }
-    ensures ends { volume.old.spare.ends ≤ volume.new.spare.ends + length volume.old.content.oplocks }
+    ensures ends { KeepsEnds volume.old volume.new }
 {
     let What::Ask(Request::Read { handle, at, count }) = &call.what else {
         unreachable!()

@@ -1,10 +1,11 @@
 //! What a new length changes.
 
-ghost use Rattle.std.specs.Prelude.{◌≡◌, ◌==◌, ◌≤◌, ◌+◌, IsTrue, length, true};
+ghost use Rattle.std.specs.Prelude.{◌≡◌, ◌==◌, IsTrue, length, true};
 ghost use Rattle.fsa_types.specs.Rows.{lives};
 ghost use Rattle.fsa_model.specs.Lookups.{bytes_of};
 ghost use Rattle.op_data.specs.Conditions.{HasEndRoom, HasWriteRoom};
-ghost use Rattle.op_data.specs.SetEnd.{with_end_set, with_file_resized, with_resized};
+ghost use Rattle.fsa_model.specs.SetEnd.{with_end_set, with_file_resized, with_resized};
+ghost use Rattle.volume_state.specs.Room.{KeepsEnds};
 
 use crate::written::{file_of_stream, note_write};
 use op_parts::{access_time, attributes_of, creation_time};
@@ -38,7 +39,7 @@ pub fn set_end_in_place(volume: &mut Volume, resizing: Resizing)
     requires lives { IsTrue (lives volume.old.content.streams resizing.stream) }
     requires put { HasEndRoom volume.old.content volume.old.spare resizing.link resizing.stream resizing.end }
     ensures content { volume.new.content ≡ with_end_set volume.old.content resizing.link resizing.stream resizing.end }
-    ensures ends { volume.old.spare.ends ≤ volume.new.spare.ends }
+    ensures ends { KeepsEnds volume.old volume.new }
 {
     if ends_at(volume, resizing.stream, resizing.end) {
         return;
@@ -50,7 +51,7 @@ pub fn set_end_in_place(volume: &mut Volume, resizing: Resizing)
 fn resize_in_place(volume: &mut Volume, resizing: Resizing)
     requires put { HasWriteRoom volume.old.content volume.old.spare resizing.link resizing.stream 0 resizing.end }
     ensures content { volume.new.content ≡ with_resized volume.old.content resizing.link resizing.stream resizing.end }
-    ensures ends { volume.old.spare.ends ≤ volume.new.spare.ends }
+    ensures ends { KeepsEnds volume.old volume.new }
 {
     let file = file_of_stream(volume, resizing.stream);
     note_write(volume, resizing.link, resizing.stream, true);

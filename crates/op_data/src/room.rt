@@ -5,34 +5,19 @@ ghost use Rattle.fsa_types.specs.BoundedList.{full};
 ghost use Rattle.fsa_types.specs.Rows.{lives};
 ghost use Rattle.op_data.specs.Conditions.{HasEndRoom, HasLockRoom, HasWriteRoom};
 ghost use Rattle.op_parts.specs.Room.{HasWaitRoom};
-ghost use Rattle.volume_state.specs.Room.{stream_of_handle};
+ghost use Rattle.volume_state.specs.Room.{KeepsEnds, stream_of_handle};
 
 use crate::locked::Locking;
 use crate::resized::{Resizing, ends_at};
 use crate::written::{Writing, noted_stream};
 use fsa_types::{BlockerList, NoMemory, Status};
+use op_parts::room_to_wait;
 use std::alloc::Global;
 use volume_state::{Need, Volume};
 
-/// Takes the room for the ends that a break may tell, and for a call that is held. `NoMemory` where there
-/// is none.
-pub fn room_to_wait(alloc: Global, volume: &mut Volume) -> Result<BlockerList, NoMemory>
-    ensures content { volume.new.content ≡ volume.old.content }
-    ensures ends { volume.old.spare.ends ≤ volume.new.spare.ends }
-    ensures room { IfOk result (λ blockers. HasWaitRoom volume.new.content volume.new.spare blockers) }
-{
-    let oplocks = volume.oplocks();
-    volume.reserve(&Need {
-        pending: 1,
-        blockers: oplocks,
-        ends: oplocks,
-        ..Need::nothing()
-    })?;
-    BlockerList::with_room(alloc, oplocks)
-}
-
-// Takes the same room, and that for so many bytes of a stream from this place on and for a note of their
-// write. There has to be such a stream, and the end is at most 2^26. `NoMemory` where there is none.
+// Takes the room for so many bytes of a stream from this place on, for a note of their write, for the ends
+// that a break may tell, and for a call that is held. There has to be such a stream, and the end is at most
+// 2^26. `NoMemory` where there is none.
 fn room_to_put(
     alloc: Global,
     volume: &mut Volume,
@@ -44,7 +29,7 @@ fn room_to_put(
     requires lives { IsTrue (lives volume.old.content.streams stream) }
     requires fits { at + count ≤ 2 ^ 26 }
     ensures content { volume.new.content ≡ volume.old.content }
-    ensures ends { volume.old.spare.ends ≤ volume.new.spare.ends }
+    ensures ends { KeepsEnds volume.old volume.new }
     ensures room { IfOk result (λ blockers. HasWaitRoom volume.new.content volume.new.spare blockers) }
     ensures put { OnOk result (HasWriteRoom volume.new.content volume.new.spare link stream at count) }
 {
@@ -52,18 +37,15 @@ fn room_to_put(
     let Some(note) = volume.note_room(link, noted) else {
         return Err(NoMemory);
     };
-    let oplocks = volume.oplocks();
-    volume.reserve(&Need {
-        pending: 1,
-        blockers: oplocks,
-        ends: oplocks,
+    volume.reserve_bytes(stream, at, count)?;
+    let need = Need {
         changes: 1,
         units: note.units,
         dirs: note.dirs,
         ..Need::nothing()
-    })?;
-    volume.reserve_bytes(stream, at, count)?;
-    BlockerList::with_room(alloc, oplocks)
+    };
+    let blockers = room_to_wait(alloc, volume, &need)?;
+    Ok(blockers)
 }
 
 /// Takes the room for a write, whose stream may grow so unless there is a fault; where there is one, no
@@ -78,12 +60,12 @@ pub fn room_to_write(
     requires lives { IsTrue (lives volume.old.content.streams writing.stream) }
     requires fits { IfNone fault (writing.at + length writing.bytes.now ≤ 2 ^ 26) }
     ensures content { volume.new.content ≡ volume.old.content }
-    ensures ends { volume.old.spare.ends ≤ volume.new.spare.ends }
+    ensures ends { KeepsEnds volume.old volume.new }
     ensures room { IfOk result (λ blockers. HasWaitRoom volume.new.content volume.new.spare blockers) }
     ensures put { OnOk result (IfNone fault (HasWriteRoom volume.new.content volume.new.spare writing.entry.link writing.entry.stream writing.entry.at (length writing.entry.bytes.now))) }
 {
     match fault {
-        Some(_) => room_to_wait(alloc, volume),
+        Some(_) => room_to_wait(alloc, volume, &Need::nothing()),
         None => {
             let Writing {
                 link,
@@ -107,7 +89,7 @@ fn room_to_set_end(
     requires lives { IsTrue (lives volume.old.content.streams resizing.stream) }
     requires fits { resizing.end ≤ 2 ^ 26 }
     ensures content { volume.new.content ≡ volume.old.content }
-    ensures ends { volume.old.spare.ends ≤ volume.new.spare.ends }
+    ensures ends { KeepsEnds volume.old volume.new }
     ensures room { IfOk result (λ blockers. HasWaitRoom volume.new.content volume.new.spare blockers) }
     ensures put { OnOk result (HasEndRoom volume.new.content volume.new.spare resizing.link resizing.stream resizing.end) }
 {
@@ -118,7 +100,7 @@ fn room_to_set_end(
         ..
     } = resizing;
     if ends_at(volume, stream, end) {
-        return room_to_wait(alloc, volume);
+        return room_to_wait(alloc, volume, &Need::nothing());
     }
     room_to_put(alloc, volume, link, stream, 0, end)
 }
@@ -135,12 +117,12 @@ pub fn room_to_resize(
     requires lives { IsTrue (lives volume.old.content.streams resizing.stream) }
     requires fits { IfNone fault (resizing.end ≤ 2 ^ 26) }
     ensures content { volume.new.content ≡ volume.old.content }
-    ensures ends { volume.old.spare.ends ≤ volume.new.spare.ends }
+    ensures ends { KeepsEnds volume.old volume.new }
     ensures room { IfOk result (λ blockers. HasWaitRoom volume.new.content volume.new.spare blockers) }
     ensures put { OnOk result (IfNone fault (HasEndRoom volume.new.content volume.new.spare resizing.link resizing.stream resizing.end)) }
 {
     match fault {
-        Some(_) => room_to_wait(alloc, volume),
+        Some(_) => room_to_wait(alloc, volume, &Need::nothing()),
         None => room_to_set_end(alloc, volume, resizing),
     }
 }
@@ -157,18 +139,17 @@ pub fn room_to_lock(
     requires number { volume.old.content.last_lock < 2 ^ 63 }
     requires full { conflicts.now ≡ full conflicts.now.items }
     ensures content { volume.new.content ≡ volume.old.content }
-    ensures ends { volume.old.spare.ends ≤ volume.new.spare.ends }
+    ensures ends { KeepsEnds volume.old volume.new }
     ensures room { IfOk result (λ blockers. HasWaitRoom volume.new.content volume.new.spare blockers) }
     ensures lock { OnOk result (HasLockRoom volume.new.content volume.new.spare locking.handle locking.stream conflicts.now.items) }
 {
-    let oplocks = volume.oplocks();
-    volume.reserve(&Need {
+    let need = Need {
         locks: 1,
         handle: locking.handle,
         pending: 1,
-        blockers: oplocks.max(conflicts.room()),
-        ends: oplocks,
+        blockers: conflicts.room(),
         ..Need::nothing()
-    })?;
-    BlockerList::with_room(alloc, oplocks)
+    };
+    let blockers = room_to_wait(alloc, volume, &need)?;
+    Ok(blockers)
 }

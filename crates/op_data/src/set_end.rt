@@ -1,14 +1,15 @@
 //! Setting the length of a stream, in the order of its checks.
 
-ghost use Rattle.std.specs.Prelude.{◌≡◌, ◌≤◌, ◌+◌, length, IfNone, IsTrue};
+ghost use Rattle.std.specs.Prelude.{◌≡◌, ◌≤◌, length, IfNone, IsTrue};
 ghost use Rattle.fsa_types.specs.Rows.{lives};
 ghost use Rattle.fsa_model.specs.Growth.{growth_fault};
-ghost use Rattle.fsa_model.specs.Read.{largest_end};
+ghost use Rattle.fsa_model.specs.Lookups.{largest_end};
 ghost use Rattle.op_data.specs.Calls.{IsSetEnd, asked_set_end};
-ghost use Rattle.op_data.specs.Conditions.{HasEndRoom, MayUse, set_end_by_key};
+ghost use Rattle.op_data.specs.Conditions.{HasEndRoom, MayUse};
 ghost use Rattle.op_data.specs.Ends.{Ends};
-ghost use Rattle.op_data.specs.SetEnd.{set_end_at, set_end_grown, try_set_end};
+ghost use Rattle.fsa_model.specs.SetEnd.{set_end_at, set_end_grown, set_end_to, try_set_end};
 ghost use Rattle.op_parts.specs.Room.{HasWaitRoom};
+ghost use Rattle.volume_state.specs.Room.{KeepsEnds};
 ghost use Rattle.volume_state.specs.Tried.{Gives, HasHoldRoom};
 
 use crate::growth::growth_fault;
@@ -21,7 +22,7 @@ use std::alloc::Global;
 use volume_state::{Class, HandleSet, Tried, Volume};
 
 // The length is set unless the stream may not grow so.
-#[tactic(auto, unfolding(crate::specs::SetEnd::set_end_grown))]
+#[tactic(auto, unfolding(fsa_model::specs::SetEnd::set_end_grown))]
 fn set_end_grown(
     volume: &mut Volume,
     resizing: Resizing,
@@ -31,7 +32,7 @@ fn set_end_grown(
     requires fault { fault ≡ growth_fault volume.old.content resizing.stream resizing.end }
     requires put { IfNone fault (HasEndRoom volume.old.content volume.old.spare resizing.link resizing.stream resizing.end) }
     ensures gives { Ends (set_end_grown volume.old.content resizing.link resizing.stream resizing.end) volume.new.content result }
-    ensures ends { volume.old.spare.ends ≤ volume.new.spare.ends }
+    ensures ends { KeepsEnds volume.old volume.new }
 {
     match fault {
         Some(status) => Err(status),
@@ -43,6 +44,7 @@ fn set_end_grown(
 }
 
 // The length is set once the oplocks that a change breaks are broken. The room is taken.
+#[tactic(auto, unfolding(fsa_model::specs::SetEnd::set_end_to))]
 fn set_end_in_room(
     volume: &mut Volume,
     resizing: Resizing,
@@ -54,9 +56,9 @@ fn set_end_in_room(
     requires room { HasWaitRoom volume.old.content volume.old.spare blockers }
     requires fault { fault ≡ growth_fault volume.old.content resizing.stream resizing.end }
     requires put { IfNone fault (HasEndRoom volume.old.content volume.old.spare resizing.link resizing.stream resizing.end) }
-    ensures gives { Gives (set_end_by_key volume.old.content resizing.handle resizing.key resizing.link resizing.stream resizing.end) volume.old.content volume.new.content result }
+    ensures gives { Gives (set_end_to volume.old.content resizing.handle resizing.key resizing.link resizing.stream resizing.end) volume.old.content volume.new.content result }
     ensures room { HasHoldRoom result volume.new.spare }
-    ensures ends { volume.old.spare.ends ≤ volume.new.spare.ends + length volume.old.content.oplocks }
+    ensures ends { KeepsEnds volume.old volume.new }
 {
     let mut blockers = blockers;
     let Resizing {
@@ -81,9 +83,9 @@ fn set_end_to(alloc: Global, volume: &mut Volume, resizing: Resizing) -> Tried
     requires lives { IsTrue (lives volume.old.content.streams resizing.stream) }
     requires may { MayUse volume.old.content }
     requires place { resizing.end ≤ largest_end }
-    ensures gives { Gives (set_end_by_key volume.old.content resizing.handle resizing.key resizing.link resizing.stream resizing.end) volume.old.content volume.new.content result }
+    ensures gives { Gives (set_end_to volume.old.content resizing.handle resizing.key resizing.link resizing.stream resizing.end) volume.old.content volume.new.content result }
     ensures room { HasHoldRoom result volume.new.spare }
-    ensures ends { volume.old.spare.ends ≤ volume.new.spare.ends + length volume.old.content.oplocks }
+    ensures ends { KeepsEnds volume.old volume.new }
 {
     let fault = growth_fault(volume, resizing.stream, resizing.end);
     let Ok(blockers) = room_to_resize(alloc, volume, resizing, fault) else {
@@ -93,12 +95,12 @@ fn set_end_to(alloc: Global, volume: &mut Volume, resizing: Resizing) -> Tried
 }
 
 // Sets the length through the handle of this number.
-#[tactic(auto, using(crate::proofs::HandleLaws::stream_lives), unfolding(crate::specs::SetEnd::set_end_at, crate::specs::SetEnd::set_end_by, crate::specs::SetEnd::set_end_stream, crate::specs::SetEnd::set_end_to))]
+#[tactic(auto, using(crate::proofs::HandleLaws::stream_lives), unfolding(fsa_model::specs::SetEnd::set_end_at, fsa_model::specs::SetEnd::set_end_by, fsa_model::specs::SetEnd::set_end_stream))]
 fn set_end_at(alloc: Global, volume: &mut Volume, id: u64, end: u64) -> Tried
     requires may { MayUse volume.old.content }
     ensures gives { Gives (set_end_at volume.old.content id end) volume.old.content volume.new.content result }
     ensures room { HasHoldRoom result volume.new.spare }
-    ensures ends { volume.old.spare.ends ≤ volume.new.spare.ends + length volume.old.content.oplocks }
+    ensures ends { KeepsEnds volume.old volume.new }
 {
     let Some(row) = volume.handle(id) else {
         return Tried::ends(Status::InvalidHandle);
@@ -123,12 +125,12 @@ fn set_end_at(alloc: Global, volume: &mut Volume, id: u64, end: u64) -> Tried
 }
 
 // One try of setting the length.
-#[tactic(auto, unfolding(crate::specs::SetEnd::try_set_end))]
+#[tactic(auto, unfolding(fsa_model::specs::SetEnd::try_set_end))]
 fn set_end(alloc: Global, volume: &mut Volume, client: u32, handle: u32, end: u64) -> Tried
     requires may { MayUse volume.old.content }
     ensures gives { Gives (try_set_end volume.old.content client handle end) volume.old.content volume.new.content result }
     ensures room { HasHoldRoom result volume.new.spare }
-    ensures ends { volume.old.spare.ends ≤ volume.new.spare.ends + length volume.old.content.oplocks }
+    ensures ends { KeepsEnds volume.old volume.new }
 {
     let Some(id) = volume.handle_of(client, handle) else {
         return Tried::ends(Status::InvalidHandle);
@@ -140,15 +142,15 @@ fn set_end(alloc: Global, volume: &mut Volume, client: u32, handle: u32, end: u6
 /// FileEndOfFileInformation. The call has to be one, and numbers have to be left for breaks.
 ///
 /// `Done` with the reply, or `Hold` with the breaks of oplocks that it waits for, as the definition
-/// says; never `Stay`. Where it is held there is room to make it pending, and of the room for ends it
-/// uses no more than one for each oplock that there was. `NoMemory` changes nothing, not even breaks.
-/// `_turn` is the number of the turn; no length needs it.
+/// says; never `Stay`. Where it is held there is room to make it pending. Of the room for ends it uses
+/// no more than one for each call that ends. `NoMemory` changes nothing, not even breaks. `_turn` is the
+/// number of the turn; no length needs it.
 pub fn try_set_end(alloc: Global, volume: &mut Volume, call: &Call, _turn: u64) -> Tried
     requires verb { IsSetEnd call.now.what }
     requires may { MayUse volume.old.content }
     ensures gives { Gives (asked_set_end volume.old.content call.now.client call.now.what) volume.old.content volume.new.content result }
     ensures room { HasHoldRoom result volume.new.spare }
-    ensures ends { volume.old.spare.ends ≤ volume.new.spare.ends + length volume.old.content.oplocks }
+    ensures ends { KeepsEnds volume.old volume.new }
 {
     let What::Ask(Request::SetEnd { handle, length }) = &call.what else {
         unreachable!()

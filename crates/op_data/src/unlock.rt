@@ -2,7 +2,7 @@
 
 ghost use Rattle.std.specs.Prelude.{◌≡◌, is_some};
 ghost use Rattle.op_data.specs.Calls.{IsDone, IsUnlock, asked_unlock};
-ghost use Rattle.op_data.specs.Locking.{try_unlock, unlock_at};
+ghost use Rattle.fsa_model.specs.Locking.{try_unlock, unlock_at};
 ghost use Rattle.volume_state.specs.Tried.{Gives};
 
 use fsa_types::{Call, Request, Status, What};
@@ -10,7 +10,7 @@ use std::alloc::Global;
 use volume_state::{Tried, Volume};
 
 // Unlocks through the handle of this number.
-#[tactic(auto, unfolding(crate::specs::Locking::unlock_at, crate::specs::Locking::unlock_by, crate::specs::Locking::unlock_range))]
+#[tactic(auto, unfolding(fsa_model::specs::Locking::unlock_at, fsa_model::specs::Locking::unlock_by, fsa_model::specs::Locking::unlock_range))]
 fn unlock_at(volume: &mut Volume, id: u64, at: u64, count: u64) -> Tried
     ensures gives { Gives (unlock_at volume.old.content id at count) volume.old.content volume.new.content result }
     ensures done { IsDone result }
@@ -30,7 +30,7 @@ fn unlock_at(volume: &mut Volume, id: u64, at: u64, count: u64) -> Tried
 }
 
 // One try of an unlock.
-#[tactic(auto, unfolding(crate::specs::Locking::try_unlock))]
+#[tactic(auto, unfolding(fsa_model::specs::Locking::try_unlock))]
 fn unlock(volume: &mut Volume, client: u32, handle: u32, at: u64, count: u64) -> Tried
     ensures gives { Gives (try_unlock volume.old.content client handle at count) volume.old.content volume.new.content result }
     ensures done { IsDone result }

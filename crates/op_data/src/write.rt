@@ -4,12 +4,13 @@ ghost use Rattle.std.specs.Prelude.{◌≡◌, ◌≤◌, ◌+◌, length, IfNon
 ghost use Rattle.fsa_types.specs.Rows.{lives};
 ghost use Rattle.fsa_model.specs.Growth.{growth_fault};
 ghost use Rattle.fsa_model.specs.Outcome.{Done};
-ghost use Rattle.fsa_model.specs.Read.{largest_end};
-ghost use Rattle.fsa_model.specs.Write.{try_write, write_at, write_bytes, write_grown, write_unlocked};
+ghost use Rattle.fsa_model.specs.Lookups.{largest_end};
+ghost use Rattle.fsa_model.specs.Write.{try_write, write_at, write_bytes, write_grown, write_range, write_unlocked};
 ghost use Rattle.op_data.specs.Calls.{IsWrite, asked_write};
-ghost use Rattle.op_data.specs.Conditions.{HasWriteRoom, MayUse, write_by_key};
+ghost use Rattle.op_data.specs.Conditions.{HasWriteRoom, MayUse};
 ghost use Rattle.op_data.specs.Ends.{Ends};
 ghost use Rattle.op_parts.specs.Room.{HasWaitRoom};
+ghost use Rattle.volume_state.specs.Room.{KeepsEnds};
 ghost use Rattle.volume_state.specs.Tried.{Gives, HasHoldRoom};
 
 use crate::growth::growth_fault;
@@ -27,7 +28,7 @@ fn write_bytes(volume: &mut Volume, writing: Writing) -> Body
     requires lives { IsTrue (lives volume.old.content.streams writing.stream) }
     requires put { HasWriteRoom volume.old.content volume.old.spare writing.link writing.stream writing.at (length writing.bytes.now) }
     ensures gives { write_bytes volume.old.content writing.entry.link writing.entry.stream writing.entry.at writing.entry.bytes.now ≡ Done volume.new.content (record { status = Status.Success; body = result }) }
-    ensures ends { volume.old.spare.ends ≤ volume.new.spare.ends }
+    ensures ends { KeepsEnds volume.old volume.new }
 {
     write_in_place(volume, writing);
     Body::Count(writing.bytes.len() as u32)
@@ -40,7 +41,7 @@ fn write_grown(volume: &mut Volume, writing: Writing, fault: Option<Status>) -> 
     requires fault { fault ≡ growth_fault volume.old.content writing.stream (writing.at + length writing.bytes.now) }
     requires put { IfNone fault (HasWriteRoom volume.old.content volume.old.spare writing.link writing.stream writing.at (length writing.bytes.now)) }
     ensures gives { Ends (write_grown volume.old.content writing.entry.link writing.entry.stream writing.entry.at writing.entry.bytes.now) volume.new.content result }
-    ensures ends { volume.old.spare.ends ≤ volume.new.spare.ends }
+    ensures ends { KeepsEnds volume.old volume.new }
 {
     match fault {
         Some(status) => Err(status),
@@ -59,7 +60,7 @@ fn write_unlocked(
     requires fault { fault ≡ growth_fault volume.old.content writing.stream (writing.at + length writing.bytes.now) }
     requires put { IfNone fault (HasWriteRoom volume.old.content volume.old.spare writing.link writing.stream writing.at (length writing.bytes.now)) }
     ensures gives { Ends (write_unlocked volume.old.content writing.entry.handle writing.entry.link writing.entry.stream writing.entry.at writing.entry.bytes.now) volume.new.content result }
-    ensures ends { volume.old.spare.ends ≤ volume.new.spare.ends }
+    ensures ends { KeepsEnds volume.old volume.new }
 {
     let count = writing.bytes.len() as u64;
     if write_is_locked(volume, writing.handle, writing.stream, writing.at, count) {
@@ -69,6 +70,7 @@ fn write_unlocked(
 }
 
 // The write goes on once the oplocks that a change breaks are broken. The room is taken.
+#[tactic(auto, unfolding(fsa_model::specs::Write::write_range))]
 fn write_in_room(
     volume: &mut Volume,
     writing: Writing,
@@ -80,9 +82,9 @@ fn write_in_room(
     requires room { HasWaitRoom volume.old.content volume.old.spare blockers }
     requires fault { fault ≡ growth_fault volume.old.content writing.stream (writing.at + length writing.bytes.now) }
     requires put { IfNone fault (HasWriteRoom volume.old.content volume.old.spare writing.link writing.stream writing.at (length writing.bytes.now)) }
-    ensures gives { Gives (write_by_key volume.old.content writing.entry.handle writing.entry.key writing.entry.link writing.entry.stream writing.entry.at writing.entry.bytes.now) volume.old.content volume.new.content result }
+    ensures gives { Gives (write_range volume.old.content writing.entry.handle writing.entry.key writing.entry.link writing.entry.stream writing.entry.at writing.entry.bytes.now) volume.old.content volume.new.content result }
     ensures room { HasHoldRoom result volume.new.spare }
-    ensures ends { volume.old.spare.ends ≤ volume.new.spare.ends + length volume.old.content.oplocks }
+    ensures ends { KeepsEnds volume.old volume.new }
 {
     let mut blockers = blockers;
     let Writing {
@@ -107,9 +109,9 @@ fn write_range(alloc: Global, volume: &mut Volume, writing: Writing) -> Tried
     requires lives { IsTrue (lives volume.old.content.streams writing.stream) }
     requires may { MayUse volume.old.content }
     requires place { writing.at + length writing.bytes.now ≤ largest_end }
-    ensures gives { Gives (write_by_key volume.old.content writing.entry.handle writing.entry.key writing.entry.link writing.entry.stream writing.entry.at writing.entry.bytes.now) volume.old.content volume.new.content result }
+    ensures gives { Gives (write_range volume.old.content writing.entry.handle writing.entry.key writing.entry.link writing.entry.stream writing.entry.at writing.entry.bytes.now) volume.old.content volume.new.content result }
     ensures room { HasHoldRoom result volume.new.spare }
-    ensures ends { volume.old.spare.ends ≤ volume.new.spare.ends + length volume.old.content.oplocks }
+    ensures ends { KeepsEnds volume.old volume.new }
 {
     let end = writing.at + writing.bytes.len() as u64;
     let fault = growth_fault(volume, writing.stream, end);
@@ -120,12 +122,12 @@ fn write_range(alloc: Global, volume: &mut Volume, writing: Writing) -> Tried
 }
 
 // Writes through the handle of this number.
-#[tactic(auto, using(crate::proofs::HandleLaws::stream_lives), unfolding(fsa_model::specs::Write::write_at, fsa_model::specs::Write::write_by, fsa_model::specs::Write::write_stream, fsa_model::specs::Write::write_at_place, fsa_model::specs::Write::write_range))]
+#[tactic(auto, using(crate::proofs::HandleLaws::stream_lives), unfolding(fsa_model::specs::Write::write_at, fsa_model::specs::Write::write_by, fsa_model::specs::Write::write_stream, fsa_model::specs::Write::write_at_place))]
 fn write_at(alloc: Global, volume: &mut Volume, id: u64, at: Option<u64>, bytes: &[u8]) -> Tried
     requires may { MayUse volume.old.content }
     ensures gives { Gives (write_at volume.old.content id at bytes.now) volume.old.content volume.new.content result }
     ensures room { HasHoldRoom result volume.new.spare }
-    ensures ends { volume.old.spare.ends ≤ volume.new.spare.ends + length volume.old.content.oplocks }
+    ensures ends { KeepsEnds volume.old volume.new }
 {
     let Some(row) = volume.handle(id) else {
         return Tried::ends(Status::InvalidHandle);
@@ -168,7 +170,7 @@ fn write(
     requires may { MayUse volume.old.content }
     ensures gives { Gives (try_write volume.old.content client handle at bytes.now) volume.old.content volume.new.content result }
     ensures room { HasHoldRoom result volume.new.spare }
-    ensures ends { volume.old.spare.ends ≤ volume.new.spare.ends + length volume.old.content.oplocks }
+    ensures ends { KeepsEnds volume.old volume.new }
 {
     let Some(id) = volume.handle_of(client, handle) else {
         return Tried::ends(Status::InvalidHandle);
@@ -180,15 +182,15 @@ fn write(
 /// to be left for breaks.
 ///
 /// `Done` with the reply, or `Hold` with the breaks of oplocks that it waits for, as the definition
-/// says; never `Stay`. Where it is held there is room to make it pending, and of the room for ends it
-/// uses no more than one for each oplock that there was. `NoMemory` changes nothing, not even breaks.
-/// `_turn` is the number of the turn; no write needs it.
+/// says; never `Stay`. Where it is held there is room to make it pending. Of the room for ends it uses
+/// no more than one for each call that ends. `NoMemory` changes nothing, not even breaks. `_turn` is the
+/// number of the turn; no write needs it.
 pub fn try_write(alloc: Global, volume: &mut Volume, call: &Call, _turn: u64) -> Tried
     requires verb { IsWrite call.now.what }
     requires may { MayUse volume.old.content }
     ensures gives { Gives (asked_write volume.old.content call.now.client call.now.what) volume.old.content volume.new.content result }
     ensures room { HasHoldRoom result volume.new.spare }
-    ensures ends { volume.old.spare.ends ≤ volume.new.spare.ends + length volume.old.content.oplocks }
+    ensures ends { KeepsEnds volume.old volume.new }
 {
     let What::Ask(Request::Write { handle, at, bytes }) = &call.what else {
         unreachable!()

@@ -2,10 +2,14 @@
 
 ghost use Rattle.std.specs.Prelude.{◌≡◌, ◌≤◌, ◌+◌, ◌^◌, length, IsTrue};
 ghost use Rattle.fsa_types.specs.Rows.{lives};
-ghost use Rattle.fsa_model.specs.Write.{file_of_stream, lengthens, with_file_written, with_write_noted, with_written};
+ghost use Rattle.fsa_model.specs.Lookups.{file_of_stream};
+ghost use Rattle.fsa_model.specs.Write.{lengthens, stream_write_filters, with_file_written, with_write_noted, with_written, write_filters};
 ghost use Rattle.op_data.specs.Conditions.{HasWriteRoom, noted_stream};
 ghost use Rattle.op_parts.specs.Room.{HasNoteRoom};
+ghost use Rattle.volume_state.specs.Room.{KeepsEnds};
 
+use bitflags::Flags;
+use fsa_types::{FILE_ACTION_MODIFIED, FILE_ACTION_MODIFIED_STREAM, FileAttributes, NotifyFilter};
 use op_parts::{access_time, attributes_of, creation_time, is_named_stream};
 use volume_state::Volume;
 
@@ -26,22 +30,25 @@ pub struct Writing<'a> {
     pub bytes: &'a [u8],
 }
 
-// ARCHIVE.
-const ARCHIVE: u32 = 0x20;
+// The filters of a write of a default stream; `longer` says that the length changes.
+fn write_filters(longer: bool) -> u32
+    ensures { result ≡ write_filters longer }
+{
+    if longer {
+        return NotifyFilter::LAST_WRITE.bits() | NotifyFilter::SIZE.bits();
+    }
+    NotifyFilter::LAST_WRITE.bits()
+}
 
-// FILE_ACTION_MODIFIED, and FILE_ACTION_MODIFIED_STREAM.
-const MODIFIED: u32 = 3;
-
-const MODIFIED_STREAM: u32 = 8;
-
-// The change of the bytes of a file, and of its size too; the same of a named stream.
-const WRITTEN: u32 = 0x10;
-
-const LENGTHENED: u32 = 0x18;
-
-const STREAM_WRITTEN: u32 = 0x800;
-
-const STREAM_LENGTHENED: u32 = 0xC00;
+// The filters of a write of a named stream.
+fn stream_write_filters(longer: bool) -> u32
+    ensures { result ≡ stream_write_filters longer }
+{
+    if longer {
+        return NotifyFilter::STREAM_WRITE.bits() | NotifyFilter::STREAM_SIZE.bits();
+    }
+    NotifyFilter::STREAM_WRITE.bits()
+}
 
 /// The stream of which a write is noted: none for the default stream.
 pub fn noted_stream(volume: &Volume, stream: u64) -> Option<u64>
@@ -58,7 +65,7 @@ pub fn write_in_place(volume: &mut Volume, writing: Writing)
     requires lives { IsTrue (lives volume.old.content.streams writing.stream) }
     requires put { HasWriteRoom volume.old.content volume.old.spare writing.link writing.stream writing.at (length writing.bytes.now) }
     ensures content { volume.new.content ≡ with_written volume.old.content writing.entry.link writing.entry.stream writing.entry.at writing.entry.bytes.now }
-    ensures ends { volume.old.spare.ends ≤ volume.new.spare.ends }
+    ensures ends { KeepsEnds volume.old volume.new }
 {
     let file = file_of_stream(volume, writing.stream);
     let longer = lengthens(volume, writing.stream, writing.at, writing.bytes);
@@ -91,6 +98,7 @@ pub fn note_write(volume: &mut Volume, link: u64, stream: u64, longer: bool)
     requires room { HasNoteRoom volume.old.content volume.old.spare link (noted_stream volume.old.content stream) }
     ensures content { volume.new.content ≡ with_write_noted volume.old.content link stream longer }
     ensures others { volume.new.spare ≡ record volume.old.spare { changes = volume.new.spare.changes; units = volume.new.spare.units; dirs = volume.new.spare.dirs } }
+    ensures ends { KeepsEnds volume.old volume.new }
 {
     let noted = noted_stream(volume, stream);
     note_write_of(volume, link, stream, noted, longer);
@@ -102,19 +110,16 @@ fn note_write_of(volume: &mut Volume, link: u64, stream: u64, noted: Option<u64>
     requires room { HasNoteRoom volume.old.content volume.old.spare link noted }
     ensures content { volume.new.content ≡ with_write_noted volume.old.content link stream longer }
     ensures others { volume.new.spare ≡ record volume.old.spare { changes = volume.new.spare.changes; units = volume.new.spare.units; dirs = volume.new.spare.dirs } }
+    ensures ends { KeepsEnds volume.old volume.new }
 {
     match noted {
         Some(_) => {
-            let bits = if longer {
-                STREAM_LENGTHENED
-            } else {
-                STREAM_WRITTEN
-            };
-            volume.note(link, MODIFIED_STREAM, bits, noted);
+            let filters = stream_write_filters(longer);
+            volume.note(link, FILE_ACTION_MODIFIED_STREAM, filters, noted);
         }
         None => {
-            let bits = if longer { LENGTHENED } else { WRITTEN };
-            volume.note(link, MODIFIED, bits, noted);
+            let filters = write_filters(longer);
+            volume.note(link, FILE_ACTION_MODIFIED, filters, noted);
         }
     }
 }
@@ -126,7 +131,7 @@ fn write_file(volume: &mut Volume, file: u64)
 {
     let creation = creation_time(volume, file);
     let access = access_time(volume, file);
-    let attributes = attributes_of(volume, file) | ARCHIVE;
+    let attributes = attributes_of(volume, file) | FileAttributes::ARCHIVE.bits();
     let now = volume.clock();
     volume.set_basic(file, creation, access, now, now, attributes);
 }

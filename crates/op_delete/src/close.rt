@@ -8,6 +8,7 @@ ghost use Rattle.fsa_model.specs.Outcome.{ends_with};
 ghost use Rattle.op_delete.specs.Calls.{IsClose, asked_close};
 ghost use Rattle.op_delete.specs.Conditions.{MayEnd};
 ghost use Rattle.op_delete.specs.Room.{HasSweepRoom, KeepsRoom, NotesTakeNoMore, close_dirs, close_units};
+ghost use Rattle.volume_state.specs.Room.{KeepsEnds};
 ghost use Rattle.volume_state.specs.Tried.{Gives, HasHoldRoom};
 ghost use Rattle.fsa_types.specs.declared.status.Status.TheVariants as status;
 
@@ -46,6 +47,7 @@ fn take_out(volume: &mut Volume, id: u64, handle: &HandleRow)
     ensures units { volume.old.spare.units ≤ volume.new.spare.units }
     ensures dirs { volume.old.spare.dirs ≤ volume.new.spare.dirs }
     ensures count { volume.old.spare.ends + length volume.new.content.pending ≤ volume.new.spare.ends + length volume.old.content.pending }
+    ensures ends { KeepsEnds volume.old volume.new }
 {
     let ending = Ending::OfHandle {
         client: handle.client,
@@ -80,6 +82,7 @@ pub fn close(volume: &mut Volume, id: u64, handle: &HandleRow)
     ensures left { KeepsRoom volume.old.content handle.now volume.old.spare volume.new.spare }
     ensures notes { NotesTakeNoMore volume.old.content volume.new.content }
     ensures count { volume.old.spare.ends + length volume.new.content.pending ≤ volume.new.spare.ends + length volume.old.content.pending }
+    ensures ends { KeepsEnds volume.old volume.new }
 {
     take_out(volume, id, handle);
     mark_and_sweep(volume, handle);
@@ -89,7 +92,7 @@ pub fn close(volume: &mut Volume, id: u64, handle: &HandleRow)
 fn close_row(volume: &mut Volume, id: u64, handle: &HandleRow) -> Tried
     ensures gives { Gives (ends_with (with_closed volume.old.content id handle.now) status.Success) volume.old.content volume.new.content result }
     ensures room { HasHoldRoom result volume.new.spare }
-    ensures ends { volume.old.spare.ends ≤ volume.new.spare.ends + length volume.old.content.pending }
+    ensures ends { KeepsEnds volume.old volume.new }
 {
     if let Err(NoMemory) = room_to_close(volume, handle) {
         return Tried::NoMemory;
@@ -103,7 +106,7 @@ fn close_row(volume: &mut Volume, id: u64, handle: &HandleRow) -> Tried
 fn close_at(volume: &mut Volume, id: u64) -> Tried
     ensures gives { Gives (close_at volume.old.content id) volume.old.content volume.new.content result }
     ensures room { HasHoldRoom result volume.new.spare }
-    ensures ends { volume.old.spare.ends ≤ volume.new.spare.ends + length volume.old.content.pending }
+    ensures ends { KeepsEnds volume.old volume.new }
 {
     let Some(row) = volume.handle(id) else {
         return Tried::ends(Status::InvalidHandle);
@@ -117,7 +120,7 @@ fn close_at(volume: &mut Volume, id: u64) -> Tried
 fn close_named(volume: &mut Volume, client: u32, number: u32) -> Tried
     ensures gives { Gives (try_close volume.old.content client number) volume.old.content volume.new.content result }
     ensures room { HasHoldRoom result volume.new.spare }
-    ensures ends { volume.old.spare.ends ≤ volume.new.spare.ends + length volume.old.content.pending }
+    ensures ends { KeepsEnds volume.old volume.new }
 {
     match volume.handle_of(client, number) {
         None => Tried::ends(Status::InvalidHandle),
@@ -129,14 +132,14 @@ fn close_named(volume: &mut Volume, client: u32, number: u32) -> Tried
 /// its client one of the volume's.
 ///
 /// `Done` with the reply, as the definition says; never `Hold` or `Stay`. Of the room for ends it uses no
-/// more than one for each call that was pending. `NoMemory` changes nothing. A close needs neither
+/// more than one for each call that ends. `NoMemory` changes nothing. A close needs neither
 /// `_alloc` nor `_turn`.
 pub fn try_close(_alloc: Global, volume: &mut Volume, call: &Call, _turn: u64) -> Tried
     requires verb { IsClose call.now.what }
     requires may { MayEnd volume.old.content call.now.client }
     ensures gives { Gives (asked_close volume.old.content call.now.client call.now.what) volume.old.content volume.new.content result }
     ensures room { HasHoldRoom result volume.new.spare }
-    ensures ends { volume.old.spare.ends ≤ volume.new.spare.ends + length volume.old.content.pending }
+    ensures ends { KeepsEnds volume.old volume.new }
 {
     let What::Ask(Request::Close { handle }) = &call.what else {
         unreachable!()

@@ -6,6 +6,7 @@ ghost use Rattle.fsa_types.specs.Rows.{lives};
 ghost use Rattle.fsa_model.specs.Close.{closed_status, handle_named, is_open_or_wait, names};
 ghost use Rattle.fsa_model.specs.Sound.{ArePending};
 ghost use Rattle.op_delete.specs.Ends.{end_status, ends_call, with_ended, with_turn_ended};
+ghost use Rattle.volume_state.specs.Room.{KeepsEnds};
 
 use fsa_types::{Body, Call, Reply, Request, Status, What};
 use volume_state::Volume;
@@ -125,6 +126,7 @@ fn end_turn(volume: &mut Volume, ending: Ending, turn: u64)
     ensures rest { volume.new.content ≡ record volume.old.content { pending = volume.new.content.pending; ended = volume.new.content.ended } }
     ensures others { volume.new.spare ≡ record volume.old.spare { ends = volume.new.spare.ends; pending = volume.new.spare.pending; blockers = volume.new.spare.blockers } }
     ensures count { volume.old.spare.ends + length volume.new.content.pending ≤ volume.new.spare.ends + length volume.old.content.pending }
+    ensures ends { KeepsEnds volume.old volume.new }
 {
     let Some(call) = volume.pending(turn) else {
         return;
@@ -167,6 +169,7 @@ pub fn end_calls(volume: &mut Volume, ending: Ending)
     ensures rest { volume.new.content ≡ record volume.old.content { pending = volume.new.content.pending; ended = volume.new.content.ended } }
     ensures others { volume.new.spare ≡ record volume.old.spare { ends = volume.new.spare.ends; pending = volume.new.spare.pending; blockers = volume.new.spare.blockers } }
     ensures count { volume.old.spare.ends + length volume.new.content.pending ≤ volume.new.spare.ends + length volume.old.content.pending }
+    ensures ends { KeepsEnds volume.old volume.new }
 {
     let Some(first) = first_pending(volume) else {
         return;

@@ -9,6 +9,7 @@ ghost use Rattle.fsa_model.specs.Outcome.{ends_with};
 ghost use Rattle.op_delete.specs.Calls.{IsLeave, asked_leave};
 ghost use Rattle.op_delete.specs.Conditions.{MayEnd};
 ghost use Rattle.op_delete.specs.Room.{CountsOne, HasRoomForAll, HasSweepRoom, IsFirst, KeepsRoom, NotesTakeNoMore, all_dirs, all_units, close_dirs, close_units};
+ghost use Rattle.volume_state.specs.Room.{KeepsEnds};
 ghost use Rattle.volume_state.specs.Tried.{Gives, HasHoldRoom};
 
 use crate::close::{bare, close};
@@ -128,6 +129,7 @@ fn close_one(volume: &mut Volume, id: u64)
     ensures left { IfSome (row_of volume.old.content.handles id) (λ row. KeepsRoom volume.old.content row volume.old.spare volume.new.spare) }
     ensures notes { NotesTakeNoMore volume.old.content volume.new.content }
     ensures count { volume.old.spare.ends + length volume.new.content.pending ≤ volume.new.spare.ends + length volume.old.content.pending }
+    ensures ends { KeepsEnds volume.old volume.new }
 {
     let Some(row) = volume.handle(id) else {
         unreachable!()
@@ -143,6 +145,7 @@ fn close_all(volume: &mut Volume, client: u32)
     ensures content { volume.new.content ≡ with_all_closed (handles_of_client volume.old.content client) volume.old.content }
     ensures clients { volume.new.content.clients ≡ volume.old.content.clients }
     ensures count { volume.old.spare.ends + length volume.new.content.pending ≤ volume.new.spare.ends + length volume.old.content.pending }
+    ensures ends { KeepsEnds volume.old volume.new }
 {
     'handles: while let Some(id) = first_handle_of(volume, client) {
         close_one(volume, id);
@@ -155,7 +158,7 @@ fn client_gone(volume: &mut Volume, client: u32)
     requires ends { length volume.old.content.pending ≤ volume.old.spare.ends }
     requires room { HasRoomForAll volume.old.content volume.old.spare (handles_of_client volume.old.content client) }
     ensures content { volume.new.content ≡ with_client_gone volume.old.content client }
-    ensures count { volume.old.spare.ends ≤ volume.new.spare.ends + length volume.old.content.pending }
+    ensures ends { KeepsEnds volume.old volume.new }
 {
     end_calls(volume, Ending::OfClient { client });
     close_all(volume, client);
@@ -168,7 +171,7 @@ fn leave(volume: &mut Volume, client: u32) -> Tried
     requires may { MayEnd volume.old.content client }
     ensures gives { Gives (try_leave volume.old.content client) volume.old.content volume.new.content result }
     ensures room { HasHoldRoom result volume.new.spare }
-    ensures ends { volume.old.spare.ends ≤ volume.new.spare.ends + length volume.old.content.pending }
+    ensures ends { KeepsEnds volume.old volume.new }
 {
     if let Err(NoMemory) = room_to_leave(volume, client) {
         return Tried::NoMemory;
@@ -182,14 +185,14 @@ fn leave(volume: &mut Volume, client: u32) -> Tried
 /// of the volume's.
 ///
 /// `Done` with the reply, as the definition says; never `Hold` or `Stay`. Of the room for ends it uses no
-/// more than one for each call that was pending. `NoMemory` changes nothing. A leaving needs neither
+/// more than one for each call that ends. `NoMemory` changes nothing. A leaving needs neither
 /// `_alloc` nor `_turn`.
 pub fn try_leave(_alloc: Global, volume: &mut Volume, call: &Call, _turn: u64) -> Tried
     requires verb { IsLeave call.now.what }
     requires may { MayEnd volume.old.content call.now.client }
     ensures gives { Gives (asked_leave volume.old.content call.now.client call.now.what) volume.old.content volume.new.content result }
     ensures room { HasHoldRoom result volume.new.spare }
-    ensures ends { volume.old.spare.ends ≤ volume.new.spare.ends + length volume.old.content.pending }
+    ensures ends { KeepsEnds volume.old volume.new }
 {
     let What::Leave = &call.what else {
         unreachable!()

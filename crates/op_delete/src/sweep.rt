@@ -8,20 +8,10 @@ ghost use Rattle.fsa_model.specs.Close.{is_link_over, is_stream_over, name_bit, 
 ghost use Rattle.fsa_model.specs.Lookups.{has_child, has_row, is_on, is_open_by, is_open_on};
 ghost use Rattle.op_delete.specs.Room.{HasSweepRoom, KeepsRoom, NotesTakeNoMore, stream_dirs, stream_units};
 
+use bitflags::Flags;
+use fsa_types::{FILE_ACTION_REMOVED, FILE_ACTION_REMOVED_STREAM, NotifyFilter};
 use op_parts::is_marked;
 use volume_state::{HandleRow, HandleSet, Volume};
-
-// FILE_ACTION_REMOVED, and FILE_ACTION_REMOVED_STREAM.
-const REMOVED: u32 = 2;
-
-const REMOVED_STREAM: u32 = 7;
-
-// A name of a file, a name of a directory, and a name of a stream.
-const FILE_NAME: u32 = 1;
-
-const DIR_NAME: u32 = 2;
-
-const STREAM_NAME: u32 = 0x200;
 
 // Whether there is a handle of the set.
 fn has_handle(volume: &Volume, on: HandleSet) -> bool
@@ -52,7 +42,8 @@ fn sweep_stream(volume: &mut Volume, link: u64, stream: u64)
     ensures notes { NotesTakeNoMore volume.old.content volume.new.content }
 {
     if is_stream_over(volume, stream) {
-        volume.note(link, REMOVED_STREAM, STREAM_NAME, Some(stream));
+        let filter = NotifyFilter::STREAM_NAME.bits();
+        volume.note(link, FILE_ACTION_REMOVED_STREAM, filter, Some(stream));
         volume.drop_stream(stream);
     }
 }
@@ -100,12 +91,12 @@ fn name_bit(volume: &Volume, link: u64) -> u32
     ensures { result ≡ name_bit volume.now.content link }
 {
     match volume.link(link) {
-        None => FILE_NAME,
+        None => NotifyFilter::FILE_NAME.bits(),
         Some(row) => {
             if volume.is_directory(row.file) {
-                DIR_NAME
+                NotifyFilter::DIR_NAME.bits()
             } else {
-                FILE_NAME
+                NotifyFilter::FILE_NAME.bits()
             }
         }
     }
@@ -126,7 +117,7 @@ fn sweep_link(volume: &mut Volume, link: u64)
 {
     if is_link_over(volume, link) {
         let bit = name_bit(volume, link);
-        volume.note(link, REMOVED, bit, None);
+        volume.note(link, FILE_ACTION_REMOVED, bit, None);
         volume.drop_link(link);
     }
 }

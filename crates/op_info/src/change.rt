@@ -4,16 +4,13 @@ ghost use Rattle.std.specs.Prelude.{◌≡◌, ◌≤◌, true, None, option_map
 ghost use Rattle.fsa_model.specs.Security.{asks_something, with_change_time, with_dacl_asked, with_owner_asked, with_security, with_security_noted};
 ghost use Rattle.op_info.specs.Conditions.{list_put};
 ghost use Rattle.op_parts.specs.Room.{HasNoteRoom};
+ghost use Rattle.volume_state.specs.Room.{KeepsEnds};
 
 use crate::asked::asks_something;
-use fsa_types::{Dacl, DaclChange};
+use bitflags::Flags;
+use fsa_types::{Dacl, DaclChange, FILE_ACTION_MODIFIED, NotifyFilter};
 use op_parts::{access_time, attributes_of, creation_time, write_time};
 use volume_state::Volume;
-
-// FILE_ACTION_MODIFIED, and FILE_NOTIFY_CHANGE_SECURITY.
-const MODIFIED: u32 = 3;
-
-const SECURITY: u32 = 0x100;
 
 // The owner that is asked for is set.
 fn set_owner_asked(volume: &mut Volume, file: u64, owner: Option<u32>)
@@ -58,10 +55,11 @@ fn set_change_time(volume: &mut Volume, file: u64)
 fn note_security(volume: &mut Volume, link: u64, asks: bool)
     requires room { HasNoteRoom volume.old.content volume.old.spare link None }
     ensures content { volume.new.content ≡ with_security_noted volume.old.content link asks }
-    ensures ends { volume.old.spare.ends ≤ volume.new.spare.ends }
+    ensures ends { KeepsEnds volume.old volume.new }
 {
     if asks {
-        volume.note(link, MODIFIED, SECURITY, None);
+        let filter = NotifyFilter::SECURITY.bits();
+        volume.note(link, FILE_ACTION_MODIFIED, filter, None);
     }
 }
 
@@ -98,7 +96,7 @@ pub fn set_security(
     requires room { HasNoteRoom volume.old.content volume.old.spare link None }
     requires list { option_map (λ l. l.items) list ≡ list_put dacl.now }
     ensures content { volume.new.content ≡ with_security volume.old.content link file owner dacl.now }
-    ensures ends { volume.old.spare.ends ≤ volume.new.spare.ends }
+    ensures ends { KeepsEnds volume.old volume.new }
 {
     set_file(volume, file, owner, dacl, list);
     note_security(volume, link, asks_something(owner, dacl));

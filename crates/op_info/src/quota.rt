@@ -1,8 +1,8 @@
 //! What a new owner is charged, against his limit.
 
 ghost use Rattle.std.specs.Prelude.{◌≡◌, ◌+◌, ◌&&◌, ◌==◌, not, nat_lt};
-ghost use Rattle.fsa_model.specs.Charge.{charge, limit};
-ghost use Rattle.fsa_model.specs.Security.{charge_of_file, passes_limit};
+ghost use Rattle.fsa_model.specs.Charge.{charge, charge_of_file, limit};
+ghost use Rattle.fsa_model.specs.Security.{passes_limit};
 
 use op_parts::owner_of;
 use volume_state::Volume;

@@ -2,6 +2,7 @@
 
 ghost use Rattle.std.specs.Prelude.{◌≡◌, ◌≤◌, None, OnOk};
 ghost use Rattle.op_parts.specs.Room.{HasNoteRoom};
+ghost use Rattle.volume_state.specs.Room.{KeepsEnds};
 
 use fsa_types::NoMemory;
 use volume_state::{Need, Volume};
@@ -9,7 +10,7 @@ use volume_state::{Need, Volume};
 /// Takes the room for an owner, and for a note of the link's file. `NoMemory` where there is none.
 pub fn room_to_set(volume: &mut Volume, link: u64) -> Result<(), NoMemory>
     ensures content { volume.new.content ≡ volume.old.content }
-    ensures ends { volume.old.spare.ends ≤ volume.new.spare.ends }
+    ensures ends { KeepsEnds volume.old volume.new }
     ensures owners { OnOk result (1 ≤ volume.new.spare.owners) }
     ensures note { OnOk result (HasNoteRoom volume.new.content volume.new.spare link None) }
 {

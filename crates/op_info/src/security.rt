@@ -1,10 +1,11 @@
 //! The checks in order.
 
-ghost use Rattle.std.specs.Prelude.{◌≡◌, ◌≤◌, ◌<◌, OnOk, OnErr, IsTrue, length};
+ghost use Rattle.std.specs.Prelude.{◌≡◌, ◌<◌, OnOk, OnErr, IsTrue, length};
 ghost use Rattle.fsa_types.specs.Request.{dacl_fits, what_fits};
 ghost use Rattle.fsa_model.specs.Lookups.{file_of_link};
 ghost use Rattle.fsa_model.specs.Security.{set_security_at, set_security_of, try_set_security, with_security};
 ghost use Rattle.op_info.specs.Calls.{IsSetSecurity, asked_set_security};
+ghost use Rattle.volume_state.specs.Room.{KeepsEnds};
 ghost use Rattle.volume_state.specs.Tried.{Gives, HasHoldRoom};
 
 use crate::asked::{is_foreign, lacks_right};
@@ -41,7 +42,7 @@ fn set_in_room(
     requires fits { IsTrue (dacl_fits dacl.now) }
     ensures done { OnOk result (volume.new.content ≡ with_security volume.old.content link file owner dacl.now) }
     ensures refused { OnErr result (volume.new.content ≡ volume.old.content) }
-    ensures ends { volume.old.spare.ends ≤ volume.new.spare.ends }
+    ensures ends { KeepsEnds volume.old volume.new }
 {
     let list = list_put(alloc, dacl)?;
     room_to_set(volume, link)?;
@@ -64,7 +65,7 @@ fn set_security_of(
     requires fits { IsTrue (dacl_fits dacl.now) }
     ensures gives { Gives (set_security_of volume.old.content client link file owner dacl.now) volume.old.content volume.new.content result }
     ensures room { HasHoldRoom result volume.new.spare }
-    ensures ends { volume.old.spare.ends ≤ volume.new.spare.ends }
+    ensures ends { KeepsEnds volume.old volume.new }
 {
     if is_foreign(volume, client, owner) {
         return Tried::ends(Status::AccessDenied);
@@ -92,7 +93,7 @@ fn set_security_at(
     requires fits { IsTrue (dacl_fits dacl.now) }
     ensures gives { Gives (set_security_at volume.old.content client id owner dacl.now) volume.old.content volume.new.content result }
     ensures room { HasHoldRoom result volume.new.spare }
-    ensures ends { volume.old.spare.ends ≤ volume.new.spare.ends }
+    ensures ends { KeepsEnds volume.old volume.new }
 {
     let Some(handle) = volume.handle(id) else {
         return Tried::ends(Status::InvalidHandle);
@@ -121,7 +122,7 @@ fn set_by_handle(
     requires fits { IsTrue (dacl_fits dacl.now) }
     ensures gives { Gives (try_set_security volume.old.content client handle owner dacl.now) volume.old.content volume.new.content result }
     ensures room { HasHoldRoom result volume.new.spare }
-    ensures ends { volume.old.spare.ends ≤ volume.new.spare.ends }
+    ensures ends { KeepsEnds volume.old volume.new }
 {
     let Some(id) = volume.handle_of(client, handle) else {
         return Tried::ends(Status::InvalidHandle);
@@ -140,7 +141,7 @@ pub fn try_set_security(alloc: Global, volume: &mut Volume, call: &Call, _turn: 
     requires client { call.now.client < length volume.old.content.clients }
     ensures gives { Gives (asked_set_security volume.old.content call.now.client call.now.what) volume.old.content volume.new.content result }
     ensures room { HasHoldRoom result volume.new.spare }
-    ensures ends { volume.old.spare.ends ≤ volume.new.spare.ends }
+    ensures ends { KeepsEnds volume.old volume.new }
 {
     let What::Ask(
         Request::SetSecurity {

@@ -1,8 +1,9 @@
 //! The break of oplocks by an open that clashes.
 
-ghost use Rattle.std.specs.Prelude.{◌≡◌, ◌<◌, ◌≤◌, ◌+◌, ◌^◌, length};
+ghost use Rattle.std.specs.Prelude.{◌≡◌, ◌<◌, ◌^◌};
 ghost use Rattle.fsa_model.specs.Open.{clashed};
 ghost use Rattle.op_open.specs.Conditions.{HasOpenRoom};
+ghost use Rattle.volume_state.specs.Room.{KeepsEnds};
 ghost use Rattle.volume_state.specs.Tried.{Gives, HasHoldRoom};
 
 use fsa_types::{BlockerList, Status};
@@ -16,7 +17,7 @@ pub fn clashed(volume: &mut Volume, on: HandleSet, key: u64, blockers: BlockerLi
     requires numbers { volume.old.content.last_break < 2 ^ 63 }
     ensures gives { Gives (clashed volume.old.content on key) volume.old.content volume.new.content result }
     ensures room { HasHoldRoom result volume.new.spare }
-    ensures ends { volume.old.spare.ends ≤ volume.new.spare.ends + length volume.old.content.oplocks }
+    ensures ends { KeepsEnds volume.old volume.new }
 {
     let mut blockers = blockers;
     if break_for(volume, on, Class::Clash, None, key, &mut blockers) {

@@ -1,16 +1,18 @@
 //! One try of an open.
 
-ghost use Rattle.std.specs.Prelude.{◌≡◌, ◌<◌, ◌≤◌, ◌+◌, ◌-◌, ◌^◌, ◌==◌, not, None, Some, true, false, length, IsTrue, is_some, IfSome};
+ghost use Rattle.std.specs.Prelude.{bit_or, ◌≡◌, ◌<◌, ◌≤◌, ◌+◌, ◌-◌, ◌^◌, ◌==◌, not, None, Some, true, false, length, IsTrue, is_some, IfSome};
 ghost use Rattle.fsa_types.specs.Rows.{lives};
 ghost use Rattle.fsa_types.specs.Paths.{components, path_fault};
 ghost use Rattle.fsa_model.specs.Lookups.{child_of, is_directory, stream_of};
 ghost use Rattle.fsa_types.specs.Access.{has_any};
+ghost use Rattle.fsa_types.specs.Masks.{APPEND_DATA, WRITE_DATA};
 ghost use Rattle.fsa_model.specs.Open.{access_of, create_at, create_by_link, create_found, create_in_file, create_named, create_on_stream, create_there, create_walked, is_other_kind, replacing_right, stream_name, try_create};
 ghost use Rattle.fsa_model.specs.Walk.{last_name};
 ghost use Rattle.op_open.specs.Calls.{IsCreate, asked_try};
 ghost use Rattle.op_open.specs.Conditions.{IsOpenBy, IsThere, MayOpen};
 ghost use Rattle.op_open.specs.Walks.{CanHold, IsIn, ReachesHolder, walked_of};
 ghost use Rattle.volume_state.specs.Living.{is_link_to};
+ghost use Rattle.volume_state.specs.Room.{KeepsEnds};
 ghost use Rattle.volume_state.specs.Tried.{Gives, HasHoldRoom};
 
 use crate::asked::{Asked, only_makes, overwrites};
@@ -20,7 +22,8 @@ use crate::open::{open_directory, open_stream};
 use crate::opening::Opening;
 use crate::rights::{grants, is_readonly, uncovers};
 use crate::walk::{Walked, has_point, walk};
-use fsa_types::{Call, Disposition, Request, Status, What};
+use bitflags::Flags;
+use fsa_types::{AccessMask, Call, Disposition, Request, Status, What};
 use names::{PathParts, split_path};
 use op_parts::{attributes_of, is_marked};
 use std::alloc::Global;
@@ -31,8 +34,8 @@ fn replacing_right(disposition: Disposition) -> u32
     ensures { result ≡ replacing_right disposition }
 {
     match disposition {
-        Disposition::Supersede => 0x10000,
-        Disposition::Overwrite | Disposition::OverwriteIf => 0x2,
+        Disposition::Supersede => AccessMask::DELETE.bits(),
+        Disposition::Overwrite | Disposition::OverwriteIf => AccessMask::WRITE_DATA.bits(),
         Disposition::OpenExisting | Disposition::CreateNew | Disposition::OpenIf => 0,
     }
 }
@@ -51,7 +54,7 @@ fn create_on_stream(
     requires living { IsOpenBy volume.old.content link (Some stream) }
     ensures gives { Gives (create_on_stream volume.old.content opening.now link file stream) volume.old.content volume.new.content result }
     ensures room { HasHoldRoom result volume.new.spare }
-    ensures ends { volume.old.spare.ends ≤ volume.new.spare.ends + length volume.old.content.oplocks }
+    ensures ends { KeepsEnds volume.old volume.new }
 {
     let asked = opening.asked();
     if opening.names_stream() && is_marked(volume, stream) {
@@ -90,9 +93,10 @@ fn create_on_stream(
 
 // Whether WRITE_DATA or APPEND_DATA is wanted.
 fn writes(asked: &Asked) -> bool
-    ensures { result ≡ has_any (access_of asked.now) 0x6 }
+    ensures { result ≡ has_any (access_of asked.now) (bit_or WRITE_DATA APPEND_DATA) }
 {
-    asked.access() & 0x6 != 0
+    let writing = AccessMask::WRITE_DATA.bits() | AccessMask::APPEND_DATA.bits();
+    asked.access() & writing != 0
 }
 
 // A file that is there.
@@ -111,7 +115,7 @@ fn create_in_file(
     requires no_directory { is_directory volume.old.content.files file ≡ false }
     ensures gives { Gives (create_in_file volume.old.content opening.now link file) volume.old.content volume.new.content result }
     ensures room { HasHoldRoom result volume.new.spare }
-    ensures ends { volume.old.spare.ends ≤ volume.new.spare.ends + length volume.old.content.oplocks }
+    ensures ends { KeepsEnds volume.old volume.new }
 {
     match volume.stream_of(file, opening.stream_name()) {
         Some(stream) => create_on_stream(alloc, volume, opening, link, file, stream),
@@ -139,7 +143,7 @@ fn create_there(
     requires there { IsThere volume.old.content link file }
     ensures gives { Gives (create_there volume.old.content opening.now link file) volume.old.content volume.new.content result }
     ensures room { HasHoldRoom result volume.new.spare }
-    ensures ends { volume.old.spare.ends ≤ volume.new.spare.ends + length volume.old.content.oplocks }
+    ensures ends { KeepsEnds volume.old volume.new }
 {
     let asked = opening.asked();
     if only_makes(asked.disposition) && !opening.names_stream() {
@@ -171,7 +175,7 @@ fn create_found(
     requires there { IsThere volume.old.content link file }
     ensures gives { Gives (create_found volume.old.content opening.now link file) volume.old.content volume.new.content result }
     ensures room { HasHoldRoom result volume.new.spare }
-    ensures ends { volume.old.spare.ends ≤ volume.new.spare.ends + length volume.old.content.oplocks }
+    ensures ends { KeepsEnds volume.old volume.new }
 {
     if has_point(volume, file) && !opening.asked().opens_point() {
         return stopped(alloc, volume, file, &[]);
@@ -186,7 +190,7 @@ fn create_by_link(alloc: Global, volume: &mut Volume, opening: &Opening, link: u
     requires lives { IsTrue (lives volume.old.content.links link) }
     ensures gives { Gives (create_by_link volume.old.content opening.now link) volume.old.content volume.new.content result }
     ensures room { HasHoldRoom result volume.new.spare }
-    ensures ends { volume.old.spare.ends ≤ volume.new.spare.ends + length volume.old.content.oplocks }
+    ensures ends { KeepsEnds volume.old volume.new }
 {
     let Some(row) = volume.link(link) else {
         return Tried::ends(Status::ObjectNameNotFound);
@@ -211,7 +215,7 @@ fn create_named(
     requires holds { CanHold volume.old.content dir }
     ensures gives { Gives (create_named volume.old.content opening.now dir name.now) volume.old.content volume.new.content result }
     ensures room { HasHoldRoom result volume.new.spare }
-    ensures ends { volume.old.spare.ends ≤ volume.new.spare.ends + length volume.old.content.oplocks }
+    ensures ends { KeepsEnds volume.old volume.new }
 {
     match volume.child(dir, name) {
         Some(link) => create_by_link(alloc, volume, opening, link),
@@ -234,7 +238,7 @@ fn create_walked(
     requires place { IsIn walked (components parts.now) }
     ensures gives { Gives (create_walked volume.old.content opening.now (walked_of walked)) volume.old.content volume.new.content result }
     ensures room { HasHoldRoom result volume.new.spare }
-    ensures ends { volume.old.spare.ends ≤ volume.new.spare.ends + length volume.old.content.oplocks }
+    ensures ends { KeepsEnds volume.old volume.new }
 {
     match walked {
         Walked::Barred(status) => Tried::ends(status),
@@ -262,7 +266,7 @@ fn create_at(alloc: Global, volume: &mut Volume, asked: &Asked, parts: &PathPart
     requires path { parts.now ≡ asked.now.path }
     ensures gives { Gives (create_at volume.old.content asked.now) volume.old.content volume.new.content result }
     ensures room { HasHoldRoom result volume.new.spare }
-    ensures ends { volume.old.spare.ends ≤ volume.new.spare.ends + length volume.old.content.oplocks }
+    ensures ends { KeepsEnds volume.old volume.new }
 {
     let opening = Opening::new(asked, parts);
     if opening.has_stream_part() && asked.wants_directory() {
@@ -278,7 +282,7 @@ fn create(alloc: Global, volume: &mut Volume, asked: &Asked) -> Tried
     requires may { MayOpen volume.old.content asked.now.client asked.now.number }
     ensures gives { Gives (try_create volume.old.content asked.now) volume.old.content volume.new.content result }
     ensures room { HasHoldRoom result volume.new.spare }
-    ensures ends { volume.old.spare.ends ≤ volume.new.spare.ends + length volume.old.content.oplocks }
+    ensures ends { KeepsEnds volume.old volume.new }
 {
     if asked.is_invalid() {
         return Tried::ends(Status::InvalidParameter);
@@ -300,15 +304,15 @@ fn create(alloc: Global, volume: &mut Volume, asked: &Asked) -> Tried
 /// be left for a file, a link, two streams, a handle and breaks.
 ///
 /// `Done` with the reply, or `Hold` with the breaks of oplocks that it waits for, as the definition
-/// says; never `Stay`. Where it is held there is room to make it pending, and of the room for ends it
-/// uses no more than one for each oplock that there was. `NoMemory` changes nothing, not even breaks. `_turn` is the number of the turn;
-/// no open needs it.
+/// says; never `Stay`. Where it is held there is room to make it pending. Of the room for ends it uses
+/// no more than one for each call that ends. `NoMemory` changes nothing, not even breaks. `_turn` is the
+/// number of the turn; no open needs it.
 pub fn try_create(alloc: Global, volume: &mut Volume, call: &Call, _turn: u64) -> Tried
     requires verb { IsCreate call.now.what }
     requires may { MayOpen volume.old.content call.now.client call.now.number }
     ensures gives { Gives (asked_try volume.old.content call.now.client call.now.number call.now.what) volume.old.content volume.new.content result }
     ensures room { HasHoldRoom result volume.new.spare }
-    ensures ends { volume.old.spare.ends ≤ volume.new.spare.ends + length volume.old.content.oplocks }
+    ensures ends { KeepsEnds volume.old volume.new }
 {
     let What::Ask(
         Request::Create {

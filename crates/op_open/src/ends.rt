@@ -10,7 +10,7 @@ ghost use Rattle.op_open.specs.Conditions.{IsOpenBy};
 ghost use Rattle.volume_state.specs.Tried.{Gives, HasHoldRoom};
 
 use crate::asked::Asked;
-use fsa_types::{Action, Body, Bytes, Name, Reply, Status, TryCopy};
+use fsa_types::{Action, Body, Bytes, IO_REPARSE_TAG_SYMLINK, Name, Reply, Status, TryCopy};
 use std::alloc::Global;
 use volume_state::{HandleRow, Tried, Volume};
 
@@ -28,7 +28,7 @@ pub fn opens(status: Status, action: Action) -> Tried
 fn stop_status(tag: u32) -> Status
     ensures { result ≡ stop_status tag }
 {
-    if tag == 0xA000_000C {
+    if tag == IO_REPARSE_TAG_SYMLINK {
         return Status::StoppedOnSymlink;
     }
     Status::Reparse

@@ -9,6 +9,7 @@ ghost use Rattle.fsa_model.specs.Open.{opens as Opens};
 ghost use Rattle.fsa_model.specs.Edits.{with_file, with_link};
 ghost use Rattle.fsa_model.specs.Sound.{PointFits, is_link_of_directory};
 ghost use Rattle.op_open.specs.Conditions.{MayOpen};
+ghost use Rattle.volume_state.specs.Room.{KeepsEnds};
 ghost use Rattle.volume_state.specs.Seen.{room_for};
 ghost use Rattle.op_open.specs.Walks.{CanHold};
 ghost use Rattle.fsa_model.specs.Changes.{units_noted, dirs_noted};
@@ -23,21 +24,13 @@ use crate::ends::{open_handle, opens};
 use crate::open::{file_attributes, kept_attributes};
 use crate::opening::Opening;
 use crate::rights::{first_sid, grants, is_readonly};
-use fsa_types::{Action, FileAttributes, Name, NoMemory, Status};
+use bitflags::Flags;
+use fsa_types::{
+    AccessMask, Action, FILE_ACTION_ADDED, FILE_ACTION_ADDED_STREAM, FileAttributes, Name,
+    NoMemory, NotifyFilter, Status,
+};
 use std::alloc::Global;
 use volume_state::{FileRow, Need, Tried, Volume};
-
-// FILE_ACTION_ADDED, and FILE_ACTION_ADDED_STREAM.
-const ADDED: u32 = 1;
-
-const ADDED_STREAM: u32 = 6;
-
-// A name of a file, a name of a directory, and a name of a stream.
-const FILE_NAME: u32 = 1;
-
-const DIR_NAME: u32 = 2;
-
-const STREAM_NAME: u32 = 0x200;
 
 // A file or a directory as it is made at this moment.
 fn new_file(volume: &Volume, asked: &Asked, directory: bool, attributes: u32) -> FileRow
@@ -114,7 +107,7 @@ fn put_directory(
     requires file { file ≡ new_file volume.old.content asked.now true (kept_attributes asked.now.attributes) }
     ensures done { OnOk result (volume.new.content ≡ with_new_directory volume.old.content asked.now dir name) }
     ensures refused { OnErr result (volume.new.content ≡ volume.old.content) }
-    ensures ends { volume.old.spare.ends ≤ volume.new.spare.ends }
+    ensures ends { KeepsEnds volume.old volume.new }
 {
     let units = name.units().len() as u64;
     let Some(need) = need_to_make(volume, dir, units, 0) else {
@@ -123,7 +116,7 @@ fn put_directory(
     volume.reserve(&need)?;
     let link = put_link(volume, dir, name, file);
     open_handle(volume, asked, link, None);
-    volume.note(link, ADDED, DIR_NAME, None);
+    volume.note(link, FILE_ACTION_ADDED, NotifyFilter::DIR_NAME.bits(), None);
     Ok(())
 }
 
@@ -141,7 +134,7 @@ fn make_directory(
     requires new { child_of volume.old.content dir name.now ≡ None }
     ensures gives { Gives (make_directory volume.old.content asked.now dir name.now) volume.old.content volume.new.content result }
     ensures room { HasHoldRoom result volume.new.spare }
-    ensures ends { volume.old.spare.ends ≤ volume.new.spare.ends + length volume.old.content.oplocks }
+    ensures ends { KeepsEnds volume.old volume.new }
 {
     let Ok(name) = Name::copy_of(alloc, name) else {
         return Tried::NoMemory;
@@ -169,7 +162,7 @@ fn put_file(
     requires default { stream ≡ [] }
     ensures done { OnOk result (volume.new.content ≡ with_new_file volume.old.content asked.now dir name) }
     ensures refused { OnErr result (volume.new.content ≡ volume.old.content) }
-    ensures ends { volume.old.spare.ends ≤ volume.new.spare.ends }
+    ensures ends { KeepsEnds volume.old volume.new }
 {
     let units = name.units().len() as u64;
     let Some(need) = need_to_make(volume, dir, units, 1) else {
@@ -180,7 +173,12 @@ fn put_file(
     let link = volume.add_link(dir, name, made);
     let of_file = volume.add_stream(made, stream);
     open_handle(volume, asked, link, Some(of_file));
-    volume.note(link, ADDED, FILE_NAME, None);
+    volume.note(
+        link,
+        FILE_ACTION_ADDED,
+        NotifyFilter::FILE_NAME.bits(),
+        None,
+    );
     Ok(())
 }
 
@@ -197,7 +195,7 @@ fn make_plain_file(
     requires new { child_of volume.old.content dir name.now ≡ None }
     ensures gives { Gives (Opens (with_new_file volume.old.content asked.now dir name.now) status.Success action.Created) volume.old.content volume.new.content result }
     ensures room { HasHoldRoom result volume.new.spare }
-    ensures ends { volume.old.spare.ends ≤ volume.new.spare.ends + length volume.old.content.oplocks }
+    ensures ends { KeepsEnds volume.old volume.new }
 {
     let Ok(name) = Name::copy_of(alloc, name) else {
         return Tried::NoMemory;
@@ -253,7 +251,7 @@ fn put_file_with_stream(
     requires named { same_name volume.old.content.table [] stream ≡ false }
     ensures done { OnOk result (volume.new.content ≡ with_new_file_and_stream volume.old.content asked.now dir name) }
     ensures refused { OnErr result (volume.new.content ≡ volume.old.content) }
-    ensures ends { volume.old.spare.ends ≤ volume.new.spare.ends }
+    ensures ends { KeepsEnds volume.old volume.new }
 {
     let units = name.units().len() as u64;
     let Some(need) = need_with_stream(volume, dir, units, stream.units().len() as u64) else {
@@ -265,8 +263,14 @@ fn put_file_with_stream(
     let _of_file = volume.add_stream(made, default);
     let named = volume.add_stream(made, stream);
     open_handle(volume, asked, link, Some(named));
-    volume.note(link, ADDED, FILE_NAME, None);
-    volume.note(link, ADDED_STREAM, STREAM_NAME, Some(named));
+    volume.note(
+        link,
+        FILE_ACTION_ADDED,
+        NotifyFilter::FILE_NAME.bits(),
+        None,
+    );
+    let filter = NotifyFilter::STREAM_NAME.bits();
+    volume.note(link, FILE_ACTION_ADDED_STREAM, filter, Some(named));
     Ok(())
 }
 
@@ -286,7 +290,7 @@ fn make_file_with_stream(
     requires named { same_name volume.old.content.table [] stream.now ≡ false }
     ensures gives { Gives (Opens (with_new_file_and_stream volume.old.content asked.now dir name.now) status.Success action.Created) volume.old.content volume.new.content result }
     ensures room { HasHoldRoom result volume.new.spare }
-    ensures ends { volume.old.spare.ends ≤ volume.new.spare.ends + length volume.old.content.oplocks }
+    ensures ends { KeepsEnds volume.old volume.new }
 {
     let Ok(name) = Name::copy_of(alloc, name) else {
         return Tried::NoMemory;
@@ -321,7 +325,7 @@ fn make_file(
     requires differs { named ≡ true → same_name volume.old.content.table [] stream.now ≡ false }
     ensures gives { Gives (make_file volume.old.content asked.now dir name.now) volume.old.content volume.new.content result }
     ensures room { HasHoldRoom result volume.new.spare }
-    ensures ends { volume.old.spare.ends ≤ volume.new.spare.ends + length volume.old.content.oplocks }
+    ensures ends { KeepsEnds volume.old volume.new }
 {
     if named {
         return make_file_with_stream(alloc, volume, asked, dir, name, stream);
@@ -333,7 +337,10 @@ fn make_file(
 fn parent_right(asked: &Asked) -> u32
     ensures { result ≡ parent_right asked.now }
 {
-    if asked.wants_directory() { 0x4 } else { 0x2 }
+    if asked.wants_directory() {
+        return AccessMask::APPEND_DATA.bits();
+    }
+    AccessMask::WRITE_DATA.bits()
 }
 
 /// The last name is missing in this directory.
@@ -350,7 +357,7 @@ pub fn create_missing(
     requires new { child_of volume.old.content dir name.now ≡ None }
     ensures gives { Gives (create_missing volume.old.content opening.now dir name.now) volume.old.content volume.new.content result }
     ensures room { HasHoldRoom result volume.new.spare }
-    ensures ends { volume.old.spare.ends ≤ volume.new.spare.ends + length volume.old.content.oplocks }
+    ensures ends { KeepsEnds volume.old volume.new }
 {
     let asked = opening.asked();
     if only_opens(asked.disposition) {
@@ -394,13 +401,14 @@ pub fn create_stream(
     requires new { stream_of volume.old.content file (stream_name opening.now.path) ≡ None }
     ensures gives { Gives (create_stream volume.old.content opening.now link file) volume.old.content volume.new.content result }
     ensures room { HasHoldRoom result volume.new.spare }
-    ensures ends { volume.old.spare.ends ≤ volume.new.spare.ends + length volume.old.content.oplocks }
+    ensures ends { KeepsEnds volume.old volume.new }
 {
     let asked = opening.asked();
     if only_opens(asked.disposition) {
         return Tried::ends(Status::ObjectNameNotFound);
     }
-    if !grants(volume, file, asked.client, asked.access() | 0x2) {
+    let rights = asked.access() | AccessMask::WRITE_DATA.bits();
+    if !grants(volume, file, asked.client, rights) {
         return Tried::ends(Status::AccessDenied);
     }
     if is_readonly(volume, file) {
@@ -444,7 +452,7 @@ fn put_stream(
     requires new { stream_of volume.old.content file name ≡ None }
     ensures done { OnOk result (volume.new.content ≡ with_new_stream volume.old.content asked.now link file) }
     ensures refused { OnErr result (volume.new.content ≡ volume.old.content) }
-    ensures ends { volume.old.spare.ends ≤ volume.new.spare.ends }
+    ensures ends { KeepsEnds volume.old volume.new }
 {
     let Some(need) = need_for_stream(volume, link, name.units().len() as u64) else {
         return Err(NoMemory);
@@ -452,7 +460,8 @@ fn put_stream(
     volume.reserve(&need)?;
     let stream = volume.add_stream(file, name);
     open_handle(volume, asked, link, Some(stream));
-    volume.note(link, ADDED_STREAM, STREAM_NAME, Some(stream));
+    let filter = NotifyFilter::STREAM_NAME.bits();
+    volume.note(link, FILE_ACTION_ADDED_STREAM, filter, Some(stream));
     Ok(())
 }
 
@@ -474,7 +483,7 @@ fn make_stream(
     requires new { stream_of volume.old.content file name.now ≡ None }
     ensures gives { Gives (Opens (with_new_stream volume.old.content asked.now link file) status.Success action.Created) volume.old.content volume.new.content result }
     ensures room { HasHoldRoom result volume.new.spare }
-    ensures ends { volume.old.spare.ends ≤ volume.new.spare.ends + length volume.old.content.oplocks }
+    ensures ends { KeepsEnds volume.old volume.new }
 {
     let Ok(name) = Name::copy_of(alloc, name) else {
         return Tried::NoMemory;

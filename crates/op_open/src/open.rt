@@ -1,10 +1,11 @@
 //! The open of a file or a directory that is there.
 
 ghost use Rattle.std.specs.Prelude.{◌≡◌, ◌<◌, ◌≤◌, ◌+◌, ◌-◌, ◌^◌, ◌==◌, not, None, Some, length};
-ghost use Rattle.fsa_model.specs.Open.{file_attributes, kept_attributes, open_directory, names_stream, open_existing, open_granted, open_stream, overwrite_action, overwrite_existing, with_file_overwritten, with_open, with_overwrite_noted, with_overwritten};
+ghost use Rattle.fsa_model.specs.Open.{file_attributes, kept_attributes, open_directory, names_stream, open_existing, open_granted, open_stream, overwrite_action, overwrite_existing, overwrite_filters, stream_overwrite_filters, with_file_overwritten, with_open, with_overwrite_noted, with_overwritten};
 ghost use Rattle.fsa_model.specs.Lookups.{handle_of};
 ghost use Rattle.op_open.specs.Conditions.{HasOpenRoom, IsOpenBy, MayOpen, noted_stream};
 ghost use Rattle.op_parts.specs.Room.{HasNoteRoom};
+ghost use Rattle.volume_state.specs.Room.{KeepsEnds};
 ghost use Rattle.volume_state.specs.Tried.{Gives, HasHoldRoom};
 
 use crate::asked::{Asked, overwrites};
@@ -12,15 +13,17 @@ use crate::breaks::clashed;
 use crate::ends::{open_handle, opens};
 use crate::rights::{grants, is_readonly};
 use crate::room::{room_to_open, room_to_overwrite};
-use fsa_types::{Action, BlockerList, Disposition, Status};
+use bitflags::Flags;
+use fsa_types::{
+    Action, BlockerList, Disposition, FILE_ACTION_MODIFIED, FILE_ACTION_MODIFIED_STREAM,
+    FileAttributes, NotifyFilter, Status,
+};
 use op_parts::{access_time, break_for, creation_time, held};
 use std::alloc::Global;
 use volume_state::{Class, HandleSet, Tried, Volume};
 
 // READONLY, HIDDEN, SYSTEM and ARCHIVE.
 const KEPT: u32 = 0x27;
-
-const ARCHIVE: u32 = 0x20;
 
 /// The attributes of a directory that is made.
 pub fn kept_attributes(attributes: u32) -> u32
@@ -33,7 +36,7 @@ pub fn kept_attributes(attributes: u32) -> u32
 pub fn file_attributes(attributes: u32) -> u32
     ensures { result ≡ file_attributes attributes }
 {
-    kept_attributes(attributes) | ARCHIVE
+    kept_attributes(attributes) | FileAttributes::ARCHIVE.bits()
 }
 
 // The open goes on once the oplocks that an open breaks are broken.
@@ -51,7 +54,7 @@ fn open_existing(
     requires room { HasOpenRoom volume.old.content volume.old.spare blockers }
     ensures gives { Gives (open_existing volume.old.content asked.now link stream on) volume.old.content volume.new.content result }
     ensures room { HasHoldRoom result volume.new.spare }
-    ensures ends { volume.old.spare.ends ≤ volume.new.spare.ends + length volume.old.content.oplocks }
+    ensures ends { KeepsEnds volume.old volume.new }
 {
     if !asked.wants_more() {
         open_handle(volume, asked, link, stream);
@@ -90,15 +93,19 @@ fn overwrite_file(volume: &mut Volume, file: u64, attributes: u32)
     volume.set_basic(file, creation, access, now, now, attributes);
 }
 
-// FILE_ACTION_MODIFIED, and FILE_ACTION_MODIFIED_STREAM.
-const MODIFIED: u32 = 3;
+// The filters of an overwrite of a default stream.
+fn overwrite_filters() -> u32
+    ensures { result ≡ overwrite_filters }
+{
+    NotifyFilter::ATTRIBUTES.bits() | NotifyFilter::SIZE.bits() | NotifyFilter::LAST_WRITE.bits()
+}
 
-const MODIFIED_STREAM: u32 = 8;
-
-// The change of attributes, size and last write; the change of a stream's size and its bytes.
-const OVERWRITTEN: u32 = 0x1C;
-
-const STREAM_OVERWRITTEN: u32 = 0xC00;
+// The filters of an overwrite of a named stream.
+fn stream_overwrite_filters() -> u32
+    ensures { result ≡ stream_overwrite_filters }
+{
+    NotifyFilter::STREAM_SIZE.bits() | NotifyFilter::STREAM_WRITE.bits()
+}
 
 // The stream of which an overwrite is noted: none for the default stream.
 fn noted_stream(stream: u64, named: bool) -> Option<u64>
@@ -114,13 +121,14 @@ fn noted_stream(stream: u64, named: bool) -> Option<u64>
 fn note_overwrite(volume: &mut Volume, link: u64, stream: u64, named: bool)
     requires room { HasNoteRoom volume.old.content volume.old.spare link (noted_stream stream named) }
     ensures content { volume.new.content ≡ with_overwrite_noted volume.old.content link stream named }
-    ensures ends { volume.old.spare.ends ≤ volume.new.spare.ends }
+    ensures ends { KeepsEnds volume.old volume.new }
 {
     if named {
-        volume.note(link, MODIFIED_STREAM, STREAM_OVERWRITTEN, Some(stream));
+        let filters = stream_overwrite_filters();
+        volume.note(link, FILE_ACTION_MODIFIED_STREAM, filters, Some(stream));
         return;
     }
-    volume.note(link, MODIFIED, OVERWRITTEN, None);
+    volume.note(link, FILE_ACTION_MODIFIED, overwrite_filters(), None);
 }
 
 // A stream and its file are overwritten, and that is noted.
@@ -128,7 +136,7 @@ fn overwrite(volume: &mut Volume, asked: &Asked, link: u64, file: u64, stream: u
     requires named { named ≡ names_stream asked.now.path }
     requires room { HasNoteRoom volume.old.content volume.old.spare link (noted_stream stream named) }
     ensures content { volume.new.content ≡ with_overwritten volume.old.content asked.now link file stream }
-    ensures ends { volume.old.spare.ends ≤ volume.new.spare.ends }
+    ensures ends { KeepsEnds volume.old volume.new }
 {
     note_overwrite(volume, link, stream, named);
     volume.set_length(stream, 0);
@@ -152,7 +160,7 @@ fn open_overwritten(
     requires room { 1 ≤ volume.old.spare.handles }
     requires note { HasNoteRoom volume.old.content volume.old.spare link (noted_stream stream named) }
     ensures content { volume.new.content ≡ with_overwritten (with_open volume.old.content asked.now link (Some stream)) asked.now link file stream }
-    ensures ends { volume.old.spare.ends ≤ volume.new.spare.ends }
+    ensures ends { KeepsEnds volume.old volume.new }
 {
     open_handle(volume, asked, link, Some(stream));
     overwrite(volume, asked, link, file, stream, named);
@@ -176,7 +184,7 @@ fn overwrite_existing(
     requires note { HasNoteRoom volume.old.content volume.old.spare link (noted_stream stream named) }
     ensures gives { Gives (overwrite_existing volume.old.content asked.now link file stream) volume.old.content volume.new.content result }
     ensures room { HasHoldRoom result volume.new.spare }
-    ensures ends { volume.old.spare.ends ≤ volume.new.spare.ends + length volume.old.content.oplocks }
+    ensures ends { KeepsEnds volume.old volume.new }
 {
     let mut blockers = blockers;
     let on = HandleSet::Stream(stream);
@@ -195,7 +203,7 @@ fn open_in_room(volume: &mut Volume, asked: &Asked, link: u64, blockers: Blocker
     requires room { HasOpenRoom volume.old.content volume.old.spare blockers }
     ensures gives { Gives (open_granted volume.old.content asked.now link) volume.old.content volume.new.content result }
     ensures room { HasHoldRoom result volume.new.spare }
-    ensures ends { volume.old.spare.ends ≤ volume.new.spare.ends + length volume.old.content.oplocks }
+    ensures ends { KeepsEnds volume.old volume.new }
 {
     let on = HandleSet::Link(link);
     if volume.clashes(on, asked.access(), asked.share) {
@@ -210,7 +218,7 @@ fn open_granted(alloc: Global, volume: &mut Volume, asked: &Asked, link: u64) ->
     requires living { IsOpenBy volume.old.content link None }
     ensures gives { Gives (open_granted volume.old.content asked.now link) volume.old.content volume.new.content result }
     ensures room { HasHoldRoom result volume.new.spare }
-    ensures ends { volume.old.spare.ends ≤ volume.new.spare.ends + length volume.old.content.oplocks }
+    ensures ends { KeepsEnds volume.old volume.new }
 {
     let Ok(blockers) = room_to_open(alloc, volume) else {
         return Tried::NoMemory;
@@ -231,7 +239,7 @@ pub fn open_directory(
     requires living { IsOpenBy volume.old.content link None }
     ensures gives { Gives (open_directory volume.old.content asked.now link file) volume.old.content volume.new.content result }
     ensures room { HasHoldRoom result volume.new.spare }
-    ensures ends { volume.old.spare.ends ≤ volume.new.spare.ends + length volume.old.content.oplocks }
+    ensures ends { KeepsEnds volume.old volume.new }
 {
     if !grants(volume, file, asked.client, asked.access()) {
         return Tried::ends(Status::AccessDenied);
@@ -258,7 +266,7 @@ pub fn open_stream(
     requires named { named ≡ names_stream asked.now.path }
     ensures gives { Gives (open_stream volume.old.content asked.now link file stream) volume.old.content volume.new.content result }
     ensures room { HasHoldRoom result volume.new.spare }
-    ensures ends { volume.old.spare.ends ≤ volume.new.spare.ends + length volume.old.content.oplocks }
+    ensures ends { KeepsEnds volume.old volume.new }
 {
     let noted = noted_stream(stream, named);
     let Ok(blockers) = room_to_overwrite(alloc, volume, link, noted) else {

@@ -1,10 +1,11 @@
 //! The break of oplocks by a request, and a call that is held.
 
-ghost use Rattle.std.specs.Prelude.{◌≡◌, ◌<◌, ◌≤◌, ◌+◌, ◌^◌, length, map};
+ghost use Rattle.std.specs.Prelude.{◌≡◌, ◌<◌, ◌^◌, map};
 ghost use Rattle.fsa_types.specs.declared.reply.Blocker.TheVariants.{Break};
 ghost use Rattle.fsa_model.specs.Breaks.{awaited, with_breaks};
 ghost use Rattle.fsa_model.specs.Waits.{waits_for};
 ghost use Rattle.op_parts.specs.Room.{HasWaitRoom};
+ghost use Rattle.volume_state.specs.Room.{KeepsEnds};
 
 use fsa_types::{BlockerList, Interim};
 use volume_state::{Class, HandleSet, Tried, Volume};
@@ -14,7 +15,7 @@ use volume_state::{Class, HandleSet, Tried, Volume};
 /// and puts what it waits for into the list.
 ///
 /// The room for it has to be taken, and numbers have to be left for breaks. Of the room for ends it uses
-/// no more than one for each oplock that there was.
+/// no more than one for each call that ends.
 pub fn break_for(
     volume: &mut Volume,
     on: HandleSet,
@@ -28,7 +29,7 @@ pub fn break_for(
     ensures content { volume.new.content ≡ with_breaks volume.old.content on class handle key }
     ensures rest { volume.new.content ≡ record volume.old.content { oplocks = volume.new.content.oplocks; pending = volume.new.content.pending; ended = volume.new.content.ended; last_break = volume.new.content.last_break } }
     ensures spare { volume.new.spare ≡ record volume.old.spare { ends = volume.new.spare.ends } }
-    ensures ends { volume.old.spare.ends ≤ volume.new.spare.ends + length volume.old.content.oplocks }
+    ensures ends { KeepsEnds volume.old volume.new }
     ensures waits { result ≡ waits_for volume.old.content on class handle key }
     ensures blockers { blockers.new.items ≡ map Break (awaited volume.old.content on class handle key) }
 {

@@ -1,8 +1,7 @@
 //! What a file is.
 
 ghost use Rattle.std.specs.Prelude.{◌≡◌};
-ghost use Rattle.fsa_model.specs.Open.{access_time, attributes_of, creation_time};
-ghost use Rattle.fsa_model.specs.Security.{owner_of, write_time};
+ghost use Rattle.fsa_model.specs.Lookups.{access_time, attributes_of, creation_time, owner_of, write_time};
 
 use volume_state::Volume;
 

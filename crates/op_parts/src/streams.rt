@@ -1,8 +1,7 @@
 //! What a stream is.
 
 ghost use Rattle.std.specs.Prelude.{◌≡◌};
-ghost use Rattle.fsa_model.specs.Open.{is_marked};
-ghost use Rattle.fsa_model.specs.Write.{is_named_stream};
+ghost use Rattle.fsa_model.specs.Lookups.{is_marked, is_named_stream};
 
 use volume_state::Volume;
 

@@ -10,6 +10,7 @@ turns-init c = record {
   others = c.end_turn.ensures.others;
   room = omega (arith, c.end_turn.ensures.count, c.requires);
   count = c.end_turn.ensures.count;
+  ends = c.end_turn.ensures.ends;
 }
 
 pub turns-preserved : goal.turns-preserved
@@ -22,6 +23,7 @@ turns-preserved c = record {
       c.turns.invariant.others;
   room = omega (arith, c.end_turn-in-Some-next_pending.ensures.count, c.turns.invariant.room);
   count = omega (arith, c.end_turn-in-Some-next_pending.ensures.count, c.turns.invariant.count);
+  ends = omega (arith, c.end_turn-in-Some-next_pending.ensures.ends, c.turns.invariant.ends);
 }
 
 pub returns-clause-content : goal.returns-clause-content

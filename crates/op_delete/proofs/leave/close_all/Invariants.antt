@@ -1,9 +1,13 @@
 use Rattle.std.proofs.Common.{length}
 use Rattle.op_delete.proofs.LeaveLaws.{IsClosing}
+use Rattle.volume_state.specs.Room.{KeepsEnds}
 use Rattle.op_delete.proofs.leave.close_all.Given as goal
 
 abbrev pub invariant-handles : goal.invariant-handles
-invariant-handles l = IsClosing l.client l.fn.volume.content l.volume.content l.fn.volume.spare l.volume.spare
+invariant-handles l = record {
+  closing : IsClosing l.client l.fn.volume.content l.volume.content l.fn.volume.spare l.volume.spare;
+  ends : KeepsEnds l.fn.volume l.volume;
+}
 
 abbrev pub decreases-handles : goal.decreases-handles
 decreases-handles l = length l.volume.content.handles
