@@ -7,10 +7,10 @@ use Rattle.std.proofs.lemmas.List.Recursion.{is_count_by}
 use Rattle.std.proofs.lemmas.Bool.{cases_Bool}
 use Rattle.fsa_types.specs.declared.request.Ace.{Ace}
 use Rattle.fsa_model.specs.Fault.{Kind, BadSyntax}
-use Rattle.fsa_model.specs.Requests.{ace_of, entry_of, after_entry, ace_onto, aces_of}
+use Rattle.fsa_model.specs.InformationLines.{ace_of, entry_of, after_entry, ace_onto, aces_of}
 use Rattle.script_read.specs.declared.fault.LineFault.{LineFault}
 use Rattle.script_read.specs.declared.fault.LineFault.TheVariants as line
-use Rattle.script_read.specs.Gives.{Fails, kind_of}
+use Rattle.script_read.specs.ReadsAs.{Fails, kind_of}
 use Rattle.script_read.proofs.ReadLemmas.{ahead, ahead-fault}
 
 -- ---- the entry at the front

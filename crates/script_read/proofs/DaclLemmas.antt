@@ -12,9 +12,8 @@ use Rattle.fsa_types.specs.declared.request.Ace.{Ace}
 use Rattle.fsa_types.specs.declared.request.DaclChange.{DaclChange}
 use Rattle.fsa_types.specs.declared.request.DaclChange.TheVariants.{Keep, Remove, Put}
 use Rattle.fsa_model.specs.Numbers.{glyph, spelled, number_of}
-use Rattle.fsa_model.specs.Words.{same}
-use Rattle.fsa_model.specs.Requests.{most_id, most_aces, owner_at, ace_with, ace_of, entry_of, after_entry, aces_of, dacl_of, dacl_at}
-use Rattle.fsa_model.specs.Spelling.{owner_text, ace_text, dacl_text, is_ace, is_dacl}
+use Rattle.fsa_model.specs.Words.{same, most_id}
+use Rattle.fsa_model.specs.InformationLines.{most_aces, owner_at, ace_with, ace_of, entry_of, after_entry, aces_of, dacl_of, dacl_at, owner_text, ace_text, dacl_text, is_ace, is_dacl}
 use Rattle.script_read.proofs.SpellLemmas.{both, at_most, same-eq, unless, Lacks, EndsAt, NoSpace, EndsWord, Lacks-append, first_at, before-again, from-again, field_at-again, number_of-spelled, Lacks-spelled, NoSpace-spelled, mask_of-again}
 
 -- ---- owners

@@ -1,8 +1,12 @@
 mod AceLemmas
+mod ByteLineLemmas
+mod ClockLineLemmas
 mod DaclLemmas
+mod InformationLineLemmas
 mod LeastLemmas
 mod LineLemmas
 mod NameLemmas
+mod OpenLineLemmas
 mod PairLemmas
 mod ReadLemmas
 mod RunLemmas

@@ -7,12 +7,14 @@ use Rattle.std.proofs.lemmas.Bool.Decides.{Decides-eqb}
 use Rattle.std.proofs.lemmas.Slice.Eq.{starts_is}
 use Rattle.fsa_types.specs.declared.request.What.{What}
 use Rattle.fsa_model.specs.Fault.{BadSyntax}
-use Rattle.fsa_model.specs.Words.{same, word_of, field_at, number_at, is_name, is_name_byte}
-use Rattle.fsa_model.specs.Requests.{most_id}
+use Rattle.fsa_model.specs.Words.{same, word_of, field_at, number_at, is_name, is_name_byte, most_id}
+use Rattle.fsa_model.specs.FieldText.{number_text, mask_text}
+use Rattle.fsa_model.specs.Verbs.{verb}
+use Rattle.fsa_model.specs.Spelling.{fields_text, is_built, sids_text, line_text, is_line}
 use Rattle.fsa_model.specs.Lines.{Line, Version, DefaultTable, PairTable, Pair, ClientLine, RequestLine, pair_at, sids_at, client_at, request_of, line_of}
-use Rattle.fsa_model.specs.Spelling.{number_text, mask_text, verb_text, fields_text, is_built, sids_text, line_text, is_line}
+use Rattle.fsa_model.specs.Spelled.{Spells, SpellsFields}
 use Rattle.script_read.proofs.SpellLemmas.{both, at_most, same-eq, unless, NoSpace, EndsWord, word_of-again, after_word-again, field_at-again, number_at-again, mask_at-again, mask_at-last}
-use Rattle.script_read.proofs.VerbLemmas.{what_of-again, NoSpace-verb, EndsWord-fields}
+use Rattle.script_read.proofs.VerbLemmas.{what_of-again, NoSpace-verb, EndsWord-fields, EndsWord-spelled, what_of-spelled}
 
 -- ---- names
 
@@ -44,7 +46,7 @@ request_of-again : (name : List ℕ) (number : ℕ) (what : What) → is_name na
     → request_of (line_text (RequestLine name number what)) ≡ Ok (RequestLine name number what)
 unfolding request_of
 request_of-again name number what fits small built =
-    let fields = 32 ∷ (verb_text what ++ fields_text what) in
+    let fields = 32 ∷ (verb what ++ fields_text what) in
     let rest = number_text number ++ fields in
     let plain = NoSpace-name name fits in
     rw (
@@ -52,7 +54,7 @@ request_of-again name number what fits small built =
       after_word-again name rest plain refl,
       fits,
       number_at-again 4294967295 number fields small refl,
-      field_at-again (verb_text what) (fields_text what) (NoSpace-verb what built) (EndsWord-fields what built),
+      field_at-again (verb what) (fields_text what) (NoSpace-verb what built) (EndsWord-fields what built),
       what_of-again what built,
     ) refl
 
@@ -156,6 +158,36 @@ line_of-again (RequestLine name number what) fits =
     let inner = both (is_name name) (nat_le number most_id) outer.0 in
     line_of-request (line_text (RequestLine name number what)) (RequestLine name number what)
     (request_of-again name number what inner.0 (at_most number most_id inner.1) outer.1)
+
+request_of-spelled : (name : List ℕ) (number : ℕ) (what : What) (fields : List ℕ) → is_name name ≡ true → number ≤ most_id → is_built what ≡ true → SpellsFields what fields
+    → request_of (name ++ (number_text number ++ (32 ∷ (verb what ++ fields)))) ≡ Ok (RequestLine name number what)
+unfolding request_of
+request_of-spelled name number what fields fits small built spells =
+    let behind = 32 ∷ (verb what ++ fields) in
+    let rest = number_text number ++ behind in
+    let plain = NoSpace-name name fits in
+    rw (
+      word_of-again name rest plain refl,
+      after_word-again name rest plain refl,
+      fits,
+      number_at-again 4294967295 number behind small refl,
+      field_at-again (verb what) fields (NoSpace-verb what built) (EndsWord-spelled what fields spells built),
+      what_of-spelled what fields spells built,
+    ) refl
+
+-- bytes that write a line are read as that line
+pub line_of-spelled : (bytes : List ℕ) (line : Line) → is_line line ≡ true → Spells line bytes → line_of bytes ≡ Ok line
+line_of-spelled bytes Version fits is = rw is (line_of-again Version fits)
+line_of-spelled bytes DefaultTable fits is = rw is (line_of-again DefaultTable fits)
+line_of-spelled bytes PairTable fits is = rw is (line_of-again PairTable fits)
+line_of-spelled bytes (Pair source target) fits is = rw is (line_of-again (Pair source target) fits)
+line_of-spelled bytes (ClientLine name sids) fits is = rw is (line_of-again (ClientLine name sids) fits)
+line_of-spelled bytes (RequestLine name number what) fits spells =
+    let outer = both (is_name name && nat_le number most_id) (is_built what) fits in
+    let inner = both (is_name name) (nat_le number most_id) outer.0 in
+    rw spells.2
+    (line_of-request (name ++ (number_text number ++ (32 ∷ (verb what ++ spells.0)))) (RequestLine name number what)
+    (request_of-spelled name number what spells.0 inner.0 (at_most number most_id inner.1) outer.1 spells.1))
 
 -- two lines of one text are one line
 pub line_text-injective : (left right : Line) → is_line left ≡ true → is_line right ≡ true → line_text left ≡ line_text right → left ≡ right

@@ -10,7 +10,7 @@ use Rattle.fsa_model.specs.Fault.{Kind}
 use Rattle.fsa_model.specs.Script.{Reading, line_after, end_after, lines_from, pieces}
 use Rattle.script_read.specs.declared.fault.ReadFault.{ReadFault}
 use Rattle.script_read.specs.declared.fault.ReadFault.TheVariants as read
-use Rattle.script_read.specs.Gives.{FailsScript, kind_of}
+use Rattle.script_read.specs.ReadsAs.{FailsScript, kind_of}
 use Rattle.script_read.specs.ScriptView.{FailsLine}
 use Rattle.script_read.proofs.ReadLemmas.{position_or_len-from_some, position_or_len-from_none}
 

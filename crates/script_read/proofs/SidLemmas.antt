@@ -3,12 +3,11 @@ use Rattle.std.proofs.Common.{◌≡◌, ◌∙◌, sym, ap, ℕ, zero, suc, ◌
 use Rattle.std.specs.Prelude.{Result, Ok, Err, ◌==◌}
 use Rattle.std.proofs.lemmas.List.{length_push}
 use Rattle.fsa_model.specs.Fault.{Kind, BadSyntax}
-use Rattle.fsa_model.specs.Words.{onto, number_at}
-use Rattle.fsa_model.specs.Requests.{most_id}
+use Rattle.fsa_model.specs.Words.{onto, number_at, most_id}
 use Rattle.fsa_model.specs.Lines.{sids_at}
 use Rattle.script_read.specs.declared.fault.LineFault.{LineFault}
 use Rattle.script_read.specs.declared.fault.LineFault.TheVariants as line
-use Rattle.script_read.specs.Gives.{Fails, kind_of}
+use Rattle.script_read.specs.ReadsAs.{Fails, kind_of}
 use Rattle.script_read.proofs.ReadLemmas.{ahead, ahead-more, ahead-fault}
 
 more : (most : ℕ) (bytes rest : List ℕ) (sid : ℕ) → (length bytes == 0) ≡ false → number_at most_id bytes ≡ Ok (sid, rest)

@@ -13,7 +13,7 @@ use Rattle.std.proofs.lemmas.Slice.Eq.{slice_eq-Decides}
 use Rattle.std.proofs.Math.Seq.{take-append_seam, drop-append_seam}
 use Rattle.fsa_model.specs.Numbers.{digit_of, glyph, spelled, number_after, number_of}
 use Rattle.fsa_model.specs.Words.{same, word_of, after_word, field_at, number_at, mask_of, mask_at}
-use Rattle.fsa_model.specs.Spelling.{number_text, mask_text}
+use Rattle.fsa_model.specs.FieldText.{number_text, mask_text}
 
 -- ---- tests
 

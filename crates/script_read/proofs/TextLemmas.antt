@@ -8,7 +8,8 @@ use Rattle.std.proofs.lemmas.Bool.Decides.{nat_tests}
 use Rattle.fsa_model.specs.Fault.{BadSyntax}
 use Rattle.fsa_model.specs.Numbers.{glyph}
 use Rattle.fsa_model.specs.Words.{onto, is_plain, upper_digit_of, units_of, escaped_units, text_of, text_at, bytes_of, string_of, string_at}
-use Rattle.fsa_model.specs.Spelling.{upper_glyph, unit_text, text_text, byte_text, string_text}
+use Rattle.fsa_model.specs.FieldText.{upper_glyph, unit_text, text_text, byte_text, string_text}
+use Rattle.fsa_model.specs.Spelled.{SpellsUnit, SpellsUnits}
 use Rattle.script_read.proofs.SpellLemmas.{both, at_most, digit_of-glyph, NoSpace, EndsWord, Lacks-append, field_at-again}
 
 upper_digit_of-glyph : (digit : ℕ) → digit < 16 → upper_digit_of (upper_glyph digit) ≡ digit
@@ -79,6 +80,58 @@ pub text_at-again : (units rest : List ℕ) → list_all (λ unit. nat_le unit 6
 unfolding text_at
 text_at-again units rest small ends =
     rw (field_at-again (61 ∷ flat_map unit_text units) rest (refl, NoSpace-units units) ends, text_of-again units small) refl
+
+-- ---- units that are written as themselves or as escapes
+
+plain_other : (unit : ℕ) → is_plain unit ≡ true → (unit == 37) ≡ false
+plain_other unit plain = grind (arith, nat_tests)
+
+plain_no_space : (unit : ℕ) → is_plain unit ≡ true → (unit == 32) ≡ false
+plain_no_space unit plain = grind (arith, nat_tests)
+
+glyph_no_space : (digit : ℕ) → (upper_glyph digit == 32) ≡ false
+glyph_no_space digit = grind (arith, nat_tests)
+
+unit-spelled : (unit : ℕ) (front rest : List ℕ) → SpellsUnit unit front → unit ≤ 65535 → units_of (front ++ rest) ≡ onto unit (units_of rest)
+unit-spelled unit front rest spells small =
+    elim spells [
+      | inl h ↦
+          rw h.1 (second_of (unit == 37) (is_plain unit) (escaped_units rest) (onto unit (units_of rest)) (Err BadSyntax) (plain_other unit h.0) h.0)
+      | inr is ↦
+          rw is
+          (escaped (unit / 16 / 16 / 16) (unit / 16 / 16 % 16) (unit / 16 % 16) (unit % 16) unit rest
+          (omega arith) (omega arith) (omega arith) (omega arith) (omega arith))
+    ]
+
+NoSpace-spelled_unit : (unit : ℕ) (front : List ℕ) → SpellsUnit unit front → NoSpace front
+NoSpace-spelled_unit unit front spells =
+    elim spells [
+      | inl h ↦ rw h.1 (plain_no_space unit h.0, tt)
+      | inr is ↦
+          rw is
+          (refl, (glyph_no_space (unit / 16 / 16 / 16), (glyph_no_space (unit / 16 / 16 % 16), (glyph_no_space (unit / 16 % 16), (glyph_no_space (unit % 16), tt)))))
+    ]
+
+units-spelled : (units text : List ℕ) → SpellsUnits units text → list_all (λ unit. nat_le unit 65535) units ≡ true → (units_of text ≡ Ok units) × NoSpace text
+units-spelled [] text spells small = rw spells (refl, tt)
+units-spelled (unit ∷ units) text spells small =
+    let parts = both (nat_le unit 65535) (list_all (λ u. nat_le u 65535) units) small in
+    let rest = units-spelled units spells.1 spells.4 parts.1 in
+    rw spells.2 (
+      unit-spelled unit spells.0 spells.1 spells.3 (at_most unit 65535 parts.0) ∙ ap (onto unit) rest.0,
+      Lacks-append 32 spells.0 spells.1 (NoSpace-spelled_unit unit spells.0 spells.3) rest.1,
+    )
+
+text_of-spelled : (units text : List ℕ) → units_of text ≡ Ok units → text_of (61 ∷ text) ≡ Ok units
+unfolding text_of
+text_of-spelled units text is = is
+
+pub text_at-spelled : (units text rest : List ℕ) → SpellsUnits units text → list_all (λ unit. nat_le unit 65535) units ≡ true → EndsWord rest
+    → text_at (32 ∷ 61 ∷ (text ++ rest)) ≡ Ok (units, rest)
+unfolding text_at
+text_at-spelled units text rest spells small ends =
+    let read = units-spelled units text spells small in
+    rw (field_at-again (61 ∷ text) rest (refl, read.1) ends, text_of-spelled units text read.0) refl
 
 -- ---- strings of bytes
 

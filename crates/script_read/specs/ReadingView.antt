@@ -6,7 +6,7 @@ use Rattle.fsa_model.specs.Setup.{client_of}
 use Rattle.fsa_model.specs.Script.{Reading, takes_pairs, next_number}
 use Rattle.script_read.specs.declared.reading.Reading.{Reading as ReadReading}
 use Rattle.script_read.specs.declared.fault.LineFault.{LineFault}
-use Rattle.script_read.specs.Gives.{Gives}
+use Rattle.script_read.specs.ReadsAs.{ReadsAs}
 use Rattle.script_read.specs.StageView.{stage_of}
 
 abbrev pub reading_of : ReadReading → Reading
@@ -42,6 +42,6 @@ pub record HasRoom (r : ReadReading) : Type 0 where
 
 -- a line was taken as the definition takes it
 pub record Takes (old new : ReadReading) (result : Result (Unit {0}) LineFault) (defined : Result Reading Kind) : Type 0 where
-  pub gives : Gives (λ _. reading_of new) result defined
+  pub gives : ReadsAs (λ _. reading_of new) result defined
   pub kept : OnOk result (IsKept new)
   pub room : OnOk result (TakesRoom old new)

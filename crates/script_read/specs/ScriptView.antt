@@ -5,7 +5,7 @@ use Rattle.fsa_model.specs.Setup.{Script, setup_of}
 use Rattle.script_read.specs.declared.script.Script.{Script as ReadScript}
 use Rattle.script_read.specs.declared.fault.ReadFault.{ReadFault}
 use Rattle.script_read.specs.declared.fault.ReadFault.TheVariants as read
-use Rattle.script_read.specs.Gives.{FailsScript, kind_of}
+use Rattle.script_read.specs.ReadsAs.{FailsScript, kind_of}
 
 -- the setup and the calls, without the room of their lists
 abbrev pub contents : ReadScript → Script

@@ -2,8 +2,8 @@
 
 ghost use Rattle.std.specs.Prelude.{◌≡◌, ℕ, suc, ◌==◌, ◌+◌, ◌<◌, ◌≤◌, IfOk, IfErr, length, count_by, min};
 ghost use Rattle.fsa_types.specs.BoundedList.{full};
-ghost use Rattle.fsa_model.specs.Requests.{sid_of, owner_at, ace_with, ace_of, entry_of, after_entry, ace_onto, aces_of, most_aces, dacl_of, dacl_at};
-ghost use Rattle.script_read.specs.Gives.{Gives, Fails};
+ghost use Rattle.fsa_model.specs.InformationLines.{sid_of, owner_at, ace_with, ace_of, entry_of, after_entry, ace_onto, aces_of, most_aces, dacl_of, dacl_at};
+ghost use Rattle.script_read.specs.ReadsAs.{ReadsAs, Fails};
 
 use crate::fault::{LineFault, SYNTAX};
 use crate::number::number_of;
@@ -13,7 +13,7 @@ use std::alloc::Global;
 
 // The SID that a word writes.
 fn sid_of(word: &[u8]) -> Result<u32, LineFault>
-    ensures { Gives (λ sid. sid) result (sid_of word.now) }
+    ensures { ReadsAs (λ sid. sid) result (sid_of word.now) }
 {
     match number_of(10, u64::from(u32::MAX), word) {
         Some(sid) => Ok(sid as u32),
@@ -22,9 +22,9 @@ fn sid_of(word: &[u8]) -> Result<u32, LineFault>
 }
 
 /// The owner at the front, `None` where he's kept, and what follows it.
-#[tactic(auto, unfolding(fsa_model::specs::Requests::owner_at))]
+#[tactic(auto, unfolding(fsa_model::specs::InformationLines::owner_at))]
 pub fn owner_at(bytes: &[u8]) -> Result<(Option<u32>, &[u8]), LineFault>
-    ensures { Gives (λ owner. (owner.0, owner.1.now)) result (owner_at bytes.now) }
+    ensures { ReadsAs (λ owner. (owner.0, owner.1.now)) result (owner_at bytes.now) }
 {
     let (word, rest) = field_at(bytes)?;
     if word == b"keep".as_slice() {
@@ -35,9 +35,9 @@ pub fn owner_at(bytes: &[u8]) -> Result<(Option<u32>, &[u8]), LineFault>
 }
 
 // The entry that a SID, `:` and a mask write.
-#[tactic(auto, unfolding(fsa_model::specs::Requests::ace_with))]
+#[tactic(auto, unfolding(fsa_model::specs::InformationLines::ace_with))]
 fn ace_with(allow: bool, bytes: &[u8]) -> Result<Ace, LineFault>
-    ensures { Gives (λ ace. ace) result (ace_with allow bytes.now) }
+    ensures { ReadsAs (λ ace. ace) result (ace_with allow bytes.now) }
 {
     let (word, _) = bytes.split_at(end_before(b':', bytes));
     let sid = sid_of(word)?;
@@ -46,9 +46,9 @@ fn ace_with(allow: bool, bytes: &[u8]) -> Result<Ace, LineFault>
 }
 
 // The entry that these bytes write: `+` allows, and `-` denies.
-#[tactic(auto, unfolding(fsa_model::specs::Requests::ace_of))]
+#[tactic(auto, unfolding(fsa_model::specs::InformationLines::ace_of))]
 fn ace_of(bytes: &[u8]) -> Result<Ace, LineFault>
-    ensures { Gives (λ ace. ace) result (ace_of bytes.now) }
+    ensures { ReadsAs (λ ace. ace) result (ace_of bytes.now) }
 {
     match bytes {
         [b'+', rest @ ..] => ace_with(true, rest),
@@ -101,7 +101,7 @@ fn room_for(bytes: &[u8]) -> u32
 
 // Entries up to the end of the word, each behind a comma, 32 at most; the list has no more room.
 fn aces_of(alloc: Global, bytes: &[u8]) -> Result<Dacl, LineFault>
-    ensures aces { Gives (λ dacl. dacl.items) result (aces_of most_aces bytes.now) }
+    ensures aces { ReadsAs (λ dacl. dacl.items) result (aces_of most_aces bytes.now) }
     ensures full { IfOk result (λ dacl. full dacl.items ≡ dacl) }
 {
     let mut dacl = Dacl::with_room(alloc, room_for(bytes))?;
@@ -118,9 +118,9 @@ fn aces_of(alloc: Global, bytes: &[u8]) -> Result<Dacl, LineFault>
 }
 
 // What a word says of the access list.
-#[tactic(auto, unfolding(fsa_model::specs::Requests::dacl_of))]
+#[tactic(auto, unfolding(fsa_model::specs::InformationLines::dacl_of))]
 fn dacl_of(alloc: Global, word: &[u8]) -> Result<DaclChange, LineFault>
-    ensures { Gives (λ change. change) result (dacl_of word.now) }
+    ensures { ReadsAs (λ change. change) result (dacl_of word.now) }
 {
     if word == b"keep".as_slice() {
         Ok(DaclChange::Keep)
@@ -135,9 +135,9 @@ fn dacl_of(alloc: Global, word: &[u8]) -> Result<DaclChange, LineFault>
 }
 
 /// What becomes of the access list, at the front, and what follows it.
-#[tactic(auto, unfolding(fsa_model::specs::Requests::dacl_at))]
+#[tactic(auto, unfolding(fsa_model::specs::InformationLines::dacl_at))]
 pub fn dacl_at(alloc: Global, bytes: &[u8]) -> Result<(DaclChange, &[u8]), LineFault>
-    ensures { Gives (λ dacl. (dacl.0, dacl.1.now)) result (dacl_at bytes.now) }
+    ensures { ReadsAs (λ dacl. (dacl.0, dacl.1.now)) result (dacl_at bytes.now) }
 {
     let (word, rest) = field_at(bytes)?;
     let change = dacl_of(alloc, word)?;

@@ -5,12 +5,16 @@ ghost use Rattle.fsa_model.specs.Fault.{Fault};
 ghost use Rattle.fsa_model.specs.Lines.{Line, line_of};
 ghost use Rattle.fsa_model.specs.Script.{script_of};
 ghost use Rattle.fsa_model.specs.Soundness.{IsLeast};
+ghost use Rattle.fsa_model.specs.Spelled.{Spells};
 ghost use Rattle.fsa_model.specs.Spelling.{is_line, line_text};
 
-/// The text of a line is read as that line, and no text is that of two lines.
+/// The text of a line is read as that line, no text is that of two lines, and just those bytes are read
+/// as a line that write it: its text, but for units of a path that are written as escapes.
 pub fn one_reading()
     ensures again { (line : Line) → is_line line ≡ true → line_of (line_text line) ≡ Ok line }
     ensures only { (left right : Line) → is_line left ≡ true → is_line right ≡ true → line_text left ≡ line_text right → left ≡ right }
+    ensures spelled { (bytes : List ℕ) (line : Line) → is_line line ≡ true → Spells line bytes → line_of bytes ≡ Ok line }
+    ensures back { (bytes : List ℕ) (line : Line) → line_of bytes ≡ Ok line → (is_line line ≡ true) × Spells line bytes }
 {}
 
 /// The faulty line is the least that is not sound: some script begins with the lines before it, and

@@ -23,18 +23,22 @@
 //! or a `create` with DELETE_ON_CLOSE, is `Syntax`. So is a place above 65,535, an access list of
 //! more than 32 entries, and the 65th request.
 //!
-//! To add a verb: a definition of its fields and a case of `what_of` in the definitions of requests,
-//! and here a function of the same name and its branch of `what_of`.
+//! To add a verb: in the definitions of the lines of its group what its fields say and how they are
+//! written, and the verb itself in that group's `.._line`; here a function of the same name and its branch.
 #![tactic(auto)]
 
+mod byte_lines;
+mod clock_lines;
 mod dacl;
 #[cfg(test)]
 mod dacl_tests;
 mod fault;
+mod information_lines;
 mod law;
 mod line;
 mod names;
 mod number;
+mod open_lines;
 mod pairs;
 mod read;
 mod reading;

@@ -3,7 +3,7 @@
 ghost use Rattle.std.specs.Prelude.{◌≡◌, ◌≤◌, length};
 ghost use Rattle.fsa_model.specs.Words.{onto};
 ghost use Rattle.fsa_model.specs.Lines.{pair_at, sids_at, client_at, request_of, line_of};
-ghost use Rattle.script_read.specs.Gives.{Gives};
+ghost use Rattle.script_read.specs.ReadsAs.{ReadsAs};
 ghost use Rattle.script_read.specs.LineView.{line_view};
 
 use crate::fault::{LineFault, SYNTAX};
@@ -35,7 +35,7 @@ pub enum Line<'a> {
 // The two masks of a pair.
 #[tactic(auto, unfolding(fsa_model::specs::Lines::pair_at))]
 fn pair_at(bytes: &[u8]) -> Result<Line<'_>, LineFault>
-    ensures { Gives line_view result (pair_at bytes.now) }
+    ensures { ReadsAs line_view result (pair_at bytes.now) }
 {
     let (source, rest) = mask_at(bytes)?;
     let (target, rest) = mask_at(rest)?;
@@ -45,7 +45,7 @@ fn pair_at(bytes: &[u8]) -> Result<Line<'_>, LineFault>
 
 // SIDs up to the end of the line, behind the first.
 fn sids_behind(alloc: Global, first: u32, bytes: &[u8]) -> Result<SidList, LineFault>
-    ensures { Gives (λ sids. sids.items) result (onto first (sids_at 15 bytes.now)) }
+    ensures { ReadsAs (λ sids. sids.items) result (onto first (sids_at 15 bytes.now)) }
 {
     let mut sids = SidList::with_room(alloc, MOST_SIDS)?;
     sids.push(first);
@@ -64,7 +64,7 @@ fn sids_behind(alloc: Global, first: u32, bytes: &[u8]) -> Result<SidList, LineF
 // The name and the SIDs of a client.
 #[tactic(auto, unfolding(fsa_model::specs::Lines::client_at))]
 fn client_at(alloc: Global, bytes: &[u8]) -> Result<Line<'_>, LineFault>
-    ensures { Gives line_view result (client_at bytes.now) }
+    ensures { ReadsAs line_view result (client_at bytes.now) }
 {
     let (name, rest) = field_at(bytes)?;
     if !is_name(name) {
@@ -78,7 +78,7 @@ fn client_at(alloc: Global, bytes: &[u8]) -> Result<Line<'_>, LineFault>
 // The client's name, the number and the verb of a request, and its fields.
 #[tactic(auto, unfolding(fsa_model::specs::Lines::request_of))]
 fn request_of(alloc: Global, bytes: &[u8]) -> Result<Line<'_>, LineFault>
-    ensures { Gives line_view result (request_of bytes.now) }
+    ensures { ReadsAs line_view result (request_of bytes.now) }
 {
     let (name, rest) = split_word(bytes);
     if !is_name(name) {
@@ -93,7 +93,7 @@ fn request_of(alloc: Global, bytes: &[u8]) -> Result<Line<'_>, LineFault>
 /// What the bytes of a line, without its line feed, say.
 #[tactic(auto, unfolding(fsa_model::specs::Lines::line_of))]
 pub fn line_of(alloc: Global, bytes: &[u8]) -> Result<Line<'_>, LineFault>
-    ensures { Gives line_view result (line_of bytes.now) }
+    ensures { ReadsAs line_view result (line_of bytes.now) }
 {
     if bytes == b"fsa 1".as_slice() {
         Ok(Line::Version)

@@ -3,7 +3,7 @@
 ghost use Rattle.std.specs.Prelude.{◌≡◌, ◌==◌, ◌+◌, ◌-◌, ◌^◌, ◌<◌, ◌≤◌, ◌∷◌, [], Result, IfOk, IfSome, MatchOption, length, position, count_by};
 ghost use Rattle.fsa_model.specs.Fault.{Kind};
 ghost use Rattle.fsa_model.specs.Script.{Reading as ReadingModel, nothing_read, line_after, end_after, lines_from, pieces, script_of};
-ghost use Rattle.script_read.specs.Gives.{Fails, FailsScript};
+ghost use Rattle.script_read.specs.ReadsAs.{Fails, FailsScript};
 ghost use Rattle.script_read.specs.ReadingView.{reading_of, IsKept, HasRoom, Takes};
 ghost use Rattle.script_read.specs.ScriptView.{GivesScript, FailsLine};
 

@@ -3,7 +3,7 @@
 ghost use Rattle.std.specs.Prelude.{◌≡◌, ℕ, ◌<◌, ◌≤◌, [], ◌∷◌, Some, None, if◌then◌else◌, IfOk, IfErr, length};
 ghost use Rattle.fsa_model.specs.Numbers.{digit_of};
 ghost use Rattle.fsa_model.specs.Words.{upper_digit_of, are_upper_digits, unit_of_digits, is_plain, onto, units_of, escaped_units, text_of, text_at, bytes_of, string_of, string_at};
-ghost use Rattle.script_read.specs.Gives.{Gives, Fails};
+ghost use Rattle.script_read.specs.ReadsAs.{ReadsAs, Fails};
 
 use crate::fault::{LineFault, SYNTAX};
 use crate::number::digit_of;
@@ -80,7 +80,7 @@ fn unit_at(bytes: &[u8]) -> Result<(u16, &[u8]), LineFault>
 
 // The units that these bytes write.
 fn units_of(alloc: Global, bytes: &[u8]) -> Result<Vec<u16>, LineFault>
-    ensures { Gives (λ units. units.items) result (units_of bytes.now) }
+    ensures { ReadsAs (λ units. units.items) result (units_of bytes.now) }
 {
     let mut units = Vec::with_capacity(alloc, bytes.len())?;
     let mut rest = bytes;
@@ -95,7 +95,7 @@ fn units_of(alloc: Global, bytes: &[u8]) -> Result<Vec<u16>, LineFault>
 // The text that a word writes.
 #[tactic(auto, unfolding(fsa_model::specs::Words::text_of))]
 fn text_of(alloc: Global, word: &[u8]) -> Result<Name, LineFault>
-    ensures { Gives (λ name. name) result (text_of word.now) }
+    ensures { ReadsAs (λ name. name) result (text_of word.now) }
 {
     let Some((first, bytes)) = word.split_first() else {
         return Err(SYNTAX);
@@ -110,7 +110,7 @@ fn text_of(alloc: Global, word: &[u8]) -> Result<Name, LineFault>
 /// The text at the front, and what follows it.
 #[tactic(auto, unfolding(fsa_model::specs::Words::text_at))]
 pub fn text_at(alloc: Global, bytes: &[u8]) -> Result<(Name, &[u8]), LineFault>
-    ensures { Gives (λ text. (text.0, text.1.now)) result (text_at bytes.now) }
+    ensures { ReadsAs (λ text. (text.0, text.1.now)) result (text_at bytes.now) }
 {
     let (word, rest) = field_at(bytes)?;
     let name = text_of(alloc, word)?;
@@ -137,7 +137,7 @@ fn byte_at(digits: &[u8]) -> Result<(u8, &[u8]), LineFault>
 
 // The bytes that these digits write, two a byte.
 fn bytes_of(alloc: Global, digits: &[u8]) -> Result<Vec<u8>, LineFault>
-    ensures { Gives (λ bytes. bytes.items) result (bytes_of digits.now) }
+    ensures { ReadsAs (λ bytes. bytes.items) result (bytes_of digits.now) }
 {
     let mut bytes = Vec::with_capacity(alloc, digits.len() / 2)?;
     let mut rest = digits;
@@ -152,7 +152,7 @@ fn bytes_of(alloc: Global, digits: &[u8]) -> Result<Vec<u8>, LineFault>
 // The string of bytes that a word writes.
 #[tactic(auto, unfolding(fsa_model::specs::Words::string_of))]
 fn string_of(alloc: Global, word: &[u8]) -> Result<Bytes, LineFault>
-    ensures { Gives (λ string. string) result (string_of word.now) }
+    ensures { ReadsAs (λ string. string) result (string_of word.now) }
 {
     let Some((first, digits)) = word.split_first() else {
         return Err(SYNTAX);
@@ -167,7 +167,7 @@ fn string_of(alloc: Global, word: &[u8]) -> Result<Bytes, LineFault>
 /// The string of bytes at the front, 16,384 bytes at most, and what follows it.
 #[tactic(auto, unfolding(fsa_model::specs::Words::string_at))]
 pub fn string_at(alloc: Global, bytes: &[u8]) -> Result<(Bytes, &[u8]), LineFault>
-    ensures { Gives (λ string. (string.0, string.1.now)) result (string_at bytes.now) }
+    ensures { ReadsAs (λ string. (string.0, string.1.now)) result (string_at bytes.now) }
 {
     let (word, rest) = field_at(bytes)?;
     let string = string_of(alloc, word)?;

@@ -2,9 +2,8 @@
 
 ghost use Rattle.std.specs.Prelude.{◌≡◌, ◌==◌, ◌≤◌, ◌^◌, ◌<◌, ◌+◌, IfOk, OnOk, IfErr, IfSome, false, length, drop, position};
 ghost use Rattle.std.specs.List.{position_or_len, list_all};
-ghost use Rattle.fsa_model.specs.Words.{field_at, number_at, mask_of, mask_at, word_of, after_word, is_name, is_name_byte};
-ghost use Rattle.fsa_model.specs.Requests.{most_id};
-ghost use Rattle.script_read.specs.Gives.{Gives};
+ghost use Rattle.fsa_model.specs.Words.{field_at, number_at, mask_of, mask_at, word_of, after_word, is_name, is_name_byte, most_id};
+ghost use Rattle.script_read.specs.ReadsAs.{ReadsAs};
 
 use crate::fault::{LineFault, SYNTAX, ScriptKind};
 use crate::number::number_of;
@@ -51,7 +50,7 @@ pub fn split_word(bytes: &[u8]) -> (&[u8], &[u8])
 /// The field at the front, and what follows it.
 #[tactic(auto, unfolding(fsa_model::specs::Words::field_at))]
 pub fn field_at(bytes: &[u8]) -> Result<(&[u8], &[u8]), LineFault>
-    ensures field { Gives (λ field. (field.0.now, field.1.now)) result (field_at bytes.now) }
+    ensures field { ReadsAs (λ field. (field.0.now, field.1.now)) result (field_at bytes.now) }
     ensures shorter { IfOk result (λ field. length field.1.now < length bytes.now) }
 {
     let Some((first, rest)) = bytes.split_first() else {
@@ -66,7 +65,7 @@ pub fn field_at(bytes: &[u8]) -> Result<(&[u8], &[u8]), LineFault>
 /// The decimal number at the front, `most` at most, and what follows it.
 #[tactic(auto, unfolding(fsa_model::specs::Words::number_at))]
 pub fn number_at(most: u64, bytes: &[u8]) -> Result<(u64, &[u8]), LineFault>
-    ensures number { Gives (λ number. (number.0, number.1.now)) result (number_at most bytes.now) }
+    ensures number { ReadsAs (λ number. (number.0, number.1.now)) result (number_at most bytes.now) }
     ensures most { IfOk result (λ number. number.0 ≤ most) }
     ensures shorter { IfOk result (λ number. length number.1.now < length bytes.now) }
 {
@@ -79,7 +78,7 @@ pub fn number_at(most: u64, bytes: &[u8]) -> Result<(u64, &[u8]), LineFault>
 
 /// The number of a call or a SID at the front, and what follows it.
 pub fn id_at(bytes: &[u8]) -> Result<(u32, &[u8]), LineFault>
-    ensures number { Gives (λ number. (number.0, number.1.now)) result (number_at most_id bytes.now) }
+    ensures number { ReadsAs (λ number. (number.0, number.1.now)) result (number_at most_id bytes.now) }
     ensures shorter { IfOk result (λ number. length number.1.now < length bytes.now) }
 {
     let (number, rest) = number_at(u64::from(u32::MAX), bytes)?;
@@ -89,7 +88,7 @@ pub fn id_at(bytes: &[u8]) -> Result<(u32, &[u8]), LineFault>
 /// The mask that a word writes.
 #[tactic(auto, unfolding(fsa_model::specs::Words::mask_of))]
 pub fn mask_of(word: &[u8]) -> Result<u32, LineFault>
-    ensures { Gives (λ mask. mask) result (mask_of word.now) }
+    ensures { ReadsAs (λ mask. mask) result (mask_of word.now) }
 {
     let [b'0', b'x', digits @ ..] = word else {
         return Err(SYNTAX);
@@ -103,7 +102,7 @@ pub fn mask_of(word: &[u8]) -> Result<u32, LineFault>
 /// The mask at the front, and what follows it.
 #[tactic(auto, unfolding(fsa_model::specs::Words::mask_at))]
 pub fn mask_at(bytes: &[u8]) -> Result<(u32, &[u8]), LineFault>
-    ensures { Gives (λ mask. (mask.0, mask.1.now)) result (mask_at bytes.now) }
+    ensures { ReadsAs (λ mask. (mask.0, mask.1.now)) result (mask_at bytes.now) }
 {
     let (word, rest) = field_at(bytes)?;
     let mask = mask_of(word)?;

@@ -1,5 +1,5 @@
 -- What a sink over bytes in memory has, and what one call makes of it. No public standard speaks of this.
-use Rattle.std.specs.Prelude.{ℕ, ◌-◌, ◌==◌, nat_lt, nat_le, Bool, ◌&&◌, ◌||◌, min, List, [], ◌++◌, length, take}
+use Rattle.std.specs.Prelude.{ℕ, ◌-◌, ◌==◌, nat_lt, nat_le, Bool, ◌&&◌, ◌||◌, min, List, [], ◌++◌, length, take, if◌then◌else◌}
 use Rattle.std.specs.List.{list_any}
 use Rattle.wire_io.specs.Faults.{one_more}
 
@@ -10,10 +10,12 @@ pub record SinkState : Type 0 where
   pub failing : List ℕ  -- the numbers of the calls that fail
   pub calls : ℕ  -- how many calls were made
   pub faults : ℕ  -- how many of them failed
+  pub empty_puts : ℕ  -- how many calls had an empty piece
+  pub since_fault : ℕ  -- how many calls were made since the last that failed
 
 -- a new sink: nothing was written and no call was made
 abbrev pub begun : ℕ → ℕ → List ℕ → SinkState
-begun room piece failing = record { written = []; room = room; piece = piece; failing = failing; calls = 0; faults = 0 }
+begun room piece failing = record { written = []; room = room; piece = piece; failing = failing; calls = 0; faults = 0; empty_puts = 0; since_fault = 0 }
 
 -- the room is full
 abbrev pub is_full : SinkState → Bool
@@ -27,10 +29,24 @@ fails_next sink count = list_any (λ number. number == one_more sink.calls) sink
 abbrev pub count_taken : SinkState → ℕ → ℕ
 count_taken sink count = min (min count sink.piece) (sink.room - length sink.written)
 
+-- the count of empty pieces after a piece of this length
+abbrev pub empty_after : ℕ → ℕ → ℕ
+empty_after count length = if length == 0 then one_more count else count
+
 -- the first n bytes of the piece were written
 abbrev pub after_put : SinkState → List ℕ → ℕ → SinkState
-after_put sink piece n = record sink { written = sink.written ++ take n piece; calls = one_more sink.calls }
+after_put sink piece n = record sink {
+  written = sink.written ++ take n piece;
+  calls = one_more sink.calls;
+  empty_puts = empty_after sink.empty_puts (length piece);
+  since_fault = one_more sink.since_fault;
+}
 
--- the call failed
-abbrev pub after_fault : SinkState → SinkState
-after_fault sink = record sink { calls = one_more sink.calls; faults = one_more sink.faults }
+-- the call, of a piece of this length, failed
+abbrev pub after_fault : SinkState → ℕ → SinkState
+after_fault sink count = record sink {
+  calls = one_more sink.calls;
+  faults = one_more sink.faults;
+  empty_puts = empty_after sink.empty_puts count;
+  since_fault = 0;
+}

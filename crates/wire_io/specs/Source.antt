@@ -1,5 +1,5 @@
 -- What is read of a source that tells its bytes. No public standard speaks of this.
-use Rattle.std.specs.Prelude.{◌≡◌, ℕ, ◌<◌, ◌≤◌, List, [], ◌++◌, length, take, Option, Some, None, Result, Ok, Err}
+use Rattle.std.specs.Prelude.{◌≡◌, ℕ, ◌+◌, ◌<◌, ◌≤◌, ◌⊎◌, List, [], ◌++◌, length, take, Option, Some, None, Result, Ok, Err}
 use Rattle.wire_io.specs.declared.faults.Failed.{Failed}
 
 -- these bytes were read, and the others are left
@@ -31,3 +31,24 @@ ReadsWhole (Some all) new bytes = (all ≡ bytes) × (new ≡ Some [])
 abbrev pub HasMoreThan : ℕ → Option (List ℕ) → Type 0
 HasMoreThan limit None = Unit {0}
 HasMoreThan limit (Some all) = limit < length all
+
+-- how a source was asked; one that counts nothing keeps each at 0
+pub record Taken : Type 0 where
+  pub given : ℕ  -- how many bytes were given
+  pub stops : ℕ  -- how many takes failed or met the end
+  pub since : ℕ  -- how many takes were made since the last that failed or met the end
+
+abbrev pub not_counted : Taken
+not_counted = record { given = 0; stops = 0; since = 0 }
+
+-- how one take into a buffer of this length is counted
+abbrev pub CountsTake : Taken → Taken → Result ℕ Failed → ℕ → Type 0
+CountsTake old new (Ok n) room =
+    (new.given ≤ old.given + n) × (new.stops ≤ old.stops + 1) × (0 < n → new.stops ≤ old.stops) × (n ≡ 0 → 0 < room → new.since ≡ 0)
+CountsTake old new (Err failed) room = (new.given ≤ old.given + room) × (new.stops ≤ old.stops + 1) × (new.since ≡ 0)
+
+-- at most so many bytes were given, and no take failed or met the end, or the last one alone did
+pub record TakesLittle (most : ℕ) (old new : Taken) : Type 0 where
+  pub given : new.given ≤ old.given + most
+  pub once : new.stops ≤ old.stops + 1
+  pub last : (new.stops ≤ old.stops) ⊎ (new.since ≡ 0)

@@ -1,8 +1,8 @@
 //! A sink over bytes in memory, with room for so many of them, whose chosen calls fail.
 ghost use Rattle.std.specs.Prelude.{◌≡◌, ◌≢◌, ◌+◌, ◌≤◌, ◌<◌, ◌↔◌, [], Some, length, IfOk, OnErr, IsErr, IsTrue};
 ghost use Rattle.wire_io.specs.Faults.{HasCause};
-ghost use Rattle.wire_io.specs.Sink.{Puts};
-ghost use Rattle.wire_io.specs.MemorySink.{begun, fails_next, count_taken, after_put, after_fault};
+ghost use Rattle.wire_io.specs.Sink.{CountsPut, Puts};
+ghost use Rattle.wire_io.specs.MemorySink.{begun, fails_next, count_taken, empty_after, after_put, after_fault};
 
 use super::faults::{Failed, one_more};
 use super::sinks::Sink;
@@ -21,6 +21,8 @@ pub struct MemorySink {
     failing: Vec<u64>,
     calls: u64,
     faults: u64,
+    empty_puts: u64,
+    since_fault: u64,
 }
 
 impl Model for MemorySink {
@@ -29,7 +31,7 @@ impl Model for MemorySink {
 
     ghost Value = { SinkState };
 
-    ghost view = { λ s. record { written = s.bytes.items; room = s.room; piece = s.piece; failing = s.failing.items; calls = s.calls; faults = s.faults } };
+    ghost view = { λ s. record { written = s.bytes.items; room = s.room; piece = s.piece; failing = s.failing.items; calls = s.calls; faults = s.faults; empty_puts = s.empty_puts; since_fault = s.since_fault } };
 
     ghost invariant = { λ s. (vec_len s.bytes ≤ s.room) × (s.room ≤ vec_capacity s.bytes) × (0 < s.piece) };
 }
@@ -55,6 +57,8 @@ impl MemorySink {
             failing,
             calls: 0,
             faults: 0,
+            empty_puts: 0,
+            since_fault: 0,
         })
     }
 
@@ -65,12 +69,23 @@ impl MemorySink {
         &self.bytes
     }
 
-    /// Counts a call that fails.
-    fn fault(&mut self) -> Failed
-        ensures { self.new ≡ after_fault self.old }
+    /// Counts an empty piece.
+    fn count_piece(&mut self, length: usize)
+        ensures { self.new ≡ record self.old { empty_puts = empty_after self.old.empty_puts length } }
     {
+        if length == 0 {
+            self.empty_puts = one_more(self.empty_puts);
+        }
+    }
+
+    /// Counts a call that fails, of a piece of this length.
+    fn fault(&mut self, length: usize) -> Failed
+        ensures { self.new ≡ after_fault self.old length }
+    {
+        self.count_piece(length);
         self.calls = one_more(self.calls);
         self.faults = one_more(self.faults);
+        self.since_fault = 0;
         Failed
     }
 }
@@ -78,7 +93,7 @@ impl MemorySink {
 impl Sink for MemorySink {
     ghost use Rattle.std.specs.Prelude.{Some};
 
-    ghost written = { λ s. Some s.written };
+    ghost written = { λ s. record { bytes = Some s.written; puts = s.calls; empty_puts = s.empty_puts; since_fault = s.since_fault } };
 
     ghost faults = { λ s. s.faults };
 
@@ -86,6 +101,7 @@ impl Sink for MemorySink {
         ensures bound { IfOk result (λ n. n ≤ length bytes.now) }
         ensures moves { IfOk result (λ n. 0 < length bytes.now → 0 < n) }
         ensures bytes { Puts (Some self.old.written) (Some self.new.written) result bytes.now }
+        ensures counted { CountsPut (record { bytes = Some self.old.written; puts = self.old.calls; empty_puts = self.old.empty_puts; since_fault = self.old.since_fault }) (record { bytes = Some self.new.written; puts = self.new.calls; empty_puts = self.new.empty_puts; since_fault = self.new.since_fault }) result bytes.now }
         ensures cause { HasCause self.old.faults self.new.faults result }
 
         // It fails exactly where its call is listed or the room is full, and else takes all that
@@ -93,7 +109,7 @@ impl Sink for MemorySink {
         ensures fails { IsErr result ↔ IsTrue (fails_next self.old (length bytes.now)) }
         ensures count { IfOk result (λ n. n ≡ count_taken self.old (length bytes.now)) }
         ensures ok { IfOk result (λ n. self.new ≡ after_put self.old bytes.now n) }
-        ensures err { OnErr result (self.new ≡ after_fault self.old) }
+        ensures err { OnErr result (self.new ≡ after_fault self.old (length bytes.now)) }
 
         // With no failing call the count never rises while all that is put fits the room.
         ensures never { self.old.failing ≡ [] → length self.old.written + length bytes.now ≤ self.old.room
@@ -101,17 +117,19 @@ impl Sink for MemorySink {
     {
         let number = one_more(self.calls);
         if self.failing.contains(&number) {
-            return Err(self.fault());
+            return Err(self.fault(bytes.len()));
         }
         let left = self.room - self.bytes.len();
         if !bytes.is_empty() && left == 0 {
-            return Err(self.fault());
+            return Err(self.fault(bytes.len()));
         }
         let count = bytes.len().min(self.piece).min(left);
         let Ok(()) = self.bytes.extend_from_slice(&bytes[..count]) else {
             unreachable!()
         };
+        self.count_piece(bytes.len());
         self.calls = number;
+        self.since_fault = one_more(self.since_fault);
         Ok(count)
     }
 }

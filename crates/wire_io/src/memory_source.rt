@@ -1,8 +1,8 @@
 //! A source over bytes in memory, whose chosen calls fail.
-ghost use Rattle.std.specs.Prelude.{◌≡◌, ◌≢◌, ◌+◌, ◌≤◌, ◌↔◌, [], length, IfOk, OnOk, OnErr, IsErr, IsTrue};
-ghost use Rattle.wire_io.specs.Faults.{HasCause};
-ghost use Rattle.wire_io.specs.Source.{Takes};
-ghost use Rattle.wire_io.specs.MemorySource.{begun, fails_next, count_given, after_take, after_fault};
+ghost use Rattle.std.specs.Prelude.{◌≡◌, ◌≢◌, ◌+◌, ◌≤◌, ◌↔◌, [], length, IfOk, OnOk, OnErr, IsErr, IsTrue, if◌then◌else◌};
+ghost use Rattle.wire_io.specs.Faults.{HasCause, one_more};
+ghost use Rattle.wire_io.specs.Source.{Takes, CountsTake};
+ghost use Rattle.wire_io.specs.MemorySource.{begun, met_end, fails_next, count_given, after_take, after_fault};
 
 use super::faults::{Failed, one_more};
 use super::sources::Source;
@@ -20,6 +20,8 @@ pub struct MemorySource {
     failing: Vec<u64>,
     calls: u64,
     faults: u64,
+    stops: u64,
+    since: u64,
 }
 
 impl Model for MemorySource {
@@ -28,7 +30,7 @@ impl Model for MemorySource {
 
     ghost Value = { SourceState };
 
-    ghost view = { λ s. record { left = drop s.place s.bytes.items; piece = s.piece; failing = s.failing.items; calls = s.calls; faults = s.faults } };
+    ghost view = { λ s. record { left = drop s.place s.bytes.items; piece = s.piece; failing = s.failing.items; calls = s.calls; faults = s.faults; given = s.place; stops = s.stops; since = s.since } };
 
     ghost invariant = { λ s. (s.place ≤ length s.bytes.items) × (0 < s.piece) };
 }
@@ -53,7 +55,21 @@ impl MemorySource {
             failing,
             calls: 0,
             faults: 0,
+            stops: 0,
+            since: 0,
         })
+    }
+
+    /// Counts whether a call that gave `count` bytes into a buffer of this length met the end.
+    fn count_take(&mut self, count: usize, buffer: usize)
+        ensures { self.new ≡ record self.old { stops = if met_end count buffer then one_more self.old.stops else self.old.stops; since = if met_end count buffer then 0 else one_more self.old.since } }
+    {
+        if count == 0 && buffer > 0 {
+            self.stops = one_more(self.stops);
+            self.since = 0;
+        } else {
+            self.since = one_more(self.since);
+        }
     }
 }
 
@@ -66,17 +82,20 @@ impl Source for MemorySource {
 
     ghost takes = { λ s. s.calls };
 
+    ghost taken = { λ s. record { given = s.given; stops = s.stops; since = s.since } };
+
     fn take(&mut self, buf: &mut [u8]) -> Result<usize, Failed>
         ensures bound { IfOk result (λ n. n ≤ length buf.new) }
         ensures bytes { Takes (Some self.old.left) (Some self.new.left) result buf.new }
         ensures cause { HasCause self.old.faults self.new.faults result }
         ensures counted { self.new.calls ≤ self.old.calls + 1 }
+        ensures taken { CountsTake (record { given = self.old.given; stops = self.old.stops; since = self.old.since }) (record { given = self.new.given; stops = self.new.stops; since = self.new.since }) result (length buf.new) }
 
         // It fails exactly where its call is listed, and else gives all that the piece, the
         // buffer and the rest allow.
         ensures fails { IsErr result ↔ IsTrue (fails_next self.old) }
         ensures count { IfOk result (λ n. n ≡ count_given self.old (length buf.new)) }
-        ensures ok { IfOk result (λ n. self.new ≡ after_take self.old n) }
+        ensures ok { IfOk result (λ n. self.new ≡ after_take self.old n (length buf.new)) }
         ensures err { OnErr result (self.new ≡ after_fault self.old) }
 
         // With no failing call the count never rises.
@@ -85,12 +104,15 @@ impl Source for MemorySource {
         self.calls = one_more(self.calls);
         if self.failing.contains(&self.calls) {
             self.faults = one_more(self.faults);
+            self.stops = one_more(self.stops);
+            self.since = 0;
             return Err(Failed);
         }
         let count = buf.len().min(self.piece).min(self.bytes.len() - self.place);
         let end = self.place + count;
         buf[..count].copy_from_slice(&self.bytes[self.place..end]);
         self.place = end;
+        self.count_take(count, buf.len());
         Ok(count)
     }
 }

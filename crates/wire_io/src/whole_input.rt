@@ -1,7 +1,7 @@
 //! All of a source's bytes, up to a limit.
-ghost use Rattle.std.specs.Prelude.{◌≡◌, ◌≤◌, ◌<◌, ◌+◌, length, vec_len, IfOk, IsErrOf};
-ghost use Rattle.wire_io.specs.Faults.{Rose};
-ghost use Rattle.wire_io.specs.Source.{ReadsWhole, HasMoreThan, HasReadAtMost};
+ghost use Rattle.std.specs.Prelude.{◌≡◌, ◌≤◌, ◌<◌, ◌+◌, length, vec_len, IfOk, OnOk, IsErrOf};
+ghost use Rattle.wire_io.specs.Faults.{FailsLast};
+ghost use Rattle.wire_io.specs.Source.{ReadsWhole, HasMoreThan, HasReadAtMost, TakesLittle};
 ghost use Rattle.wire_io.specs.declared.whole_input.ReadFault.TheVariants.{Failed, NoMemory};
 
 use super::faults::Failed;
@@ -47,7 +47,7 @@ pub fn read_all<S: Source>(
 ) -> Result<Vec<u8>, ReadFault>
     ensures whole { IfOk result (λ bytes. ReadsWhole (S.left source.old) (S.left source.new) bytes.items) }
     ensures few { IfOk result (λ bytes. vec_len bytes ≤ limit) }
-    ensures failed { IsErrOf result ReadFault.Failed → Rose (S.faults source.old) (S.faults source.new) }
+    ensures failed { IsErrOf result ReadFault.Failed → FailsLast (S.faults source.old) (S.faults source.new) (S.taken source.new).since }
     ensures too_many { IsErrOf result ReadFault.TooMany → HasMoreThan limit (S.left source.old) }
 
     // Each take gave a byte at least, but for the last.
@@ -56,7 +56,14 @@ pub fn read_all<S: Source>(
     // At every exit, also after a failure:
     ensures turns { S.takes source.new ≤ S.takes source.old + (limit + 1) }
     ensures read { HasReadAtMost (limit + 1) (S.left source.old) (S.left source.new) }
+    ensures little { TakesLittle (limit + 1) (S.taken source.old) (S.taken source.new) }
     ensures later { S.faults source.old ≤ S.faults source.new }
+
+    // Where all was read the last take met the end, and no take failed unless the answer says so.
+    ensures ended { OnOk result ((S.taken source.new).since ≡ 0) }
+    ensures unfailed { OnOk result (S.faults source.new ≡ S.faults source.old) }
+    ensures unfailed_at_limit { IsErrOf result ReadFault.TooMany → S.faults source.new ≡ S.faults source.old }
+    ensures unfailed_without_memory { IsErrOf result ReadFault.NoMemory → S.faults source.new ≡ S.faults source.old }
 {
     let mut buffer = vec![in alloc; 0u8; PIECE]?;
     read_pieces(alloc, source, limit, &mut buffer)
@@ -72,12 +79,19 @@ fn read_pieces<S: Source>(
     requires { 0 < length buffer.old }
     ensures whole { IfOk result (λ bytes. ReadsWhole (S.left source.old) (S.left source.new) bytes.items) }
     ensures few { IfOk result (λ bytes. vec_len bytes ≤ limit) }
-    ensures failed { IsErrOf result ReadFault.Failed → Rose (S.faults source.old) (S.faults source.new) }
+    ensures failed { IsErrOf result ReadFault.Failed → FailsLast (S.faults source.old) (S.faults source.new) (S.taken source.new).since }
     ensures too_many { IsErrOf result ReadFault.TooMany → HasMoreThan limit (S.left source.old) }
     ensures moves { IfOk result (λ bytes. S.takes source.new ≤ S.takes source.old + (vec_len bytes + 1)) }
     ensures turns { S.takes source.new ≤ S.takes source.old + (limit + 1) }
     ensures read { HasReadAtMost (limit + 1) (S.left source.old) (S.left source.new) }
+    ensures little { TakesLittle (limit + 1) (S.taken source.old) (S.taken source.new) }
     ensures later { S.faults source.old ≤ S.faults source.new }
+
+    // Where all was read the last take met the end, and no take failed unless the answer says so.
+    ensures ended { OnOk result ((S.taken source.new).since ≡ 0) }
+    ensures unfailed { OnOk result (S.faults source.new ≡ S.faults source.old) }
+    ensures unfailed_at_limit { IsErrOf result ReadFault.TooMany → S.faults source.new ≡ S.faults source.old }
+    ensures unfailed_without_memory { IsErrOf result ReadFault.NoMemory → S.faults source.new ≡ S.faults source.old }
 {
     let mut bytes = Vec::new(alloc);
     'takes: for _take in 0..=limit {

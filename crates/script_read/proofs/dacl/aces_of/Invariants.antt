@@ -1,7 +1,7 @@
 use Rattle.std.proofs.Common.{◌≡◌, ◌+◌, ◌-◌, ◌≤◌, length}
 use Rattle.std.specs.Prelude.{◌==◌, min}
 use Rattle.std.specs.List.{count_by}
-use Rattle.fsa_model.specs.Requests.{aces_of}
+use Rattle.fsa_model.specs.InformationLines.{aces_of}
 use Rattle.script_read.proofs.ReadLemmas.{ahead}
 use Rattle.script_read.proofs.dacl.aces_of.Given as goal
 

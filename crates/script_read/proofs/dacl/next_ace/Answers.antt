@@ -2,7 +2,7 @@ use Rattle.std.proofs.Common.{◌≡◌, ◌∙◌, sym, ap, ◌∷◌, false, a
 use Rattle.std.specs.Prelude.{Ok, ◌==◌}
 use Rattle.std.proofs.lemmas.Bool.Decides.{nat_tests}
 use Rattle.std.proofs.lemmas.Result.{err_from_is_err_and}
-use Rattle.fsa_model.specs.Requests.{ace_of, entry_of}
+use Rattle.fsa_model.specs.InformationLines.{ace_of, entry_of}
 use Rattle.script_read.proofs.AceLemmas.{aces-more, aces-bad, aces-other, count-more}
 use Rattle.script_read.proofs.dacl.next_ace.Goals as goal
 

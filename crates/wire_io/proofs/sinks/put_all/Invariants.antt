@@ -1,13 +1,15 @@
-use Rattle.std.proofs.Common.{◌≤◌, ◌-◌, length, take}
-use Rattle.wire_io.specs.Sink.{Appends}
+use Rattle.std.proofs.Common.{◌≡◌, ◌+◌, ◌≤◌, ◌-◌, length, take}
+use Rattle.wire_io.specs.Sink.{Extends}
 use Rattle.wire_io.proofs.sinks.put_all.Given as goal
 
--- the bytes before `done` were written, and the count didn't fall
+-- the bytes before `done` were written, in no more puts than there are of them, none empty, and none failed
 abbrev pub invariant-pieces : goal.invariant-pieces
 invariant-pieces g l = record {
-  written : Appends (g.K.Sink.written l.fn.sink) (g.K.Sink.written l.sink) (take l.done l.bytes);
+  written : Extends (g.K.Sink.written l.fn.sink).bytes (g.K.Sink.written l.sink).bytes (take l.done l.bytes);
   within : l.done ≤ length l.bytes;
-  later : g.K.Sink.faults l.fn.sink ≤ g.K.Sink.faults l.sink;
+  few : (g.K.Sink.written l.sink).puts ≤ (g.K.Sink.written l.fn.sink).puts + l.done;
+  none_empty : (g.K.Sink.written l.sink).empty_puts ≤ (g.K.Sink.written l.fn.sink).empty_puts;
+  later : g.K.Sink.faults l.sink ≡ g.K.Sink.faults l.fn.sink;
 }
 
 abbrev pub decreases-pieces : goal.decreases-pieces
