@@ -1,4 +1,6 @@
+pub mod BodyLaws
 pub mod LimitLaws
 pub mod MayLaws
 pub mod RunLaws
-pub mod TryQuiet
+pub mod TryAlone
+pub mod WholeLaws

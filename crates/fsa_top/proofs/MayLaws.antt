@@ -1,9 +1,12 @@
 -- What a turn asks is there before each call of a script, and stays so after it.
-use Rattle.std.proofs.Common.{◌≡◌, ℕ, ◌+◌, ◌*◌, ◌≤◌, ◌<◌, Bool, true, false, cond, List, [], ◌∷◌, ◌++◌, length, None, IsTrue, All, refl, ap, sym, subst, ◌∙◌, arith, length-append, eq-eqb, eqb-true, ne_eqb, leb-true, le-leb, ltb-true, lt-ltb}
+use Rattle.std.proofs.Common.{◌≡◌, ℕ, ◌+◌, ◌*◌, ◌≤◌, ◌<◌, Bool, true, false, cond, List, [], ◌∷◌, ◌++◌, length, None, IsTrue, All, refl, ap, sym, subst, ◌∙◌, arith, inl, inr, length-append, eq-eqb, eqb-true, ne_eqb, leb-true, le-leb, ltb-true, lt-ltb}
 use Rattle.std.specs.Prelude.{◌==◌, ◌&&◌, nat_lt, nat_le, find, option_map}
 use Rattle.std.proofs.lemmas.Bool.{and_parts}
 use Rattle.std.proofs.lemmas.List.Elements.{All-nil, All-cons, All-head, All-tail}
 use Rattle.fsa_types.specs.declared.request.Call.{Call}
+use Rattle.fsa_types.specs.declared.request.Request.TheVariants.{QueryDir}
+use Rattle.fsa_types.specs.declared.request.What.{What}
+use Rattle.fsa_types.specs.declared.request.What.TheVariants.{Ask, Tick}
 use Rattle.fsa_types.specs.declared.reply.Reply.{Reply}
 use Rattle.fsa_model.specs.Edits.{with_end}
 use Rattle.fsa_model.specs.Lookups.{is_opened_by}
@@ -11,16 +14,15 @@ use Rattle.fsa_model.specs.Setup.{Client, Script}
 use Rattle.fsa_model.specs.Schedule.{AreNumbered, all_calls, calls_of}
 use Rattle.fsa_model.specs.Volume.{Handle, Volume}
 use Rattle.fsa_model.specs.History.{Run}
-use Rattle.fsa_types.specs.Reply.{bytes_of_body, units_of_body}
 use Rattle.fsa_model.specs.Outcome.{Done}
 use Rattle.fsa_model.specs.Turn.{try, turn_number}
-use Rattle.fsa_model.proofs.Quiet.{GivesUpTo, Grows, Settles, most_reply}
-use Rattle.fsa_model.proofs.QuietLaws.{GivesUpTo-with_end, IsQuiet-with_end}
-use Rattle.fsa_model.proofs.QuietTry.{try-settles}
+use Rattle.fsa_model.specs.Frame.{FitsReply, GivesFew, KeepsFrame, PointsFit, lasting, ticks_of, unenumerated}
+use Rattle.fsa_model.specs.LineCalls.{IsLineCall, ticks_fit}
+use Rattle.fsa_model.specs.NoWaits.{HasNoWaits}
+use Rattle.fsa_model.proofs.NoWaitsLaws.{EndsAlone, HasNoWaits-with_end, try-alone}
 use Rattle.fsa_model.proofs.ScheduleLaws.{calls_of-push, front-numbered}
-use Rattle.fsa_model.proofs.ScriptLaws.{IsLineCall}
 use Rattle.fsa_top.specs.Stands.{Stands, is_of_made}
-use Rattle.fsa_top.specs.Try.{Goes, MayTurn, most_turns}
+use Rattle.fsa_top.specs.Try.{GivesUpTo, Goes, MayTurn, most_turns}
 
 -- what holds of each item still holds when it says less
 All-each : {A : Type 0} (P Q : A → Type 0) → ((item : A) → P item → Q item) → (items : List A) → All P items → All Q items
@@ -75,7 +77,8 @@ MayTurn-next script made call left v before stands asked few =
     let next : call.number ≡ calls_of call.client made + 1 = next_number made call left (subst (AreNumbered []) stands.all stands.numbered) in
     let counted : length (all_calls script) ≡ length made + length (call ∷ left) = ap length stands.all ∙ length-append made (call ∷ left) in
     record {
-      quiet = stands.quiet;
+      no_waits = stands.no_waits;
+      points = stands.points;
       asked = subst (λ (clients : List Client). IsLineCall (length clients) call) (sym stands.clients) asked;
       new = none_found made call.client call.number next v.handles stands.handles;
       opened = All-each (λ (entry : ℕ × Handle). IsTrue (is_of_made made entry.1)) (λ (entry : ℕ × Handle). 0 < entry.1.number) (λ entry is. is_above made entry.1 is) v.handles stands.handles;
@@ -109,17 +112,49 @@ handles-turn script made call left v new before stands goes =
     (All-each (λ (entry : ℕ × Handle). IsTrue (is_of_made made entry.1)) (λ (entry : ℕ × Handle). IsTrue (is_of_made (made ++ call ∷ []) entry.1)) (λ entry is. is_of_made-more made call entry.1 is) v.handles stands.handles)
     (λ handle client number. is_of_made-new made call handle next client number)
 
--- a turn keeps how its call ended, besides what its try did
-pub Goes-with_end : (old after : Volume) (client number : ℕ) (reply : Reply) → Grows old client number after → Goes old client number (with_end after client number reply)
-Goes-with_end old after client number reply grows = record {
-  clients = grows.clients;
-  quiet = IsQuiet-with_end after client number reply grows.quiet;
-  gives = λ turns few. GivesUpTo-with_end after client number (turns + 1) reply (grows.gives turns few);
-  handles = λ test olds news. grows.handles test olds news;
+-- few numbers more, and so many ticks
+GivesUpTo-frame : (call : Call) (v w : Volume) (turns : ℕ) → IsTrue (ticks_fit call.what) → KeepsFrame call v w → GivesUpTo v turns → GivesUpTo w (turns + 1)
+GivesUpTo-frame call v w turns fit frame up = record {
+  files = let few = up.files in let more = frame.numbers.files in omega arith;
+  links = let few = up.links in let more = frame.numbers.links in omega arith;
+  streams = let few = up.streams in let more = frame.numbers.streams in omega arith;
+  handles = let few = up.handles in let more = frame.numbers.handles in omega arith;
+  clock = let few = up.clock in elim frame.clock [
+    | inl same ↦ omega arith
+    | inr on ↦ (let ticks = few_ticks call.what fit in omega arith)
+  ];
 }
+  where
+    few_ticks : (what : What) → IsTrue (ticks_fit what) → ticks_of what ≤ 4294967295
+    few_ticks (Tick ticks) fit = leb-true ticks 4294967295 fit
+    few_ticks _ fit = omega arith
+
+-- what lasts of a handle is all but its enumeration
+unenumerated-lasting : (what : What) (handle : Handle) → unenumerated (lasting what handle) ≡ unenumerated handle
+unenumerated-lasting (Ask (QueryDir of kind expression restart room)) handle = refl
+unenumerated-lasting _ handle = refl
+
+-- each handle was there before, or is the call's
+handles-frame : (call : Call) (v w : Volume) → KeepsFrame call v w → (test : Handle → Bool) → All (λ entry. IsTrue (test (unenumerated entry.1))) v.handles
+    → ((handle : Handle) → handle.client ≡ call.client → handle.number ≡ call.number → IsTrue (test (unenumerated handle))) → All (λ entry. IsTrue (test (unenumerated entry.1))) w.handles
+handles-frame call v w frame test all own =
+    All-each (λ (entry : ℕ × Handle). IsTrue (test (unenumerated (lasting call.what entry.1)))) (λ (entry : ℕ × Handle). IsTrue (test (unenumerated entry.1)))
+    (λ entry is. subst (λ (handle : Handle). IsTrue (test handle)) (unenumerated-lasting call.what entry.1) is) w.handles
+    (frame.handles (λ entry. test (unenumerated entry.1))
+    (All-each (λ (entry : ℕ × Handle). IsTrue (test (unenumerated entry.1))) (λ (entry : ℕ × Handle). IsTrue (test (unenumerated (lasting call.what entry.1))))
+    (λ entry is. subst (λ (handle : Handle). IsTrue (test handle)) (sym (unenumerated-lasting call.what entry.1)) is) v.handles all)
+    (λ handle creates client number. own handle client number))
 
 -- a try that ended left what a turn asks, and its reply is short
-pub try-grows : (v new : Volume) (call : Call) (reply : Reply) → MayTurn v call → try v call (turn_number v) ≡ Done new reply
-    → Grows v call.client call.number new × ((bytes_of_body reply.body ≤ most_reply call.what) × (units_of_body reply.body ≡ 0))
-try-grows v new call reply may gives =
-    subst (Settles v call.client call.number (most_reply call.what)) gives (try-settles v call (turn_number v) may.quiet may.asked.marks_nothing may.asked.ticks)
+pub try-ends : (v new : Volume) (call : Call) (reply : Reply) → MayTurn v call → try v call (turn_number v) ≡ Done new reply → EndsAlone call v (Done new reply)
+try-ends v new call reply may gives = subst (EndsAlone call v) gives (try-alone v call (turn_number v) may.no_waits may.points may.asked.marks_nothing)
+
+-- and keeps how its call ended
+pub Goes-ended : (v new : Volume) (call : Call) (reply : Reply) → MayTurn v call → EndsAlone call v (Done new reply) → Goes v call.client call.number (with_end new call.client call.number reply)
+Goes-ended v new call reply may ends = record {
+  clients = ends.1.1.0.clients;
+  no_waits = HasNoWaits-with_end new call.client call.number reply ends.0;
+  points = ends.1.1.0.points may.asked.fits may.points;
+  gives = λ turns up. (let few : GivesUpTo new (turns + 1) = GivesUpTo-frame call v new turns may.asked.ticks ends.1.1.0 up in record { files = few.files; links = few.links; streams = few.streams; handles = few.handles; clock = few.clock });
+  handles = λ test all own. handles-frame call v new ends.1.1.0 test all own;
+}

@@ -3,63 +3,75 @@ use Rattle.std.proofs.Common.{◌≡◌, ℕ, zero, suc, ◌+◌, ◌<◌, get_o
 use Rattle.std.specs.Prelude.{map, drop}
 use Rattle.fsa_types.specs.declared.request.Call.{Call}
 use Rattle.std.proofs.lemmas.List.{length-map}
-use Rattle.std.proofs.lemmas.List.Elements.{All-cons, All-nil}
+use Rattle.std.proofs.lemmas.List.Elements.{All-cons, All-nil, All-push}
 use Rattle.fsa_types.specs.declared.setup.Client.{Client as GivenClient}
-use Rattle.fsa_model.specs.Setup.{Client, Script, client_of}
-use Rattle.fsa_model.specs.Volume.{Handle, Volume, fresh}
+use Rattle.fsa_model.specs.Setup.{Client, Script, Setup, client_of}
+use Rattle.fsa_model.specs.Sound.{PointFits}
+use Rattle.fsa_model.specs.Volume.{File, Handle, Volume, fresh, root}
 use Rattle.fsa_model.specs.Turn.{Turned, turn}
 use Rattle.fsa_model.specs.History.{Run, run, begun, with_turn}
 use Rattle.fsa_model.specs.Schedule.{AreNumbered, Scheduled, all_calls, leave_after, next_in, plain_entry}
-use Rattle.fsa_model.proofs.Quiet.{GivesUpTo, IsQuiet}
-use Rattle.fsa_model.proofs.QuietLaws.{GivesUpTo-fresh, IsQuiet-fresh}
-use Rattle.fsa_model.proofs.ScriptLaws.{AreLineCalls, HaveSids, IsLineCall}
+use Rattle.fsa_model.specs.Frame.{PointsFit}
+use Rattle.fsa_model.specs.LineCalls.{AreLineCalls, HaveSids, IsLineCall}
+use Rattle.fsa_model.specs.NoWaits.{HasNoWaits}
+use Rattle.fsa_model.proofs.NoWaitsLaws.{HasNoWaits-fresh}
 use Rattle.fsa_model.specs.Text.{last_line, shown_turns, text, turn_text}
 use Rattle.fsa_model.proofs.HistoryLaws.{run-push, shown_turns-push}
 use Rattle.fsa_model.proofs.ScheduleLaws.{Scheduled-none, Scheduled-push, entries-make_all, entries-push, length-entries, next_in-first, plain-scheduled}
-use Rattle.wire_io.specs.Sink.{Appends, AppendsFront}
-use Rattle.wire_io.proofs.SinkLaws.{Appends-append, Appends-none, AppendsFront-append, AppendsFront-longer, AppendsFront-whole}
-use Rattle.fsa_top.specs.Runs.{IsHistory, WritesPart}
-use Rattle.fsa_top.specs.Stands.{MakesTurn, Shows, Stands, Turns, is_of_made, leaves_from, turns_of}
-use Rattle.fsa_top.specs.declared.run.RunFault.{RunFault}
-use Rattle.fsa_top.specs.declared.run.RunFault.TheVariants.{Failed, NoMemory}
-use Rattle.fsa_top.specs.Try.{Goes, MayTurn, most_turns}
+use Rattle.wire_io.specs.Sink.{Written, Appends}
+use Rattle.wire_io.proofs.SinkLaws.{Appends-append, Appends-none}
+use Rattle.fsa_top.specs.Stands.{Shows, Stands, Turns, is_of_made, leaves_from, turns_of}
+use Rattle.fsa_top.specs.Try.{GivesUpTo, Goes, MayTurn, most_turns}
 use Rattle.fsa_top.proofs.MayLaws.{MayTurn-next, handles-turn}
 
+-- the root is a file, so one turn's numbers are given
+GivesUpTo-fresh : (setup : Setup) → GivesUpTo (fresh setup) 1
+GivesUpTo-fresh setup = record {
+  files = omega arith;
+  links = omega arith;
+  streams = omega arith;
+  handles = omega arith;
+  clock = omega arith;
+}
+
+PointsFit-fresh : (setup : Setup) → PointsFit (fresh setup)
+PointsFit-fresh setup = All-push (λ (entry : ℕ × File). PointFits entry.1) [] (1, root) (All-nil _) tt
+
 -- before the first turn
-pub Shows-begun : (script : Script) (v : Volume) (written : Option (List ℕ)) → v ≡ fresh script.setup → AreNumbered [] (all_calls script) → Shows script (all_calls script) v written written
-Shows-begun script v written is_fresh numbered = (
-  [],
-  begun script.setup,
-  record {
-    all = refl;
-    numbered = numbered;
-    runs = refl;
-    volume = sym is_fresh;
-    quiet = subst IsQuiet (sym is_fresh) (IsQuiet-fresh script.setup);
-    scheduled = Scheduled-none script;
-    few = subst (λ (w : Volume). GivesUpTo w 1) (sym is_fresh) (GivesUpTo-fresh script.setup);
-    clients = ap (λ (w : Volume). w.clients) is_fresh;
-    handles = subst (λ (w : Volume). All (λ (entry : ℕ × Handle). IsTrue (is_of_made [] entry.1)) w.handles) (sym is_fresh) (All-nil _);
-  },
-  Appends-none written,
-)
+pub Stands-begun : (script : Script) (v : Volume) → v ≡ fresh script.setup → AreNumbered [] (all_calls script) → Stands script [] (all_calls script) v (begun script.setup)
+Stands-begun script v is_fresh numbered =
+    record {
+      all = refl;
+      numbered = numbered;
+      runs = refl;
+      volume = sym is_fresh;
+      no_waits = subst HasNoWaits (sym is_fresh) (HasNoWaits-fresh script.setup);
+      points = subst PointsFit (sym is_fresh) (PointsFit-fresh script.setup);
+      scheduled = Scheduled-none script;
+      few = subst (λ (w : Volume). GivesUpTo w 1) (sym is_fresh) (GivesUpTo-fresh script.setup);
+      clients = ap (λ (w : Volume). w.clients) is_fresh;
+      handles = subst (λ (w : Volume). All (λ (entry : ℕ × Handle). IsTrue (is_of_made [] entry.1)) w.handles) (sym is_fresh) (All-nil _);
+    }
+
+pub Shows-begun : (script : Script) (v : Volume) (written : Written) → v ≡ fresh script.setup → AreNumbered [] (all_calls script) → Shows script (all_calls script) v written written
+Shows-begun script v written is_fresh numbered = ([], begun script.setup, Stands-begun script v is_fresh numbered, Appends-none written)
 
 -- the history with one more call's turn
-pushed : (made : List Call) (call : Call) → turns_of (made ++ call ∷ []) ≡ turns_of made ++ plain_entry call ∷ []
+pub pushed : (made : List Call) (call : Call) → turns_of (made ++ call ∷ []) ≡ turns_of made ++ plain_entry call ∷ []
 pushed made call = entries-push made call
 
 -- the next call of the history
-is_next : (script : Script) (made : List Call) (call : Call) (left : List Call) (v : Volume) (before : Run) → Stands script made (call ∷ left) v before → next_in (all_calls script) (turns_of made) before.volume ≡ Some call
+pub is_next : (script : Script) (made : List Call) (call : Call) (left : List Call) (v : Volume) (before : Run) → Stands script made (call ∷ left) v before → next_in (all_calls script) (turns_of made) before.volume ≡ Some call
 is_next script made call left v before stands =
     subst (λ (calls : List Call). next_in calls (turns_of made) before.volume ≡ Some call) (sym stands.all)
-    (next_in-first made call left before.volume (subst (AreNumbered []) stands.all stands.numbered) (ap (λ (w : Volume). w.pending) stands.volume ∙ stands.quiet.pending))
+    (next_in-first made call left before.volume (subst (AreNumbered []) stands.all stands.numbered) (ap (λ (w : Volume). w.pending) stands.volume ∙ stands.no_waits.pending))
 
 -- the turn of the next call, on the volume of the run
 turns_there : (script : Script) (made left : List Call) (v : Volume) (before : Run) (call : Call) (turned : Turned) → Stands script made left v before → turn v call [] ≡ Some turned → turn before.volume call [] ≡ Some turned
 turns_there script made left v before call turned stands turns = ap (λ (w : Volume). turn w call []) stands.volume ∙ turns
 
 -- one more turn of the next call
-Stands-turn : (script : Script) (made : List Call) (call : Call) (left : List Call) (v new : Volume) (before : Run) (turned : Turned) → Stands script made (call ∷ left) v before
+pub Stands-turn : (script : Script) (made : List Call) (call : Call) (left : List Call) (v new : Volume) (before : Run) (turned : Turned) → Stands script made (call ∷ left) v before
     → turn v call [] ≡ Some turned → new ≡ turned.volume → Goes v call.client call.number new → Stands script (made ++ call ∷ []) left new (with_turn before turned)
 Stands-turn script made call left v new before turned stands turns is_new goes =
     let there = turns_there script made (call ∷ left) v before call turned stands turns in
@@ -68,7 +80,8 @@ Stands-turn script made call left v new before turned stands turns is_new goes =
       numbered = stands.numbered;
       runs = ap (run script.setup) (pushed made call) ∙ run-push script.setup (turns_of made) (plain_entry call) before turned stands.runs there;
       volume = sym is_new;
-      quiet = goes.quiet;
+      no_waits = goes.no_waits;
+      points = goes.points;
       scheduled = subst (Scheduled script) (sym (pushed made call)) (Scheduled-push script (turns_of made) (plain_entry call) before turned stands.scheduled stands.runs (is_next script made call left v before stands) there);
       few = subst (GivesUpTo new) (ap (λ n. n + 1) (sym (length-append made (call ∷ [])))) (goes.gives (length made + 1) stands.few);
       clients = goes.clients ∙ stands.clients;
@@ -76,14 +89,14 @@ Stands-turn script made call left v new before turned stands turns is_new goes =
     }
 
 -- what is shown after one more turn
-shown-turn : (script : Script) (made : List Call) (call : Call) (left : List Call) (v : Volume) (before : Run) (turned : Turned) → Stands script made (call ∷ left) v before
+pub shown-turn : (script : Script) (made : List Call) (call : Call) (left : List Call) (v : Volume) (before : Run) (turned : Turned) → Stands script made (call ∷ left) v before
     → turn v call [] ≡ Some turned → shown_turns script (turns_of (made ++ call ∷ [])) ≡ shown_turns script (turns_of made) ++ turn_text script.setup.clients call turned.out
 shown-turn script made call left v before turned stands turns =
     ap (shown_turns script) (pushed made call)
     ∙ shown_turns-push script (turns_of made) (plain_entry call) before turned stands.runs (turns_there script made (call ∷ left) v before call turned stands turns)
 
 -- the turn of the next call was made, and its lines were written
-pub Shows-turn : (script : Script) (call : Call) (left : List Call) (v new : Volume) (old mid now : Option (List ℕ)) (turned : Turned) → Shows script (call ∷ left) v old mid
+pub Shows-turn : (script : Script) (call : Call) (left : List Call) (v new : Volume) (old mid now : Written) (turned : Turned) → Shows script (call ∷ left) v old mid
     → Turns v new script.setup.clients call mid now turned → Shows script left new old now
 Shows-turn script call left v new old mid now turned shows turns = (
   shows.0 ++ call ∷ [],
@@ -92,48 +105,15 @@ Shows-turn script call left v new old mid now turned shows turns = (
   subst (Appends old now) (sym (shown-turn script shows.0 call left v shows.1 turned shows.2 turns.turns)) (Appends-append old mid now _ _ shows.3 turns.wrote),
 )
 
--- what was shown so far is a part of a text
-pub Shows-part : (script : Script) (left : List Call) (v : Volume) (old now : Option (List ℕ)) → Shows script left v old now → WritesPart script old now
-Shows-part script left v old now shows = (turns_of shows.0, shows.2.scheduled, AppendsFront-whole old now _ _ shows.3)
-
--- what was shown so far, and a front of the lines of the next turn, is a part of a text
-pub Shows-front : (script : Script) (call : Call) (left : List Call) (v new : Volume) (old mid now : Option (List ℕ)) (turned : Turned) → Shows script (call ∷ left) v old mid
-    → turn v call [] ≡ Some turned → new ≡ turned.volume → Goes v call.client call.number new → AppendsFront mid now (turn_text script.setup.clients call turned.out) → WritesPart script old now
-Shows-front script call left v new old mid now turned shows turns is_new goes front = (
-  turns_of (shows.0 ++ call ∷ []),
-  (Stands-turn script shows.0 call left v new shows.1 turned shows.2 turns is_new goes).scheduled,
-  AppendsFront-longer old now _ _
-      (subst (AppendsFront old now) (sym (shown-turn script shows.0 call left v shows.1 turned shows.2 turns)) (AppendsFront-append old mid now _ _ shows.3 front)),
-)
-
 -- all calls were made
-all_made : (script : Script) (v : Volume) (old now : Option (List ℕ)) (shows : Shows script [] v old now) → shows.0 ≡ all_calls script
+pub all_made : (script : Script) (v : Volume) (old now : Written) (shows : Shows script [] v old now) → shows.0 ≡ all_calls script
 all_made script v old now shows = sym (append-nil shows.0) ∙ sym shows.2.all
 
--- the history of all calls
-pub IsHistory-whole : (script : Script) (v : Volume) (old now : Option (List ℕ)) (shows : Shows script [] v old now) → IsHistory script (turns_of (all_calls script))
-IsHistory-whole script v old now shows =
-    let scheduled : Scheduled script (turns_of (all_calls script)) = subst (λ (calls : List Call). Scheduled script (turns_of calls)) (all_made script v old now shows) shows.2.scheduled in
-    record {
-      scheduled = scheduled;
-      whole = entries-make_all (all_calls script);
-      plainly = λ _. sym (plain-scheduled script scheduled);
-    }
-
 -- the last line was written behind the lines of all turns
-pub Shows-whole : (script : Script) (v : Volume) (old mid now : Option (List ℕ)) (shows : Shows script [] v old mid) → Appends mid now (last_line (length (all_calls script))) → Appends old now (text script (turns_of (all_calls script)))
+pub Shows-whole : (script : Script) (v : Volume) (old mid now : Written) (shows : Shows script [] v old mid) → Appends mid now (last_line (length (all_calls script))) → Appends old now (text script (turns_of (all_calls script)))
 Shows-whole script v old mid now shows last =
     subst (λ (n : ℕ). Appends old now (shown_turns script (turns_of (all_calls script)) ++ last_line n)) (sym (length-entries (all_calls script)))
     (Appends-append old mid now _ _ (subst (λ (calls : List Call). Appends old mid (shown_turns script (turns_of calls))) (all_made script v old mid shows) shows.3) last)
-
--- a front of the last line was written behind them
-pub Shows-last_front : (script : Script) (v : Volume) (old mid now : Option (List ℕ)) (shows : Shows script [] v old mid) → AppendsFront mid now (last_line (length (all_calls script))) → WritesPart script old now
-Shows-last_front script v old mid now shows last = (
-  turns_of (all_calls script),
-  (IsHistory-whole script v old mid shows).scheduled,
-  subst (λ (n : ℕ). AppendsFront old now (shown_turns script (turns_of (all_calls script)) ++ last_line n)) (sym (length-entries (all_calls script)))
-      (AppendsFront-append old mid now _ _ (subst (λ (calls : List Call). Appends old mid (shown_turns script (turns_of calls))) (all_made script v old mid shows) shows.3) last),
-)
 
 -- a call of the script
 pub AreLineCalls-at : (clients : ℕ) (calls : List Call) (i : ℕ) (call : Call) → AreLineCalls clients calls → i < length calls → call ≡ get_or calls i call → IsLineCall clients call
@@ -146,7 +126,7 @@ pub IsLineCall-leave : (lines : List Call) (client clients : ℕ) → client < c
 IsLineCall-leave lines client clients within = record { fits = refl; marks_nothing = refl; ticks = refl; client = within }
 
 -- the turn of the next call may be made
-pub Shows-may : (script : Script) (call : Call) (left : List Call) (v : Volume) (old now : Option (List ℕ)) → Shows script (call ∷ left) v old now
+pub Shows-may : (script : Script) (call : Call) (left : List Call) (v : Volume) (old now : Written) → Shows script (call ∷ left) v old now
     → IsLineCall (length script.setup.clients) call → length (all_calls script) < most_turns → MayTurn v call
 Shows-may script call left v old now shows asked few = MayTurn-next script shows.0 call left v shows.1 shows.2 asked few
 
@@ -155,7 +135,7 @@ drop-next : (calls : List Call) (i : ℕ) (call : Call) → i < length calls →
 drop-next calls i call within is = drop-cons calls i call within ∙ ap (λ (c : Call). c ∷ drop (suc i) calls) (sym is) ∙ ap (λ n. call ∷ drop n calls) (sym (add-one i))
 
 -- the calls that are left, the next one in front
-pub Shows-next : (script : Script) (calls rest : List Call) (i : ℕ) (call : Call) (v : Volume) (old now : Option (List ℕ)) → Shows script (drop i calls ++ rest) v old now
+pub Shows-next : (script : Script) (calls rest : List Call) (i : ℕ) (call : Call) (v : Volume) (old now : Written) → Shows script (drop i calls ++ rest) v old now
     → i < length calls → call ≡ get_or calls i call → Shows script (call ∷ drop (i + 1) calls ++ rest) v old now
 Shows-next script calls rest i call v old now shows within is =
     subst (λ (left : List Call). Shows script left v old now) (ap (λ (left : List Call). left ++ rest) (drop-next calls i call within is)) shows
@@ -167,27 +147,15 @@ leaves-next lines (client ∷ clients) k zero within = refl
 leaves-next lines (client ∷ clients) k (suc i) within = leaves-next lines clients k i (omega arith)
 
 -- the leavings that are left, the next one in front
-pub Shows-leave : (script : Script) (i : ℕ) (v : Volume) (old now : Option (List ℕ)) → Shows script (leaves_from script.lines i (drop i script.setup.clients)) v old now
+pub Shows-leave : (script : Script) (i : ℕ) (v : Volume) (old now : Written) → Shows script (leaves_from script.lines i (drop i script.setup.clients)) v old now
     → i < length script.setup.clients → Shows script (leave_after script.lines i ∷ leaves_from script.lines (i + 1) (drop (i + 1) script.setup.clients)) v old now
 Shows-leave script i v old now shows within =
     subst (λ (left : List Call). Shows script left v old now)
     (leaves-next script.lines script.setup.clients i i within ∙ ap (λ n. leave_after script.lines i ∷ leaves_from script.lines (i + 1) (drop n script.setup.clients)) (sym (add-one i))) shows
 
--- a turn that wasn't made, or whose lines weren't written
-pub MakesTurn-part : (script : Script) (call : Call) (left : List Call) (v new : Volume) (old mid now : Option (List ℕ)) (fault : RunFault) → Shows script (call ∷ left) v old mid
-    → MakesTurn v new script.setup.clients call mid now (Err fault) → WritesPart script old now
-MakesTurn-part script call left v new old mid now Failed shows made =
-    Shows-front script call left v new old mid now made.0 shows made.1.turns made.1.volume made.1.goes made.1.wrote
-MakesTurn-part script call left v new old mid now NoMemory shows made =
-    subst (λ (o : Option (List ℕ)). WritesPart script old o) (sym made) (Shows-part script (call ∷ left) v old mid shows)
-
 pub OnErr-any : {T E : Type 0} (r : Result T E) (P : Type 0) → P → OnErr r P
 OnErr-any (Ok x) P p = tt
 OnErr-any (Err e) P p = p
-
--- nothing was written
-pub WritesPart-none : (script : Script) (written : Option (List ℕ)) → WritesPart script written written
-WritesPart-none script written = ([], Scheduled-none script, AppendsFront-whole written written [] _ (Appends-none written))
 
 length-leaves : (lines : List Call) (k : ℕ) (clients : List Client) → length (leaves_from lines k clients) ≡ length clients
 length-leaves lines k [] = refl
@@ -196,10 +164,6 @@ length-leaves lines k (client ∷ clients) = ap suc (length-leaves lines (k + 1)
 -- the calls of a script are its lines and the leavings
 pub length-all_calls : (script : Script) → length (all_calls script) ≡ length script.lines + length script.setup.clients
 length-all_calls script = length-append script.lines (leaves_from script.lines 0 script.setup.clients) ∙ ap (λ n. length script.lines + n) (length-leaves script.lines 0 script.setup.clients)
-
--- nothing of some bytes was written
-pub AppendsFront-none : (written : Option (List ℕ)) (bytes : List ℕ) → AppendsFront written written bytes
-AppendsFront-none written bytes = AppendsFront-whole written written [] bytes (Appends-none written)
 
 -- the lines and the clients of a script, counted
 pub length-counted : (script : Script) (lines : List Call) (clients : List GivenClient) → lines ≡ script.lines → map client_of clients ≡ script.setup.clients

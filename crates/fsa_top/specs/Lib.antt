@@ -1,4 +1,5 @@
 pub mod Limits
+pub mod Promised
 pub mod Runs
 pub mod Stands
 pub mod Try

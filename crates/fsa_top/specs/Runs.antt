@@ -8,45 +8,47 @@ use Rattle.fsa_model.specs.Schedule.{HasAllCalls, Scheduled, plain}
 use Rattle.fsa_model.specs.Script.{script_of}
 use Rattle.fsa_model.specs.Text.{shows_no_memory, text}
 use Rattle.wire_io.specs.Source.{ReadsWhole}
-use Rattle.wire_io.specs.Sink.{Appends, AppendsFront}
+use Rattle.wire_io.specs.Sink.{Written, Appends, AppendsPart}
 use Rattle.fsa_top.specs.declared.limits.Limit.{Limit}
 use Rattle.fsa_top.specs.Limits.{PassesLimit, limit_of}
 use Rattle.fsa_top.specs.Words.{Says, limit_line}
 
--- the one history of a script on one thread: each turn's call was the next one, it has all calls,
--- and where no line of its text shows NO_MEMORY no call found no memory
+-- the one history of a script on one thread: each turn's call was the next one, it has all calls, no other
+-- such history has its text, and where no line of its text shows NO_MEMORY no call found no memory
 pub record IsHistory (script : Script) (history : List HistoryEntry) : Type 0 where
   pub scheduled : Scheduled script history
   pub whole : HasAllCalls script history
+  pub only : (other : List HistoryEntry) → Scheduled script other → HasAllCalls script other → text script other ≡ text script history → other ≡ history
   pub plainly : shows_no_memory (text script history) ≡ false → history ≡ plain script
 
 -- the line that names the least faulty line
 abbrev pub bad_line : ℕ → List ℕ
 bad_line line = codes "bad line " ++ decimal line ++ 10 ∷ []
 
--- a prefix of the text of a scheduled history of the script was written
-abbrev pub WritesPart : Script → Option (List ℕ) → Option (List ℕ) → Type 0
-WritesPart script written written_now = (history : List HistoryEntry) × Scheduled script history × AppendsFront written written_now (text script history)
+-- a part of the text of a scheduled history that has all calls of the script was written
+abbrev pub WritesPart : Script → Written → Written → Type 0
+WritesPart script written written_now =
+    (history : List HistoryEntry) × Scheduled script history × HasAllCalls script history × AppendsPart written written_now (text script history)
 
 -- the text of the script's history was written
-abbrev pub WritesText : Script → Option (List ℕ) → Option (List ℕ) → Type 0
+abbrev pub WritesText : Script → Written → Written → Type 0
 WritesText script written written_now = (history : List HistoryEntry) × IsHistory script history × Appends written written_now (text script history)
 
 -- the bytes are a script, and the text of its history was written
-abbrev pub RunsText : List ℕ → Option (List ℕ) → Option (List ℕ) → Type 0
+abbrev pub RunsText : List ℕ → Written → Written → Type 0
 RunsText bytes written written_now = (script : Script) × (script_of bytes ≡ Ok script) × WritesText script written written_now
 
--- the bytes are a script, and a prefix of the text of a scheduled history of it was written
-abbrev pub RunsPart : List ℕ → Option (List ℕ) → Option (List ℕ) → Type 0
+-- the bytes are a script, and a part of the text of a scheduled history that has all its calls was written
+abbrev pub RunsPart : List ℕ → Written → Written → Type 0
 RunsPart bytes written written_now = (script : Script) × (script_of bytes ≡ Ok script) × WritesPart script written written_now
 
--- the bytes are no script, and the line that names the least faulty line was written, or a prefix of it where the sink failed
-abbrev pub NamesFault : List ℕ → Option (List ℕ) → Option (List ℕ) → ℕ → ℕ → Type 0
+-- the bytes are no script, and the line that names the least faulty line was written, or a part of it where the sink failed
+abbrev pub NamesFault : List ℕ → Written → Written → ℕ → ℕ → Type 0
 NamesFault bytes written written_now faults faults_now =
     (fault : Fault) × (script_of bytes ≡ Err fault) × Says (bad_line fault.line) written written_now faults faults_now
 
--- the bytes pass a limit, and the line that names it was written, or a prefix of it where the sink failed
-abbrev pub NamesLimit : List ℕ → Option (List ℕ) → Option (List ℕ) → ℕ → ℕ → Type 0
+-- the bytes pass a limit, and the line that names it was written, or a part of it where the sink failed
+abbrev pub NamesLimit : List ℕ → Written → Written → ℕ → ℕ → Type 0
 NamesLimit bytes written written_now faults faults_now =
     (limit : Limit) × (limit_of bytes ≡ Some limit) × Says (limit_line limit) written written_now faults faults_now
 
@@ -55,20 +57,21 @@ abbrev pub ReadsWithin : Option (List ℕ) → Option (List ℕ) → List ℕ �
 ReadsWithin left left_now bytes = ReadsWhole left left_now bytes × (limit_of bytes ≡ None)
 
 -- the source was read to its end within the limits, its bytes are a script, and the text of its history was written
-abbrev pub Ran : Option (List ℕ) → Option (List ℕ) → Option (List ℕ) → Option (List ℕ) → Type 0
+abbrev pub Ran : Option (List ℕ) → Option (List ℕ) → Written → Written → Type 0
 Ran left left_now written written_now = (bytes : List ℕ) × ReadsWithin left left_now bytes × RunsText bytes written written_now
 
--- the source was read to its end within the limits, its bytes are a script, and a prefix of the text of a scheduled history of it was written
-abbrev pub RanInPart : Option (List ℕ) → Option (List ℕ) → Option (List ℕ) → Option (List ℕ) → Type 0
+-- the source was read to its end within the limits, its bytes are a script, and a part of the text of a
+-- scheduled history that has all its calls was written
+abbrev pub RanInPart : Option (List ℕ) → Option (List ℕ) → Written → Written → Type 0
 RanInPart left left_now written written_now = (bytes : List ℕ) × ReadsWithin left left_now bytes × RunsPart bytes written written_now
 
 -- the source was read to its end within the limits, its bytes are no script, and the line that names the least faulty line was written
-abbrev pub FoundBad : Option (List ℕ) → Option (List ℕ) → Option (List ℕ) → Option (List ℕ) → ℕ → ℕ → Type 0
+abbrev pub FoundBad : Option (List ℕ) → Option (List ℕ) → Written → Written → ℕ → ℕ → Type 0
 FoundBad left left_now written written_now faults faults_now =
     (bytes : List ℕ) × ReadsWithin left left_now bytes × NamesFault bytes written written_now faults faults_now
 
--- the bytes of the source pass a limit, and the line that names it was written, or a prefix of it where the sink failed
-abbrev pub FoundLimit : Option (List ℕ) → Option (List ℕ) → Option (List ℕ) → ℕ → ℕ → Type 0
+-- the bytes of the source pass a limit, and the line that names it was written, or a part of it where the sink failed
+abbrev pub FoundLimit : Option (List ℕ) → Written → Written → ℕ → ℕ → Type 0
 FoundLimit left written written_now faults faults_now =
     (limit : Limit) × PassesLimit limit left × Says (limit_line limit) written written_now faults faults_now
 

@@ -1,9 +1,9 @@
 -- The words that the program takes, and the lines that it writes in place of a text.
-use Rattle.std.specs.Prelude.{ℕ, Bool, false, List, [], ◌∷◌, Option, String, string_bytes, codes, nat_eq}
+use Rattle.std.specs.Prelude.{ℕ, ◌⊎◌, Bool, false, List, [], ◌∷◌, String, string_bytes, codes, nat_eq}
 use Rattle.std.specs.declared.alloc.Global.{Global}
 use Rattle.std.specs.Cmp.Lexicographic.{pointwise}
 use Rattle.wire_io.specs.Faults.{Rose}
-use Rattle.wire_io.specs.Sink.{Appends, AppendsFront}
+use Rattle.wire_io.specs.Sink.{Written, Appends, AppendsPart}
 use Rattle.fsa_top.specs.declared.limits.Limit.{Limit}
 use Rattle.fsa_top.specs.declared.limits.Limit.TheVariants.{Bytes, Lines, Clients}
 
@@ -22,7 +22,6 @@ limit_line Bytes = codes "limit bytes\n"
 limit_line Lines = codes "limit lines\n"
 limit_line Clients = codes "limit clients\n"
 
--- this line was written, or a prefix of it where the sink failed
-pub record Says (line : List ℕ) (written written_now : Option (List ℕ)) (faults faults_now : ℕ) : Type 0 where
-  pub front : AppendsFront written written_now line
-  pub whole : (Rose faults faults_now → ⊥) → Appends written written_now line
+-- this line was written, or the sink failed and a part of it was
+abbrev pub Says : List ℕ → Written → Written → ℕ → ℕ → Type 0
+Says line written written_now faults faults_now = Appends written written_now line ⊎ (Rose faults faults_now × AppendsPart written written_now line)

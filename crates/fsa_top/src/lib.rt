@@ -10,6 +10,7 @@
 //! the bytes, the source or the sink. The script is held in memory whole, and so are all replies.
 #![tactic(auto)]
 
+mod bodies;
 mod limits;
 mod lines;
 mod machine;

@@ -1,8 +1,8 @@
 //! The lines that stand in place of a text, and the words that the program takes.
 
 ghost use Rattle.std.specs.Prelude.{◌≡◌, ◌≤◌, ◌++◌, OnOk, OnErr, codes, decimal};
-ghost use Rattle.wire_io.specs.Faults.{HasCause, Rose};
-ghost use Rattle.wire_io.specs.Sink.{Appends, AppendsFront};
+ghost use Rattle.wire_io.specs.Faults.{FailsLast, HasCause, Rose, StopsAtFault};
+ghost use Rattle.wire_io.specs.Sink.{Appends, AppendsPart};
 ghost use Rattle.fsa_top.specs.Runs.{bad_line};
 ghost use Rattle.fsa_top.specs.Words.{Says, is_run, limit_line, usage_line};
 
@@ -20,18 +20,23 @@ pub fn is_run(words: &[String]) -> bool
     }
 }
 
-// Writes a line; a sink that fails has taken a prefix of it.
+// Writes a line; a sink that fails has taken a part of it.
 fn say<K: Sink>(sink: &mut K, line: &[u8])
     ensures says { Says line.now (K.written sink.old) (K.written sink.new) (K.faults sink.old) (K.faults sink.new) }
     ensures later { K.faults sink.old ≤ K.faults sink.new }
+    ensures stops { StopsAtFault (K.faults sink.old) (K.faults sink.new) (K.written sink.new).since_fault }
 {
-    let _ = put_all(sink, line);
+    match put_all(sink, line) {
+        Ok(()) => (),
+        Err(Failed) => (),
+    }
 }
 
 /// Writes how the program is used.
 pub fn say_usage<K: Sink>(sink: &mut K)
     ensures says { Says usage_line (K.written sink.old) (K.written sink.new) (K.faults sink.old) (K.faults sink.new) }
     ensures later { K.faults sink.old ≤ K.faults sink.new }
+    ensures stops { StopsAtFault (K.faults sink.old) (K.faults sink.new) (K.written sink.new).since_fault }
 {
     say(sink, b"usage: fsa run / race / gen N\n");
 }
@@ -51,6 +56,7 @@ fn limit_line(limit: Limit) -> &'static [u8]
 pub fn say_limit<K: Sink>(sink: &mut K, limit: Limit)
     ensures says { Says (limit_line limit) (K.written sink.old) (K.written sink.new) (K.faults sink.old) (K.faults sink.new) }
     ensures later { K.faults sink.old ≤ K.faults sink.new }
+    ensures stops { StopsAtFault (K.faults sink.old) (K.faults sink.new) (K.written sink.new).since_fault }
 {
     say(sink, limit_line(limit));
 }
@@ -58,8 +64,10 @@ pub fn say_limit<K: Sink>(sink: &mut K, limit: Limit)
 // Writes the line that names a faulty line, in three pieces.
 fn put_bad<K: Sink>(sink: &mut K, line: u32) -> Result<(), Failed>
     ensures ok { OnOk result (Appends (K.written sink.old) (K.written sink.new) (bad_line line)) }
-    ensures front { OnErr result (AppendsFront (K.written sink.old) (K.written sink.new) (bad_line line)) }
-    ensures cause { HasCause (K.faults sink.old) (K.faults sink.new) result }
+    ensures part { OnErr result (AppendsPart (K.written sink.old) (K.written sink.new) (bad_line line)) }
+    ensures last { OnErr result (FailsLast (K.faults sink.old) (K.faults sink.new) (K.written sink.new).since_fault) }
+    ensures unfailed { OnOk result (K.faults sink.new ≡ K.faults sink.old) }
+    ensures later { K.faults sink.old ≤ K.faults sink.new }
 {
     let mut buffer = Buffer::new();
     put_all(sink, b"bad line ")?;
@@ -72,6 +80,10 @@ fn put_bad<K: Sink>(sink: &mut K, line: u32) -> Result<(), Failed>
 pub fn say_bad<K: Sink>(sink: &mut K, line: u32)
     ensures says { Says (bad_line line) (K.written sink.old) (K.written sink.new) (K.faults sink.old) (K.faults sink.new) }
     ensures later { K.faults sink.old ≤ K.faults sink.new }
+    ensures stops { StopsAtFault (K.faults sink.old) (K.faults sink.new) (K.written sink.new).since_fault }
 {
-    let _ = put_bad(sink, line);
+    match put_bad(sink, line) {
+        Ok(()) => (),
+        Err(Failed) => (),
+    }
 }

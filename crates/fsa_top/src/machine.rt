@@ -2,11 +2,12 @@
 
 ghost use Rattle.std.specs.Prelude.{◌≡◌, ◌≤◌, ◌<◌, ◌+◌, ◌*◌, ◌-◌, ◌^◌, ℕ, [], IfOk, OnOk, OnErr, Some, None, IsTrue, length};
 ghost use Rattle.fsa_types.specs.Reply.{bytes_of_body, units_of_body};
-ghost use Rattle.fsa_model.proofs.Quiet.{most_reply};
 ghost use Rattle.fsa_model.specs.Edits.{with_end, with_ticks};
+ghost use Rattle.fsa_model.specs.Frame.{most_reply_bytes, most_reply_units};
 ghost use Rattle.fsa_model.specs.Outcome.{ends_with, out_of};
 ghost use Rattle.fsa_model.specs.Turn.{try, try_request, try_what, turn, turn_number};
 ghost use Rattle.fsa_top.specs.Try.{Gives, Goes, MayTurn};
+ghost use Rattle.volume_state.specs.Room.{KeepsEnds};
 ghost use Rattle.volume_state.specs.Tried.{Gives as Tries};
 ghost use Rattle.fsa_types.specs.declared.request.What.TheVariants.{Ask};
 
@@ -20,12 +21,42 @@ use op_open::try_create;
 use std::alloc::Global;
 use volume_state::{Need, Tried, Volume};
 
-// The most bytes that the reply to a call holds, on a quiet volume.
+// The most bytes of a reparse point.
+const MOST_POINT_BYTES: usize = 16376;
+
+// The most bytes that the reply to a request holds.
+fn request_bytes(request: &Request) -> usize
+    ensures { result ≡ most_reply_bytes (Ask request.now) }
+{
+    match request {
+        Request::Create { .. } | Request::Rename { .. } | Request::Link { .. } => MOST_POINT_BYTES,
+        Request::Read { count, .. } => *count as usize,
+        Request::QueryDir { room, .. }
+        | Request::Notify { room, .. }
+        | Request::QueryInfo { room, .. }
+        | Request::GetReparse { room, .. } => *room as usize,
+        _ => 0,
+    }
+}
+
+// The most bytes that the reply to a call holds.
 fn reply_bytes(what: &What) -> usize
-    ensures { result ≡ most_reply what.now }
+    ensures { result ≡ most_reply_bytes what.now }
 {
     match what {
-        What::Ask(Request::Read { count, .. }) => *count as usize,
+        What::Ask(request) => request_bytes(request),
+        _ => 0,
+    }
+}
+
+// The most units that the reply to a call holds.
+fn reply_units(what: &What) -> usize
+    ensures { result ≡ most_reply_units what.now }
+{
+    match what {
+        What::Ask(Request::Create { path, .. })
+        | What::Ask(Request::Rename { path, .. })
+        | What::Ask(Request::Link { path, .. }) => path.units().len(),
         _ => 0,
     }
 }
@@ -40,8 +71,8 @@ fn try_request(
 ) -> Tried
     requires is { call.now.what ≡ Ask request.now }
     requires may { MayTurn volume.old.content call.now }
-    ensures gives { Tries (try_request volume.old.content call.now.client call.now.number request.now) volume.old.content volume.new.content result }
-    ensures ends { volume.old.spare.ends ≤ volume.new.spare.ends }
+    ensures gives { Tries (try_request volume.old.content (turn_number volume.old.content) call.now.client call.now.number request.now) volume.old.content volume.new.content result }
+    ensures ends { KeepsEnds volume.old volume.new }
 {
     match request {
         Request::Create { .. } => try_create(alloc, volume, call, turn),
@@ -49,6 +80,15 @@ fn try_request(
         Request::Read { .. } => try_read(alloc, volume, call, turn),
         Request::Write { .. } => try_write(alloc, volume, call, turn),
         Request::SetSecurity { .. } => try_set_security(alloc, volume, call, turn),
+        // No line asks these yet.
+        Request::Flush { .. }
+        | Request::SetEnd { .. }
+        | Request::Lock { .. }
+        | Request::Unlock { .. }
+        | Request::Oplock { .. }
+        | Request::Ack { .. }
+        | Request::Notify { .. }
+        | Request::Cancel { .. } => unreachable!(),
         _ => Tried::ends(Status::InvalidDeviceRequest),
     }
 }
@@ -57,7 +97,7 @@ fn try_request(
 fn try_tick(volume: &mut Volume, ticks: u32) -> Tried
     requires fits { volume.old.content.clock + ticks < 2 ^ 64 }
     ensures gives { Tries (ends_with (with_ticks volume.old.content ticks) Status.Success) volume.old.content volume.new.content result }
-    ensures ends { volume.old.spare.ends ≤ volume.new.spare.ends }
+    ensures ends { KeepsEnds volume.old volume.new }
 {
     volume.advance(ticks);
     Tried::ends(Status::Success)
@@ -66,14 +106,15 @@ fn try_tick(volume: &mut Volume, ticks: u32) -> Tried
 // One try of what a call does.
 fn try_what(alloc: Global, volume: &mut Volume, call: &Call, turn: u64) -> Tried
     requires may { MayTurn volume.old.content call.now }
-    ensures gives { Tries (try_what volume.old.content call.now.client call.now.number call.now.what) volume.old.content volume.new.content result }
-    ensures ends { volume.old.spare.ends ≤ volume.new.spare.ends }
+    ensures gives { Tries (try_what volume.old.content (turn_number volume.old.content) call.now.client call.now.number call.now.what) volume.old.content volume.new.content result }
+    ensures ends { KeepsEnds volume.old volume.new }
 {
     match &call.what {
         What::Ask(request) => try_request(alloc, volume, call, request, turn),
         What::Tick(ticks) => try_tick(volume, *ticks),
         What::Leave => try_leave(alloc, volume, call, turn),
-        What::WaitFor(_) => Tried::ends(Status::InvalidDeviceRequest),
+        // No line asks it yet.
+        What::WaitFor(_) => unreachable!(),
     }
 }
 
@@ -81,7 +122,7 @@ fn try_what(alloc: Global, volume: &mut Volume, call: &Call, turn: u64) -> Tried
 fn try_call(alloc: Global, volume: &mut Volume, call: &Call, turn: u64) -> Tried
     requires may { MayTurn volume.old.content call.now }
     ensures gives { Tries (try volume.old.content call.now (turn_number volume.old.content)) volume.old.content volume.new.content result }
-    ensures ends { volume.old.spare.ends ≤ volume.new.spare.ends }
+    ensures ends { KeepsEnds volume.old volume.new }
 {
     if volume.has_left(call.client) {
         return Tried::ends(Status::InvalidHandle);
@@ -89,11 +130,11 @@ fn try_call(alloc: Global, volume: &mut Volume, call: &Call, turn: u64) -> Tried
     try_what(alloc, volume, call, turn)
 }
 
-// How the call ended. On a quiet volume it is never held, and it never stays.
+// How the call ended. Where nothing waits it is never held, and it never stays.
 fn reply_to(alloc: Global, volume: &mut Volume, call: &Call, turn: u64) -> Result<Reply, NoMemory>
     requires may { MayTurn volume.old.content call.now }
     ensures gives { Gives (try volume.old.content call.now (turn_number volume.old.content)) volume.old.content volume.new.content result }
-    ensures ends { volume.old.spare.ends ≤ volume.new.spare.ends }
+    ensures ends { KeepsEnds volume.old volume.new }
 {
     match try_call(alloc, volume, call, turn) {
         Tried::Done(reply) => Ok(reply),
@@ -113,7 +154,7 @@ pub fn turn(alloc: Global, volume: &mut Volume, call: &Call) -> Result<Out, NoMe
         ends: 1,
         ..Need::nothing()
     })?;
-    let room = ReplyRoom::new(alloc, reply_bytes(&call.what), 0)?;
+    let room = ReplyRoom::new(alloc, reply_bytes(&call.what), reply_units(&call.what))?;
     turn_in_room(alloc, volume, call, room)
 }
 
@@ -126,7 +167,8 @@ fn turn_in_room(
 ) -> Result<Out, NoMemory>
     requires may { MayTurn volume.old.content call.now }
     requires ends { 1 ≤ volume.old.spare.ends }
-    requires reply { most_reply call.now.what ≤ room.bytes }
+    requires bytes { most_reply_bytes call.now.what ≤ room.bytes }
+    requires units { most_reply_units call.now.what ≤ room.units }
     ensures ok { IfOk result (λ out. turn volume.old.content call.now [] ≡ Some (record { volume = volume.new.content; out = out_of out })) }
     ensures err { OnErr result (volume.new.content ≡ volume.old.content) }
     ensures goes { OnOk result (Goes volume.old.content call.now.client call.now.number volume.new.content) }

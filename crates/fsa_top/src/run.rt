@@ -1,13 +1,13 @@
 //! The run of a script: each call in its turn, and the text of each turn to the sink.
 
-ghost use Rattle.std.specs.Prelude.{◌≡◌, ◌≤◌, ◌<◌, ◌+◌, ◌-◌, ◌^◌, ◌∷◌, ◌++◌, [], ℕ, List, length, map, drop, IfOk, OnOk, IsErrOf, IsTrue, OnErr};
+ghost use Rattle.std.specs.Prelude.{◌≡◌, ◌≤◌, ◌<◌, ◌+◌, ◌-◌, ◌^◌, ◌⊎◌, ◌∷◌, ◌++◌, [], ℕ, List, length, map, drop, IfOk, OnOk, IsErrOf, IsTrue, OnErr};
 ghost use Rattle.fsa_model.specs.Setup.{client_of};
 ghost use Rattle.fsa_model.specs.Schedule.{AreNumbered, all_calls, calls_of, leave_after};
 ghost use Rattle.fsa_model.specs.Volume.{fresh};
 ghost use Rattle.fsa_model.specs.Text.{last_line};
-ghost use Rattle.fsa_model.proofs.ScriptLaws.{AreLineCalls, HaveSids};
-ghost use Rattle.wire_io.specs.Faults.{HasCause, Rose};
-ghost use Rattle.wire_io.specs.Sink.{Appends, AppendsFront};
+ghost use Rattle.fsa_model.specs.LineCalls.{AreLineCalls, HaveSids};
+ghost use Rattle.wire_io.specs.Faults.{FailsLast};
+ghost use Rattle.wire_io.specs.Sink.{Appends, AppendsPart};
 ghost use Rattle.script_read.specs.ScriptView.{contents};
 ghost use Rattle.fsa_top.specs.Runs.{WritesPart, WritesText};
 ghost use Rattle.fsa_top.specs.Stands.{Shows, leaves_from, MakesTurn};
@@ -64,7 +64,9 @@ fn make_turn<K: Sink>(
     requires may { MayTurn volume.old.content call.now }
     ensures made { MakesTurn volume.old.content volume.new.content (map client_of clients.now.items) call.now (K.written sink.old) (K.written sink.new) result }
     ensures later { K.faults sink.old ≤ K.faults sink.new }
-    ensures failed { IsErrOf result RunFault.Failed → Rose (K.faults sink.old) (K.faults sink.new) }
+    ensures failed { IsErrOf result RunFault.Failed → FailsLast (K.faults sink.old) (K.faults sink.new) (K.written sink.new).since_fault }
+    ensures unfailed { OnOk result (K.faults sink.new ≡ K.faults sink.old) }
+    ensures no_memory { IsErrOf result RunFault.NoMemory → K.faults sink.new ≡ K.faults sink.old }
 {
     let out = turn(alloc, volume, call)?;
     let mut lines = Vec::new(alloc);
@@ -114,7 +116,9 @@ fn run_calls<K: Sink>(
     ensures ok { OnOk result (Shows (contents script.now) [] volume.new.content (K.written sink.old) (K.written sink.new)) }
     ensures part { OnErr result (WritesPart (contents script.now) (K.written sink.old) (K.written sink.new)) }
     ensures later { K.faults sink.old ≤ K.faults sink.new }
-    ensures failed { IsErrOf result RunFault.Failed → Rose (K.faults sink.old) (K.faults sink.new) }
+    ensures failed { IsErrOf result RunFault.Failed → FailsLast (K.faults sink.old) (K.faults sink.new) (K.written sink.new).since_fault }
+    ensures unfailed { OnOk result (K.faults sink.new ≡ K.faults sink.old) }
+    ensures no_memory { IsErrOf result RunFault.NoMemory → K.faults sink.new ≡ K.faults sink.old }
 {
     let clients = script.clients();
     let lines = script.lines().as_slice();
@@ -144,8 +148,10 @@ fn begin(alloc: Global, script: &Script) -> Result<Volume, fsa_types::NoMemory>
 // Writes the last line.
 fn write_last<K: Sink>(alloc: Global, turns: u32, sink: &mut K) -> Result<(), RunFault>
     ensures ok { OnOk result (Appends (K.written sink.old) (K.written sink.new) (last_line turns)) }
-    ensures front { OnErr result (AppendsFront (K.written sink.old) (K.written sink.new) (last_line turns)) }
-    ensures failed { IsErrOf result RunFault.Failed → Rose (K.faults sink.old) (K.faults sink.new) }
+    ensures part { OnErr result (AppendsPart (K.written sink.old) (K.written sink.new) (last_line turns)) }
+    ensures failed { IsErrOf result RunFault.Failed → FailsLast (K.faults sink.old) (K.faults sink.new) (K.written sink.new).since_fault }
+    ensures unfailed { OnOk result (K.faults sink.new ≡ K.faults sink.old) }
+    ensures no_memory { IsErrOf result RunFault.NoMemory → K.faults sink.new ≡ K.faults sink.old }
     ensures later { K.faults sink.old ≤ K.faults sink.new }
 {
     let mut line = Vec::new(alloc);
@@ -176,7 +182,9 @@ fn run_on<K: Sink>(
     ensures ok { OnOk result (WritesText (contents script.now) (K.written sink.old) (K.written sink.new)) }
     ensures part { OnErr result (WritesPart (contents script.now) (K.written sink.old) (K.written sink.new)) }
     ensures later { K.faults sink.old ≤ K.faults sink.new }
-    ensures failed { IsErrOf result RunFault.Failed → Rose (K.faults sink.old) (K.faults sink.new) }
+    ensures failed { IsErrOf result RunFault.Failed → FailsLast (K.faults sink.old) (K.faults sink.new) (K.written sink.new).since_fault }
+    ensures unfailed { OnOk result (K.faults sink.new ≡ K.faults sink.old) }
+    ensures no_memory { IsErrOf result RunFault.NoMemory → K.faults sink.new ≡ K.faults sink.old }
 {
     run_calls(alloc, volume, script, sink)?;
     write_last(alloc, turn_count(script), sink)?;
@@ -192,17 +200,20 @@ fn is_short(script: &Script) -> bool
 }
 
 /// Runs a script: makes all its calls on a new volume, and writes the text of the history.
-/// `Failed` where the sink failed, `NoMemory` where there was no memory; a prefix of the text of
-/// the history so far is written then.
+/// `Failed` where the sink failed, `NoMemory` where there was no memory; a part of the text of a
+/// history that has all calls is written then, or nothing.
 pub fn run_script<K: Sink>(alloc: Global, script: &Script, sink: &mut K) -> Result<(), RunFault>
     requires fit { AreLineCalls (length (contents script.now).setup.clients) (contents script.now).lines }
     requires numbered { AreNumbered [] (all_calls (contents script.now)) }
     requires sids { HaveSids (contents script.now).setup.clients }
     requires few { length (contents script.now).lines ≤ 64 }
     ensures ok { OnOk result (WritesText (contents script.now) (K.written sink.old) (K.written sink.new)) }
-    ensures part { OnErr result (WritesPart (contents script.now) (K.written sink.old) (K.written sink.new)) }
+    ensures part { IsErrOf result RunFault.Failed → WritesPart (contents script.now) (K.written sink.old) (K.written sink.new) }
+    ensures memory { IsErrOf result RunFault.NoMemory → (sink.new ≡ sink.old) ⊎ WritesPart (contents script.now) (K.written sink.old) (K.written sink.new) }
     ensures later { K.faults sink.old ≤ K.faults sink.new }
-    ensures failed { IsErrOf result RunFault.Failed → Rose (K.faults sink.old) (K.faults sink.new) }
+    ensures failed { IsErrOf result RunFault.Failed → FailsLast (K.faults sink.old) (K.faults sink.new) (K.written sink.new).since_fault }
+    ensures unfailed { OnOk result (K.faults sink.new ≡ K.faults sink.old) }
+    ensures no_memory { IsErrOf result RunFault.NoMemory → K.faults sink.new ≡ K.faults sink.old }
 {
     if !is_short(script) {
         return Err(RunFault::NoMemory);

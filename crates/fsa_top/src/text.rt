@@ -4,24 +4,26 @@ ghost use Rattle.std.specs.Prelude.{◌≡◌, ◌<◌, ◌++◌, ◌∷◌, [],
 ghost use Rattle.fsa_types.specs.Status.{status_name};
 ghost use Rattle.fsa_model.specs.Setup.{client_of};
 ghost use Rattle.fsa_model.specs.Outcome.{out_of};
-ghost use Rattle.fsa_model.specs.Text.{action_text, answer_line, body_text, bytes_text, call_text, digit, end_line, ended_lines, hex_digits, interim_text, last_line, level_word, name_of, request_word, turn_text, verb};
+ghost use Rattle.fsa_model.specs.Text.{action_text, answer_line, body_text, bytes_text, call_text, digit, end_line, ended_lines, hex_digits, interim_text, last_line, level_word, name_of, turn_text};
+ghost use Rattle.fsa_model.specs.Verbs.{request_word, verb};
 
+use crate::bodies::{push_broken, push_quota, push_stopped};
 use fsa_types::{
     Action, Answer, Body, Call, ClientList, EndOf, Interim, Level, NoMemory, Out, Reply, Request,
     What,
 };
 use itoa::Buffer;
 
-// The digit of a number below 16, in lower case.
-fn digit(n: u8) -> u8
+/// The digit of a number below 16, in lower case.
+pub fn digit(n: u8) -> u8
     requires { n < 16 }
     ensures { result ≡ digit n }
 {
     if n < 10 { 48 + n } else { 87 + n }
 }
 
-// Two digits for each byte.
-fn push_hex(line: &mut Vec<u8>, bytes: &[u8]) -> Result<(), NoMemory>
+/// Puts two digits for each byte at the end.
+pub fn push_hex(line: &mut Vec<u8>, bytes: &[u8]) -> Result<(), NoMemory>
     ensures { IfOk result (λ _. line.new.items ≡ line.old.items ++ hex_digits bytes.now) }
 {
     for byte in bytes {
@@ -83,7 +85,8 @@ fn verb(what: &What) -> &'static str
     }
 }
 
-fn level_word(level: Level) -> &'static str
+/// The word of a level.
+pub fn level_word(level: Level) -> &'static str
     ensures { result.now ≡ level_word level }
 {
     match level {
@@ -120,11 +123,19 @@ fn push_body(line: &mut Vec<u8>, body: &Body) -> Result<(), NoMemory>
             line.push(32)?;
             push_number(line, *count)
         }
-        _ => Ok(()),
+        Body::Broken { level, ack } => push_broken(line, *level, *ack),
+        Body::Left(level) => {
+            line.push(32)?;
+            push_text(line, level_word(*level))
+        }
+        Body::Stopped { tag, bytes, rest } => push_stopped(line, *tag, bytes.bytes(), rest.units()),
+        Body::Quota { charge, limit } => push_quota(line, *charge, *limit),
+        Body::Nothing | Body::Packed(..) => Ok(()),
     }
 }
 
-fn push_text(line: &mut Vec<u8>, text: &str) -> Result<(), NoMemory>
+/// Puts a text at the end.
+pub fn push_text(line: &mut Vec<u8>, text: &str) -> Result<(), NoMemory>
     ensures { IfOk result (λ _. line.new.items ≡ line.old.items ++ text.now) }
 {
     line.extend_from_slice(text.as_bytes())?;

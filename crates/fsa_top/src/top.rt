@@ -3,11 +3,11 @@
 ghost use Rattle.std.specs.Prelude.{◌≡◌, ◌≢◌, ◌≤◌, ◌<◌, ◌+◌, ◌⊎◌, ◌↔◌, ℕ, List, Some, None, Ok, Err, false, true, length};
 ghost use Rattle.fsa_model.specs.Script.{script_of};
 ghost use Rattle.script_read.specs.ScriptView.{contents};
-ghost use Rattle.wire_io.specs.Faults.{Rose};
+ghost use Rattle.wire_io.specs.Faults.{FailsLast, StopsAtFault};
+ghost use Rattle.wire_io.specs.Source.{HasReadAtMost, TakesLittle};
 ghost use Rattle.fsa_top.specs.Limits.{limit_of, most_bytes};
-ghost use Rattle.fsa_top.specs.Runs.{FoundBad, FoundLimit, IsNoScript, IsScript, NamesFault, NamesLimit, Ran, RanInPart, RunsPart, RunsText, WritesPart, WritesText};
-ghost use Rattle.fsa_top.specs.Words.{Says, is_run, limit_line, usage_line};
-ghost use Rattle.fsa_top.specs.declared.limits.Limit.{Limit};
+ghost use Rattle.fsa_top.specs.Promised.{Promised};
+ghost use Rattle.fsa_top.specs.Runs.{FoundBad, FoundLimit, NamesFault, NamesLimit, Ran, RanInPart, RunsPart, RunsText, WritesPart, WritesText};
 
 use crate::limits::{Limit, MOST_SCRIPT_BYTES, limit_of};
 use crate::lines::{is_run, say_bad, say_limit, say_usage};
@@ -22,8 +22,10 @@ use wire_io::{Gate, Sink, Source, read_all};
 fn run_read<K: Sink>(alloc: Global, bytes: &[u8], script: &Script, sink: &mut K) -> u8
     requires { script_of bytes.now ≡ Ok (contents script.now) }
     ensures done { result ≡ 0 → WritesText (contents script.now) (K.written sink.old) (K.written sink.new) }
-    ensures part { result ≢ 0 → WritesPart (contents script.now) (K.written sink.old) (K.written sink.new) }
-    ensures write { result ≡ 4 → Rose (K.faults sink.old) (K.faults sink.new) }
+    ensures part { result ≡ 4 → WritesPart (contents script.now) (K.written sink.old) (K.written sink.new) }
+    ensures write { result ≡ 4 → FailsLast (K.faults sink.old) (K.faults sink.new) (K.written sink.new).since_fault }
+    ensures memory { result ≡ 5 → (sink.new ≡ sink.old) ⊎ WritesPart (contents script.now) (K.written sink.old) (K.written sink.new) }
+    ensures unfailed { result ≢ 4 → K.faults sink.new ≡ K.faults sink.old }
     ensures known { (result ≡ 0) ⊎ ((result ≡ 4) ⊎ (result ≡ 5)) }
     ensures later { K.faults sink.old ≤ K.faults sink.new }
 {
@@ -38,7 +40,9 @@ fn run_read<K: Sink>(alloc: Global, bytes: &[u8], script: &Script, sink: &mut K)
 fn run_within<K: Sink>(alloc: Global, bytes: &[u8], sink: &mut K) -> u8
     ensures done { result ≡ 0 → RunsText bytes.now (K.written sink.old) (K.written sink.new) }
     ensures bad { result ≡ 2 → NamesFault bytes.now (K.written sink.old) (K.written sink.new) (K.faults sink.old) (K.faults sink.new) }
-    ensures write { result ≡ 4 → Rose (K.faults sink.old) (K.faults sink.new) }
+    ensures write { result ≡ 4 → FailsLast (K.faults sink.old) (K.faults sink.new) (K.written sink.new).since_fault }
+    ensures unfailed { result ≡ 5 → K.faults sink.new ≡ K.faults sink.old }
+    ensures stops { StopsAtFault (K.faults sink.old) (K.faults sink.new) (K.written sink.new).since_fault }
     ensures part { result ≡ 4 → RunsPart bytes.now (K.written sink.old) (K.written sink.new) }
     ensures memory { result ≡ 5 → (sink.new ≡ sink.old) ⊎ RunsPart bytes.now (K.written sink.old) (K.written sink.new) }
     ensures known { (result ≡ 0) ⊎ ((result ≡ 2) ⊎ ((result ≡ 4) ⊎ (result ≡ 5))) }
@@ -60,7 +64,9 @@ fn run_bytes<K: Sink>(alloc: Global, bytes: &[u8], sink: &mut K) -> u8
     ensures within { (result ≢ 6) ↔ (limit_of bytes.now ≡ None) }
     ensures done { result ≡ 0 → RunsText bytes.now (K.written sink.old) (K.written sink.new) }
     ensures bad { result ≡ 2 → NamesFault bytes.now (K.written sink.old) (K.written sink.new) (K.faults sink.old) (K.faults sink.new) }
-    ensures write { result ≡ 4 → Rose (K.faults sink.old) (K.faults sink.new) }
+    ensures write { result ≡ 4 → FailsLast (K.faults sink.old) (K.faults sink.new) (K.written sink.new).since_fault }
+    ensures unfailed { result ≡ 5 → K.faults sink.new ≡ K.faults sink.old }
+    ensures stops { StopsAtFault (K.faults sink.old) (K.faults sink.new) (K.written sink.new).since_fault }
     ensures part { result ≡ 4 → RunsPart bytes.now (K.written sink.old) (K.written sink.new) }
     ensures memory { result ≡ 5 → (sink.new ≡ sink.old) ⊎ RunsPart bytes.now (K.written sink.old) (K.written sink.new) }
     ensures limit { result ≡ 6 → NamesLimit bytes.now (K.written sink.old) (K.written sink.new) (K.faults sink.old) (K.faults sink.new) }
@@ -80,12 +86,17 @@ fn run_bytes<K: Sink>(alloc: Global, bytes: &[u8], sink: &mut K) -> u8
 fn run_source<S: Source, K: Sink>(alloc: Global, source: &mut S, sink: &mut K) -> u8
     ensures done { result ≡ 0 → Ran (S.left source.old) (S.left source.new) (K.written sink.old) (K.written sink.new) }
     ensures bad { result ≡ 2 → FoundBad (S.left source.old) (S.left source.new) (K.written sink.old) (K.written sink.new) (K.faults sink.old) (K.faults sink.new) }
-    ensures read { result ≡ 3 → Rose (S.faults source.old) (S.faults source.new) × (sink.new ≡ sink.old) }
-    ensures write { result ≡ 4 → Rose (K.faults sink.old) (K.faults sink.new) × RanInPart (S.left source.old) (S.left source.new) (K.written sink.old) (K.written sink.new) }
+    ensures read { result ≡ 3 → FailsLast (S.faults source.old) (S.faults source.new) (S.taken source.new).since × (sink.new ≡ sink.old) }
+    ensures write { result ≡ 4 → FailsLast (K.faults sink.old) (K.faults sink.new) (K.written sink.new).since_fault × RanInPart (S.left source.old) (S.left source.new) (K.written sink.old) (K.written sink.new) }
     ensures memory { result ≡ 5 → (sink.new ≡ sink.old) ⊎ RanInPart (S.left source.old) (S.left source.new) (K.written sink.old) (K.written sink.new) }
     ensures limit { result ≡ 6 → FoundLimit (S.left source.old) (K.written sink.old) (K.written sink.new) (K.faults sink.old) (K.faults sink.new) }
     ensures known { (result ≢ 1) × (result ≤ 6) }
-    ensures turns { S.takes source.new ≤ S.takes source.old + (MOST_SCRIPT_BYTES + 1) }
+    ensures unfailed { result ≡ 5 → (S.faults source.new ≡ S.faults source.old) × (K.faults sink.new ≡ K.faults sink.old) }
+    ensures turns { S.takes source.new ≤ S.takes source.old + (most_bytes + 1) }
+    ensures bytes { HasReadAtMost (most_bytes + 1) (S.left source.old) (S.left source.new) }
+    ensures little { TakesLittle (most_bytes + 1) (S.taken source.old) (S.taken source.new) }
+    ensures ended { (result ≡ 0) ⊎ (result ≡ 2) → (S.taken source.new).since ≡ 0 }
+    ensures stops { StopsAtFault (K.faults sink.old) (K.faults sink.new) (K.written sink.new).since_fault }
     ensures later { (S.faults source.old ≤ S.faults source.new) × (K.faults sink.old ≤ K.faults sink.new) }
 {
     match read_all(alloc, source, MOST_SCRIPT_BYTES) {
@@ -109,37 +120,28 @@ fn run_source<S: Source, K: Sink>(alloc: Global, source: &mut S, sink: &mut K) -
 ///   history is written.
 /// - 1: the words are no list that the program takes.
 /// - 2: the bytes are no script; the line that names the least faulty line is written.
-/// - 3: the source failed; nothing is written.
-/// - 4: the sink failed; a prefix of the text of a scheduled history is written.
-/// - 5: there was no memory; such a prefix, or nothing, is written.
+/// - 3: the source failed at its last take; nothing is written.
+/// - 4: the sink failed at its last put; a part of the text of a scheduled history that has all calls is
+///   written, and not all of it.
+/// - 5: there was no memory, and neither the source nor the sink failed; such a part, or nothing, is written.
 /// - 6: the source has more than 16,777,216 bytes, more than 40,000 line feeds, or more than 64 lines
 ///   that begin with `client `, a last one without its line feed among them; the line `limit bytes`,
 ///   `limit lines` or `limit clients` names the first of these.
 ///
 /// The statuses are decided in the order 1, then 3 and 6 for bytes while reading, 6 for lines, 6 for
-/// clients, 2, and 4 while writing. The source is asked at most 16,777,217 times. A status that is decided stands also where the sink fails while its line is written.
+/// clients, 2, and 4 while writing. A status that is decided stands also where the sink fails while its
+/// line is written.
+///
+/// The source is asked at most 16,777,217 times, for at most one byte above the limit, and not again once
+/// it has failed or met its end. The sink is never given an empty piece, isn't asked again once it has
+/// failed, and is asked at most once for each byte of the text.
 pub fn fsa_single<S: Source, K: Sink>(
     alloc: Global,
     words: &[String],
     source: &mut S,
     sink: &mut K,
 ) -> u8
-    ensures success_is_the_text_of_the_one_history { result ≡ 0 → Ran (S.left source.old) (S.left source.new) (K.written sink.old) (K.written sink.new) }
-    ensures usage_exactly { (result ≡ 1) ↔ (is_run words.now ≡ false) }
-    ensures usage_reads_nothing { result ≡ 1 → (source.new ≡ source.old) × Says usage_line (K.written sink.old) (K.written sink.new) (K.faults sink.old) (K.faults sink.new) }
-    ensures bad_script { result ≡ 2 → FoundBad (S.left source.old) (S.left source.new) (K.written sink.old) (K.written sink.new) (K.faults sink.old) (K.faults sink.new) }
-    ensures source_failed { result ≡ 3 → Rose (S.faults source.old) (S.faults source.new) × (sink.new ≡ sink.old) }
-    ensures sink_failed { result ≡ 4 → Rose (K.faults sink.old) (K.faults sink.new) × RanInPart (S.left source.old) (S.left source.new) (K.written sink.old) (K.written sink.new) }
-    ensures no_memory { result ≡ 5 → (sink.new ≡ sink.old) ⊎ RanInPart (S.left source.old) (S.left source.new) (K.written sink.old) (K.written sink.new) }
-    ensures limit_passed { result ≡ 6 → FoundLimit (S.left source.old) (K.written sink.old) (K.written sink.new) (K.faults sink.old) (K.faults sink.new) }
-    ensures known { result ≤ 6 }
-    ensures reads_in_few_turns { S.takes source.new ≤ S.takes source.old + (MOST_SCRIPT_BYTES + 1) }
-    ensures faults_never_fall { (S.faults source.old ≤ S.faults source.new) × (K.faults sink.old ≤ K.faults sink.new) }
-
-    // The converses: what the words and the bytes are decides the status, but for want of memory.
-    ensures complete { (bytes : List ℕ) → is_run words.now ≡ true → S.left source.old ≡ Some bytes → limit_of bytes ≡ None → IsScript bytes → (Rose (S.faults source.old) (S.faults source.new) → ⊥) → (Rose (K.faults sink.old) (K.faults sink.new) → ⊥) → (result ≡ 0) ⊎ (result ≡ 5) }
-    ensures bad_exactly { (bytes : List ℕ) → is_run words.now ≡ true → S.left source.old ≡ Some bytes → limit_of bytes ≡ None → IsNoScript bytes → (Rose (S.faults source.old) (S.faults source.new) → ⊥) → (result ≡ 2) ⊎ (result ≡ 5) }
-    ensures limit_exactly { (bytes : List ℕ) (limit : Limit) → is_run words.now ≡ true → S.left source.old ≡ Some bytes → limit_of bytes ≡ Some limit → (Rose (S.faults source.old) (S.faults source.new) → ⊥) → ((result ≡ 6) × Says (limit_line limit) (K.written sink.old) (K.written sink.new) (K.faults sink.old) (K.faults sink.new)) ⊎ (result ≡ 5) }
+    ensures promised { Promised (record { left = S.left; faults = S.faults; takes = S.takes; taken = S.taken }) (record { written = K.written; faults = K.faults }) words.now source.old source.new sink.old sink.new result }
 {
     if !is_run(words) {
         say_usage(sink);
@@ -158,20 +160,7 @@ pub fn fsa_main<R: Threads + Wait + Sync, S: Source, K: Sink, G: Gate + Sync>(
     sink: &mut K,
     gate: &G,
 ) -> u8
-    ensures success_is_the_text_of_the_one_history { result ≡ 0 → Ran (S.left source.old) (S.left source.new) (K.written sink.old) (K.written sink.new) }
-    ensures usage_exactly { (result ≡ 1) ↔ (is_run words.now ≡ false) }
-    ensures usage_reads_nothing { result ≡ 1 → (source.new ≡ source.old) × Says usage_line (K.written sink.old) (K.written sink.new) (K.faults sink.old) (K.faults sink.new) }
-    ensures bad_script { result ≡ 2 → FoundBad (S.left source.old) (S.left source.new) (K.written sink.old) (K.written sink.new) (K.faults sink.old) (K.faults sink.new) }
-    ensures source_failed { result ≡ 3 → Rose (S.faults source.old) (S.faults source.new) × (sink.new ≡ sink.old) }
-    ensures sink_failed { result ≡ 4 → Rose (K.faults sink.old) (K.faults sink.new) × RanInPart (S.left source.old) (S.left source.new) (K.written sink.old) (K.written sink.new) }
-    ensures no_memory { result ≡ 5 → (sink.new ≡ sink.old) ⊎ RanInPart (S.left source.old) (S.left source.new) (K.written sink.old) (K.written sink.new) }
-    ensures limit_passed { result ≡ 6 → FoundLimit (S.left source.old) (K.written sink.old) (K.written sink.new) (K.faults sink.old) (K.faults sink.new) }
-    ensures known { result ≤ 6 }
-    ensures reads_in_few_turns { S.takes source.new ≤ S.takes source.old + (MOST_SCRIPT_BYTES + 1) }
-    ensures faults_never_fall { (S.faults source.old ≤ S.faults source.new) × (K.faults sink.old ≤ K.faults sink.new) }
-    ensures complete { (bytes : List ℕ) → is_run words.now ≡ true → S.left source.old ≡ Some bytes → limit_of bytes ≡ None → IsScript bytes → (Rose (S.faults source.old) (S.faults source.new) → ⊥) → (Rose (K.faults sink.old) (K.faults sink.new) → ⊥) → (result ≡ 0) ⊎ (result ≡ 5) }
-    ensures bad_exactly { (bytes : List ℕ) → is_run words.now ≡ true → S.left source.old ≡ Some bytes → limit_of bytes ≡ None → IsNoScript bytes → (Rose (S.faults source.old) (S.faults source.new) → ⊥) → (result ≡ 2) ⊎ (result ≡ 5) }
-    ensures limit_exactly { (bytes : List ℕ) (limit : Limit) → is_run words.now ≡ true → S.left source.old ≡ Some bytes → limit_of bytes ≡ Some limit → (Rose (S.faults source.old) (S.faults source.new) → ⊥) → ((result ≡ 6) × Says (limit_line limit) (K.written sink.old) (K.written sink.new) (K.faults sink.old) (K.faults sink.new)) ⊎ (result ≡ 5) }
+    ensures promised { Promised (record { left = S.left; faults = S.faults; takes = S.takes; taken = S.taken }) (record { written = K.written; faults = K.faults }) words.now source.old source.new sink.old sink.new result }
 {
     let _rt = rt;
     let _gate = gate;

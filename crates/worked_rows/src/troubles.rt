@@ -23,7 +23,7 @@ enum Trouble {
 // many calls there are, each of which meets the trouble in turn; the status then, and the status
 // and the text where the trouble comes after them.
 //
-// The first example has 114 bytes, and its text 148, in five turns and the last line.
+// The script of one client has 114 bytes, and its text 148, in five turns and the last line.
 const CASES: [(&str, usize, Trouble, usize, u32, u8, u8, &str); 12] = [
     (FIRST, 1, Trouble::Take, 1, 115, 3, 0, FIRST_TEXT),
     (FIRST, 1, Trouble::Take, 32, 5, 3, 0, FIRST_TEXT),

@@ -1,7 +1,7 @@
 use Rattle.std.proofs.Common.{inl, inr, subst}
 use Rattle.fsa_model.specs.Turn.{try, turn_number}
 use Rattle.volume_state.specs.Tried.{Gives}
-use Rattle.fsa_top.proofs.TryQuiet.{never_held, never_stays}
+use Rattle.fsa_top.proofs.TryAlone.{never_held, never_stays}
 use Rattle.fsa_top.proofs.machine.reply_to.Goals as goal
 
 pub unreachable-requires : goal.unreachable-requires

@@ -2,7 +2,7 @@ use Rattle.std.proofs.Common.{ap, map, subst, sym, ◌∙◌}
 use Rattle.fsa_types.specs.BoundedList.{Bounded}
 use Rattle.fsa_types.specs.declared.setup.Client.{Client as GivenClient}
 use Rattle.fsa_model.specs.Setup.{client_of}
-use Rattle.fsa_model.proofs.ScriptLaws.{HaveSids}
+use Rattle.fsa_model.specs.LineCalls.{HaveSids}
 use Rattle.fsa_top.proofs.RunLaws.{HaveSids-given}
 use Rattle.fsa_top.proofs.run.begin.Goals as goal
 

@@ -3,12 +3,13 @@ use Rattle.std.proofs.lemmas.List.{length-map}
 use Rattle.fsa_types.specs.declared.request.Call.{Call}
 use Rattle.fsa_model.specs.Setup.{Client, client_of}
 use Rattle.fsa_model.specs.Schedule.{leave_after}
-use Rattle.fsa_model.proofs.ScriptLaws.{AreLineCalls}
+use Rattle.fsa_model.specs.LineCalls.{AreLineCalls}
 use Rattle.script_read.specs.ScriptView.{contents}
 use Rattle.fsa_top.specs.Stands.{MakesTurn, Turns}
 use Rattle.fsa_top.specs.Try.{MayTurn}
 use Rattle.fsa_top.specs.declared.run.RunFault.{RunFault}
-use Rattle.fsa_top.proofs.RunLaws.{AreLineCalls-at, IsLineCall-leave, MakesTurn-part, OnErr-any, Shows-leave, Shows-may, Shows-next, Shows-turn, length-all_calls}
+use Rattle.fsa_top.proofs.RunLaws.{AreLineCalls-at, IsLineCall-leave, OnErr-any, Shows-leave, Shows-may, Shows-next, Shows-turn, length-all_calls}
+use Rattle.fsa_top.proofs.WholeLaws.{MakesTurn-part}
 use Rattle.fsa_top.proofs.run.run_calls.Goals as goal
 
 pub make_turn-requires : goal.make_turn-requires
@@ -41,7 +42,7 @@ returns-in_err-make_turn-clause-part g c =
     let mid = g.K.Sink.written c.loop-call.sink in
     let now = g.K.Sink.written c.make_turn.new.sink in
     OnErr-any {T = Unit {0}} {E = RunFault} c.from_residual.result _
-    (MakesTurn-part (contents c.args.script.now) c.call-item.result _ c.loop-call.volume.content c.make_turn.new.volume.content old mid now c.in_err-make_turn.field-0.0
+    (MakesTurn-part (contents c.args.script.now) c.call-item.result _ c.loop-call.volume.content c.make_turn.new.volume.content old mid now c.in_err-make_turn.field-0.0 c.requires.fit c.requires.few
     (Shows-next (contents c.args.script.now) c.as_slice-lines.result.now _ c.loop-call.call-index c.call-item.result _ old mid c.loop-call.invariant.shows c.loop-call-test.true c.call-item.is)
     (subst (λ (clients : List Client). MakesTurn c.loop-call.volume.content c.make_turn.new.volume.content clients c.call-item.result mid now (Err c.in_err-make_turn.field-0.0)) c.clients-clients.ensures c.in_err-make_turn.ensures.made))
 
@@ -54,7 +55,7 @@ loop-call-preserved g c =
       shows = Shows-turn (contents c.args.script.now) c.call-item.result _ c.loop-call.volume.content c.make_turn.new.volume.content old mid now c.in_ok-make_turn.ensures.made.0
           (Shows-next (contents c.args.script.now) c.as_slice-lines.result.now _ c.loop-call.call-index c.call-item.result _ old mid c.loop-call.invariant.shows c.loop-call-test.true c.call-item.is)
           (subst (λ (clients : List Client). Turns c.loop-call.volume.content c.make_turn.new.volume.content clients c.call-item.result mid now c.in_ok-make_turn.ensures.made.0) c.clients-clients.ensures c.in_ok-make_turn.ensures.made.1);
-      later = omega (arith, c.in_ok-make_turn.ensures.later);
+      unfailed = c.in_ok-make_turn.ensures.unfailed ∙ c.loop-call.invariant.unfailed;
     }
 
 pub overflow_cast-client : goal.overflow_cast-client
@@ -71,7 +72,7 @@ returns-in_err-make_turn-2-clause-part g c =
     let within : c.loop-client.client < length (contents c.args.script.now).setup.clients = omega (arith, c.loop-client-test.true, c.len-client-end.ensures, mapped, ap length c.clients-clients.ensures) in
     let leaving : c.leave_after-call.result ≡ leave_after (contents c.args.script.now).lines c.loop-client.client = c.leave_after-call.ensures ∙ ap (λ (lines : List Call). leave_after lines c.loop-client.client) (c.as_slice-lines.ensures ∙ c.lines.ensures) in
     OnErr-any {T = Unit {0}} {E = RunFault} c.from_residual-in_err-make_turn-2.result _
-    (MakesTurn-part (contents c.args.script.now) (leave_after (contents c.args.script.now).lines c.loop-client.client) _ c.loop-client.volume.content c.make_turn-in-loop-client.new.volume.content old mid now c.in_err-make_turn-2.field-0.0
+    (MakesTurn-part (contents c.args.script.now) (leave_after (contents c.args.script.now).lines c.loop-client.client) _ c.loop-client.volume.content c.make_turn-in-loop-client.new.volume.content old mid now c.in_err-make_turn-2.field-0.0 c.requires.fit c.requires.few
     (Shows-leave (contents c.args.script.now) c.loop-client.client _ old mid c.loop-client.invariant.shows within)
     (subst (λ (call : Call). MakesTurn c.loop-client.volume.content c.make_turn-in-loop-client.new.volume.content (contents c.args.script.now).setup.clients call mid now (Err c.in_err-make_turn-2.field-0.0)) leaving
     (subst (λ (clients : List Client). MakesTurn c.loop-client.volume.content c.make_turn-in-loop-client.new.volume.content clients c.leave_after-call.result mid now (Err c.in_err-make_turn-2.field-0.0)) c.clients-clients.ensures c.in_err-make_turn-2.ensures.made)))
@@ -89,5 +90,5 @@ loop-client-preserved g c =
           (Shows-leave (contents c.args.script.now) c.loop-client.client _ old mid c.loop-client.invariant.shows within)
           (subst (λ (call : Call). Turns c.loop-client.volume.content c.make_turn-in-loop-client.new.volume.content (contents c.args.script.now).setup.clients call mid now c.in_ok-make_turn-2.ensures.made.0) leaving
           (subst (λ (clients : List Client). Turns c.loop-client.volume.content c.make_turn-in-loop-client.new.volume.content clients c.leave_after-call.result mid now c.in_ok-make_turn-2.ensures.made.0) c.clients-clients.ensures c.in_ok-make_turn-2.ensures.made.1));
-      later = omega (arith, c.in_ok-make_turn-2.ensures.later);
+      unfailed = c.in_ok-make_turn-2.ensures.unfailed ∙ c.loop-client.invariant.unfailed;
     }

@@ -2,10 +2,11 @@ use Rattle.std.proofs.Common.{ℕ, subst}
 use Rattle.fsa_model.specs.Schedule.{all_calls}
 use Rattle.fsa_model.specs.Text.{last_line}
 use Rattle.script_read.specs.ScriptView.{contents}
-use Rattle.wire_io.specs.Sink.{Appends, AppendsFront}
+use Rattle.wire_io.specs.Sink.{Appends, AppendsPart}
 use Rattle.fsa_top.specs.Stands.{turns_of}
 use Rattle.fsa_top.specs.declared.run.RunFault.{RunFault}
-use Rattle.fsa_top.proofs.RunLaws.{IsHistory-whole, OnErr-any, Shows-last_front, Shows-whole}
+use Rattle.fsa_top.proofs.RunLaws.{OnErr-any, Shows-whole}
+use Rattle.fsa_top.proofs.WholeLaws.{IsHistory-whole, Shows-last_part}
 use Rattle.fsa_top.proofs.run.run_on.Goals as goal
 
 pub returns-in_err-write_last-clause-part : goal.returns-in_err-write_last-clause-part
@@ -14,8 +15,8 @@ returns-in_err-write_last-clause-part g c =
     let mid = g.K.Sink.written c.run_calls.new.sink in
     let now = g.K.Sink.written c.write_last.new.sink in
     OnErr-any {T = Unit {0}} {E = RunFault} c.from_residual-in_err-write_last.result _
-    (Shows-last_front (contents c.args.script.now) _ old mid now c.in_ok-run_calls.ensures.ok
-    (subst (λ (n : ℕ). AppendsFront mid now (last_line n)) c.turn_count.ensures c.in_err-write_last.ensures.front))
+    (Shows-last_part (contents c.args.script.now) _ old mid now c.in_ok-run_calls.ensures.ok
+    (subst (λ (n : ℕ). AppendsPart mid now (last_line n)) c.turn_count.ensures c.in_err-write_last.ensures.part))
 
 pub returns-clause-ok : goal.returns-clause-ok
 returns-clause-ok g c =
@@ -23,7 +24,7 @@ returns-clause-ok g c =
     let mid = g.K.Sink.written c.run_calls.new.sink in
     let now = g.K.Sink.written c.write_last.new.sink in (
       turns_of (all_calls (contents c.args.script.now)),
-      IsHistory-whole (contents c.args.script.now) _ old mid c.in_ok-run_calls.ensures.ok,
+      IsHistory-whole (contents c.args.script.now) _ old mid c.requires.fit c.requires.few c.in_ok-run_calls.ensures.ok,
       Shows-whole (contents c.args.script.now) _ old mid now c.in_ok-run_calls.ensures.ok
           (subst (λ (n : ℕ). Appends mid now (last_line n)) c.turn_count.ensures c.in_ok-write_last.ensures.ok),
     )
