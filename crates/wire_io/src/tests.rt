@@ -116,7 +116,9 @@ fn passes_bytes_and_faults(rt: HostRuntime) -> Result<(), Fail> {
 }
 
 /// Passes a gate that threads may share.
-fn pass_shared<G: Gate + Sync>(gate: &G) {
+fn pass_shared<G: Gate + Sync>(gate: &G)
+    requires { G.is_for gate.now 0 1 }
+{
     gate.pass(0, 1);
 }
 
