@@ -8,6 +8,7 @@ use Rattle.std.proofs.lemmas.List.Kept.{AllPairs-filter}
 use Rattle.fsa_types.proofs.OplockLemmas.{AreOplocks-effect, CanHave-effect, IsCopy-effect, chosen-are}
 use Rattle.fsa_types.proofs.RowLemmas.{length-filter_le}
 use Rattle.fsa_types.specs.OplockLists.{OplockState, begun, lowered, left_by, last_by, after_effect, effect_on, after_breaks, IsOplock, CanHave, IsCopy}
+use Rattle.fsa_types.specs.OplockLists.{number_of_break}
 use Rattle.fsa_types.specs.Oplocks.{Effect, Stays, Ends, Begins, Lowers, effect, is_awaited}
 use Rattle.fsa_types.specs.Rows.{row_of}
 use Rattle.fsa_types.specs.Sorting.{put_in_order, in_order}
@@ -16,12 +17,16 @@ use Rattle.fsa_types.specs.declared.oplock.HandleSet.{HandleSet}
 use Rattle.fsa_types.specs.declared.request.Level.{Level}
 use Rattle.fsa_types.specs.declared.request.Level.TheVariants.{Nil}
 use Rattle.fsa_types.specs.declared.reply.Reply.{Reply}
-use Rattle.fsa_model.specs.Breaks.{with_told, with_told_by, oplocks_of, with_oplocks, with_break_begun, with_effect, with_breaks, is_broken_before, is_chosen, is_told, chosen, told, awaited, break_of}
+use Rattle.fsa_model.specs.Breaks.{with_told, with_told_by, oplocks_of, with_oplocks, with_break_begun, with_effect, with_breaks, is_broken_before, is_chosen, is_told, chosen, told, awaited}
 use Rattle.fsa_model.specs.Edits.{is_call, with_end, without_oplock}
 use Rattle.fsa_model.specs.Sound.{IsGiven, IsSound, has_its_key}
 use Rattle.fsa_model.specs.Volume.{Handle, Oplock, Pending, Volume}
 use Rattle.fsa_model.proofs.RowLaws.{option_cases}
 use Rattle.fsa_model.proofs.SoundWaits.{touched, IsSound-touched, blockers-later}
+
+-- the number of the break in progress on a handle
+abbrev pub break_of : Volume → ℕ → ℕ
+break_of v handle = number_of_break v.oplocks handle
 
 pub touched-told : (v : Volume) (turn : Option ℕ) (level : Level) (ack : Bool) → with_told v turn level ack ≡ touched v (with_told v turn level ack)
 touched-told v None level ack = refl

@@ -27,6 +27,7 @@ use Rattle.fsa_types.specs.declared.reply.Blocker.{Blocker}
 use Rattle.fsa_types.specs.declared.status.Status.TheVariants.{InvalidHandle, InvalidDeviceRequest, AccessDenied, InvalidParameter, EndOfFile, FileLockConflict, LockNotGranted, InvalidLockRange}
 use Rattle.fsa_model.specs.Waiting.{blocker_lives}
 use Rattle.fsa_model.proofs.OnceLaws.{Extends-same}
+use Rattle.fsa_model.proofs.PendLaws.{HandlesStay-same}
 use Rattle.fsa_model.proofs.RowLaws.{any-push}
 use Rattle.fsa_model.proofs.WaitLaws.{HasOneOplockEach}
 use Rattle.fsa_model.proofs.TryLaws.{Watches-equal, SameNumbers-same, Tries-untouched, is_given, Leaves, Leaves-same, Untouched, Untouched-same, Untouched-noted, Tries, Tries-done, Tries-held, Tries-refused, Tries-if, Tries-option, Tries-breaks}
@@ -83,7 +84,7 @@ Untouched-write_noted v link stream longer = go (is_named_stream v stream)
 Untouched-written : (v : Volume) (link stream at : ℕ) (bytes : List ℕ) → Untouched v (with_written v link stream at bytes)
 Untouched-written v link stream at bytes =
     let noted : Untouched v (with_write_noted v link stream (lengthens v stream at bytes)) = Untouched-write_noted v link stream (lengthens v stream at bytes) in
-    record { oplocks = noted.oplocks; locks = noted.locks; pending = noted.pending; ended = noted.ended; last_break = noted.last_break; seen = record { more = noted.seen.more; changes = noted.seen.changes; watches = noted.seen.watches }; numbers = record { files = noted.numbers.files; links = noted.numbers.links; streams = noted.numbers.streams; handles = noted.numbers.handles; locks = noted.numbers.locks } }
+    record { oplocks = noted.oplocks; locks = noted.locks; pending = noted.pending; ended = noted.ended; last_break = noted.last_break; seen = record { more = noted.seen.more; changes = noted.seen.changes; watches = noted.seen.watches }; opens = noted.opens; numbers = record { files = noted.numbers.files; links = noted.numbers.links; streams = noted.numbers.streams; handles = noted.numbers.handles; locks = noted.numbers.locks } }
 
 write_bytes-tries : (v : Volume) (link stream at : ℕ) (bytes : List ℕ) → Tries Leaves v (write_bytes v link stream at bytes)
 unfolding write_bytes
@@ -137,7 +138,7 @@ try_write-tries v client handle at bytes one =
 Untouched-resized : (v : Volume) (link stream end : ℕ) → Untouched v (with_resized v link stream end)
 Untouched-resized v link stream end =
     let noted : Untouched v (with_write_noted v link stream true) = Untouched-write_noted v link stream true in
-    record { oplocks = noted.oplocks; locks = noted.locks; pending = noted.pending; ended = noted.ended; last_break = noted.last_break; seen = record { more = noted.seen.more; changes = noted.seen.changes; watches = noted.seen.watches }; numbers = record { files = noted.numbers.files; links = noted.numbers.links; streams = noted.numbers.streams; handles = noted.numbers.handles; locks = noted.numbers.locks } }
+    record { oplocks = noted.oplocks; locks = noted.locks; pending = noted.pending; ended = noted.ended; last_break = noted.last_break; seen = record { more = noted.seen.more; changes = noted.seen.changes; watches = noted.seen.watches }; opens = noted.opens; numbers = record { files = noted.numbers.files; links = noted.numbers.links; streams = noted.numbers.streams; handles = noted.numbers.handles; locks = noted.numbers.locks } }
 
 Untouched-end_set : (v : Volume) (link stream end : ℕ) → Untouched v (with_end_set v link stream end)
 Untouched-end_set v link stream end = go (length (bytes_of v stream) == end)
@@ -212,6 +213,8 @@ Leaves-lock v handle at count exclusive = record {
   given = λ b is. given-lock v handle at count exclusive b is;
   breaks = omega arith;
   ones = λ one all_given each. each;
+  stay = HandlesStay-same refl refl;
+  pends = λ once one none. none;
 }
 
 -- the locks that are in the way are there

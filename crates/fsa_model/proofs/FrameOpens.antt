@@ -23,7 +23,7 @@ use Rattle.fsa_model.specs.Breaks.{with_breaks}
 use Rattle.fsa_model.specs.Edits.{is_call, with_file, with_stream, with_handle, with_length}
 use Rattle.fsa_model.specs.Frame.{is_failure, PointsFit, KeepsFrame, InFrame}
 use Rattle.fsa_model.specs.Lookups.{child_of, stream_of, is_directory, clashes_on, attributes_of, is_marked}
-use Rattle.fsa_model.specs.Open.{Asked, wants_directory, deletes_on_close, opens_point, overwrites, only_opens, only_makes, access_of, completes_if_oplocked, is_invalid, wants_no_right, lacks_delete, has_stream_part, stream_name, names_stream, grants, is_readonly, uncovers, stopped, with_open, opens, opened, waits, with_directory_made, with_file_made, make_directory, make_file, parent_right, create_missing, clashed, wants_more, open_existing, with_overwrite_noted, with_overwritten, overwrite_action, overwrite_existing, open_granted, open_directory, replacing_right, open_stream, create_on_stream, create_stream, create_in_file, is_other_kind, asks_for_file, create_there, create_found, create_by_link, create_named, create_walked, create_at, try_create}
+use Rattle.fsa_model.specs.Open.{Asked, wants_directory, deletes_on_close, opens_point, overwrites, only_opens, only_makes, access_of, completes_if_oplocked, is_invalid, wants_no_right, lacks_delete, has_stream_part, stream_name, names_stream, grants, is_readonly, uncovers, stopped, with_open, opens, opened, open_waits, with_directory_made, with_file_made, make_directory, make_file, parent_right, create_missing, clashed, wants_more, open_existing, with_overwrite_noted, with_overwritten, overwrite_action, overwrite_existing, open_granted, open_directory, replacing_right, open_stream, create_on_stream, create_stream, create_in_file, is_other_kind, asks_for_file, create_there, create_found, create_by_link, create_named, create_walked, create_at, try_create}
 use Rattle.fsa_model.specs.Outcome.{refused}
 use Rattle.fsa_model.specs.Sound.{PointFits}
 use Rattle.fsa_model.specs.Volume.{File, Handle, Pending, Volume}
@@ -206,7 +206,7 @@ open_existing-frame : (v : Volume) (asked : Asked) (link : ℕ) (stream : Option
 unfolding open_existing
 open_existing-frame v asked link stream on =
     InFrame-if (not (wants_more asked)) _ _ (λ is. opened-frame v asked link stream status.Success action.Opened refl)
-    (λ no. InFrame-if (not (waits v on ReadOpen asked.key)) _ _ (λ is. after_breaks status.Success refl)
+    (λ no. InFrame-if (not (open_waits v on ReadOpen asked.key)) _ _ (λ is. after_breaks status.Success refl)
     (λ no. InFrame-if (completes_if_oplocked asked) _ _ (λ is. after_breaks status.OplockBreakInProgress refl)
     (λ is. InFrame-held_by (call_of asked) v on ReadOpen None asked.key)))
   where

@@ -16,10 +16,10 @@ use Rattle.fsa_model.specs.Grant.{target_of, is_oplock_on, is_of_key, is_breakin
 use Rattle.fsa_model.specs.Lookups.{handle_of, is_open_on}
 use Rattle.fsa_model.specs.Once.{how_many, times, made, IsOnce}
 use Rattle.fsa_model.specs.Outcome.{Outcome, Done, Stay, Hold, refused}
-use Rattle.fsa_model.specs.Breaks.{break_of}
 use Rattle.fsa_model.specs.Turn.{volume_after}
 use Rattle.fsa_model.specs.Volume.{Handle, Oplock, Pending, Volume}
 use Rattle.fsa_model.specs.Waiting.{blocker_lives, is_breaking, is_granted_under}
+use Rattle.fsa_model.proofs.BreakLaws.{break_of}
 use Rattle.fsa_model.proofs.CountLaws.{and_left, and_right, and_true, none-how_many, how_many-same, how_many-append, how_many-filter, how_many-filter_le, how_many-map, how_many-none, how_many-some, how_many-split, how_many-weaker, some-how_many}
 use Rattle.fsa_model.proofs.KeepLaws.{KeepsAll, KeepsAll-old, KeepsAll-same, KeepsAll-next, KeepsAll-ends}
 use Rattle.fsa_model.proofs.OnceLaws.{Extends, Extends-same}
@@ -70,7 +70,7 @@ KeepsAll-call_ended v (Some turn) status = elim (option_cases (row_of v.pending 
   | inr some ↦ rw some.1 (KeepsAll-ends v some.0.call.client some.0.call.number _ (pending-found v.pending turn some.0 some.1))
 ]
 
-oplocks-call_ended : (v : Volume) (turn : Option ℕ) (status : Status) → (with_call_ended v turn status).oplocks ≡ v.oplocks
+pub oplocks-call_ended : (v : Volume) (turn : Option ℕ) (status : Status) → (with_call_ended v turn status).oplocks ≡ v.oplocks
 oplocks-call_ended v None status = refl
 oplocks-call_ended v (Some turn) status = elim (option_cases (row_of v.pending turn)) [ inl none ↦ rw none refl | inr some ↦ rw some.1 refl ]
 

@@ -61,13 +61,13 @@ KeepsAll-ends v client number reply pends = record { kept = KeepsNumbers-ends v 
 -- ---- how a try ends
 
 -- it ends its call, or the call stays pending and waits for no blocker
-abbrev pub StaysTo : Volume → Outcome → Type 0
-StaysTo v (Done after reply) = KeepsAll v after
-StaysTo v (Stay after interim) = KeepsAll v after
-StaysTo v (Hold after blockers interim) = ⊥
+abbrev pub KeptTo : Volume → Outcome → Type 0
+KeptTo v (Done after reply) = KeepsAll v after
+KeptTo v (Stay after interim) = KeepsAll v after
+KeptTo v (Hold after blockers interim) = ⊥
 
 pub record Kept (v : Volume) (outcome : Outcome) : Type 0 where
-  pub so : StaysTo v outcome
+  pub so : KeptTo v outcome
 
 pub Kept-done : {v : Volume} (w : Volume) (reply : Reply) → KeepsAll v w → Kept v (Done w reply)
 Kept-done w reply keeps = record { so = keeps }
@@ -124,7 +124,7 @@ KeepsAll-calls_ended status_of calls v pend =
     (let is = ap (λ (oplocks : List Oplock). how_many is_unbroken oplocks) same.oplocks in let last = same.last_break in omega arith)
     (λ number. (let is = ap (λ (oplocks : List Oplock). how_many (is_breaking number) oplocks) same.oplocks in omega arith))
 
-Keeps-ended_by_turn : (status_of : What → Status) (test : Pending → Bool) (v : Volume) → KeepsAll v (with_calls_ended status_of (pending_by_turn test v) v)
+pub Keeps-ended_by_turn : (status_of : What → Status) (test : Pending → Bool) (v : Volume) → KeepsAll v (with_calls_ended status_of (pending_by_turn test v) v)
 Keeps-ended_by_turn status_of test v = KeepsAll-calls_ended status_of (pending_by_turn test v) v (λ client number.
     let ordered = how_many-in_order (is_call_of client number) (λ a b. nat_lt a.0 b.0) (filter (λ e. test e.1) v.pending) in
     let kept = how_many-filter_le (is_call_of client number) (λ e. test e.1) v.pending in omega arith)
@@ -168,34 +168,34 @@ Untouched-option : {X : Type 0} {v : Volume} (found : Option X) (some : X → Vo
 Untouched-option None some none with_some with_none = with_none
 Untouched-option (Some x) some none with_some with_none = with_some x
 
-Untouched-mark_on_close : (v : Volume) (handle : Handle) → Untouched v (with_mark_on_close v handle)
+pub Untouched-mark_on_close : (v : Volume) (handle : Handle) → Untouched v (with_mark_on_close v handle)
 Untouched-mark_on_close v handle =
     Untouched-if (not handle.delete_on_close) v _ (Untouched-same v)
-    (Untouched-option (named_stream v handle) (λ stream. with_stream_marked v stream true) _ (λ stream. record { oplocks = refl; locks = refl; pending = refl; ended = refl; last_break = refl; seen = Watches-equal refl refl; numbers = record { files = refl; links = refl; streams = refl; handles = refl; locks = refl } })
-    (Untouched-if (is_link_of_parent v handle.link) v _ (Untouched-same v) (record { oplocks = refl; locks = refl; pending = refl; ended = refl; last_break = refl; seen = Watches-equal refl refl; numbers = record { files = refl; links = refl; streams = refl; handles = refl; locks = refl } })))
+    (Untouched-option (named_stream v handle) (λ stream. with_stream_marked v stream true) _ (λ stream. record { oplocks = refl; locks = refl; pending = refl; ended = refl; last_break = refl; seen = Watches-equal refl refl; opens = refl; numbers = record { files = refl; links = refl; streams = refl; handles = refl; locks = refl } })
+    (Untouched-if (is_link_of_parent v handle.link) v _ (Untouched-same v) (record { oplocks = refl; locks = refl; pending = refl; ended = refl; last_break = refl; seen = Watches-equal refl refl; opens = refl; numbers = record { files = refl; links = refl; streams = refl; handles = refl; locks = refl } })))
 
 Untouched-stream_swept : (v : Volume) (link stream : ℕ) → Untouched v (with_stream_swept v link stream)
 Untouched-stream_swept v link stream =
     Untouched-if (is_stream_over v stream) _ v
-    (Untouched-next (Untouched-noted v link 7 0x200 (Some stream)) (record { oplocks = refl; locks = refl; pending = refl; ended = refl; last_break = refl; seen = Watches-equal refl refl; numbers = record { files = refl; links = refl; streams = refl; handles = refl; locks = refl } })) (Untouched-same v)
+    (Untouched-next (Untouched-noted v link 7 0x200 (Some stream)) (record { oplocks = refl; locks = refl; pending = refl; ended = refl; last_break = refl; seen = Watches-equal refl refl; opens = refl; numbers = record { files = refl; links = refl; streams = refl; handles = refl; locks = refl } })) (Untouched-same v)
 
 Untouched-without_link : (v : Volume) (link : ℕ) → Untouched v (without_link v link)
 Untouched-without_link v link =
     Untouched-option (row_of v.links link) (λ (row : Link). without_file_unless_linked (record v { links = without_row v.links link }) row.file) v
-    (λ (row : Link). Untouched-if (has_row (λ (other : Link). other.file == row.file) (without_row v.links link)) _ _ (record { oplocks = refl; locks = refl; pending = refl; ended = refl; last_break = refl; seen = Watches-equal refl refl; numbers = record { files = refl; links = refl; streams = refl; handles = refl; locks = refl } })
-    (record { oplocks = refl; locks = refl; pending = refl; ended = refl; last_break = refl; seen = Watches-equal refl refl; numbers = record { files = refl; links = refl; streams = refl; handles = refl; locks = refl } }))
+    (λ (row : Link). Untouched-if (has_row (λ (other : Link). other.file == row.file) (without_row v.links link)) _ _ (record { oplocks = refl; locks = refl; pending = refl; ended = refl; last_break = refl; seen = Watches-equal refl refl; opens = refl; numbers = record { files = refl; links = refl; streams = refl; handles = refl; locks = refl } })
+    (record { oplocks = refl; locks = refl; pending = refl; ended = refl; last_break = refl; seen = Watches-equal refl refl; opens = refl; numbers = record { files = refl; links = refl; streams = refl; handles = refl; locks = refl } }))
     (Untouched-same v)
 
 Untouched-link_swept : (v : Volume) (link : ℕ) → Untouched v (with_link_swept v link)
 Untouched-link_swept v link =
     Untouched-if (is_link_over v link) _ v (Untouched-next (Untouched-noted v link 2 (name_bit v link) None) (Untouched-without_link _ link)) (Untouched-same v)
 
-Untouched-swept : (v : Volume) (handle : Handle) → Untouched v (with_swept v handle)
+pub Untouched-swept : (v : Volume) (handle : Handle) → Untouched v (with_swept v handle)
 Untouched-swept v handle =
     Untouched-next (Untouched-option handle.stream (λ stream. with_stream_swept v handle.link stream) v (λ stream. Untouched-stream_swept v handle.link stream) (Untouched-same v))
     (Untouched-link_swept _ handle.link)
 
-Keeps-closed : (v : Volume) (id : ℕ) (handle : Handle) → KeepsAll v (with_closed v id handle)
+pub Keeps-closed : (v : Volume) (id : ℕ) (handle : Handle) → KeepsAll v (with_closed v id handle)
 unfolding with_closed
 Keeps-closed v id handle =
     let ended : Volume = with_calls_ended closed_status (pending_by_turn (is_call_on handle) v) v in
@@ -214,12 +214,12 @@ pub try_close-kept : (v : Volume) (client handle : ℕ) → Kept v (try_close v 
 unfolding try_close
 try_close-kept v client handle = Kept-option (handle_of v client handle) (λ id. close_at v id) _ (λ id found. close_at-kept v id) (Kept-refused v InvalidHandle)
 
-Keeps-all_closed : (handles : List (ℕ × Handle)) (v : Volume) → KeepsAll v (with_all_closed handles v)
+pub Keeps-all_closed : (handles : List (ℕ × Handle)) (v : Volume) → KeepsAll v (with_all_closed handles v)
 Keeps-all_closed [] v = KeepsAll-same v
 Keeps-all_closed (entry ∷ handles) v = KeepsAll-next (Keeps-closed v entry.0 entry.1) (Keeps-all_closed handles (with_closed v entry.0 entry.1))
 
 Untouched-left : (v : Volume) (client : ℕ) → Untouched v (with_left v client)
-Untouched-left v client = record { oplocks = refl; locks = refl; pending = refl; ended = refl; last_break = refl; seen = Watches-equal refl refl; numbers = record { files = refl; links = refl; streams = refl; handles = refl; locks = refl } }
+Untouched-left v client = record { oplocks = refl; locks = refl; pending = refl; ended = refl; last_break = refl; seen = Watches-equal refl refl; opens = refl; numbers = record { files = refl; links = refl; streams = refl; handles = refl; locks = refl } }
 
 pub try_leave-kept : (v : Volume) (client : ℕ) → Kept v (try_leave v client)
 unfolding try_leave with_client_gone
@@ -242,10 +242,10 @@ unfolding try_flush
 try_flush-kept v client handle = Kept-option (handle_of v client handle) (λ id. flush_at v id) _ (λ id found. flush_at-kept v id) (Kept-refused v InvalidHandle)
 
 -- a Notify only sees to its watch
-KeepsAll-begun : (v : Volume) (id filter : ℕ) (tree : Bool) → KeepsAll v (with_watch_begun v id filter tree)
+pub KeepsAll-begun : (v : Volume) (id filter : ℕ) (tree : Bool) → KeepsAll v (with_watch_begun v id filter tree)
 KeepsAll-begun v id filter tree = elim (cases_Bool (is_some (watch_of v id))) [
   | inl is ↦ rw is (KeepsAll-same v)
-  | inr isnt ↦ rw isnt (KeepsAll-untouched v _ (record { oplocks = refl; locks = refl; pending = refl; ended = refl; last_break = refl; seen = Watches-begun v id filter tree; numbers = record { files = refl; links = refl; streams = refl; handles = refl; locks = refl } }))
+  | inr isnt ↦ rw isnt (KeepsAll-untouched v _ (record { oplocks = refl; locks = refl; pending = refl; ended = refl; last_break = refl; seen = Watches-begun v id filter tree; opens = refl; numbers = record { files = refl; links = refl; streams = refl; handles = refl; locks = refl } }))
 ]
 
 notify_due-kept : (v w : Volume) (id room : ℕ) → KeepsAll v w → Kept v (notify_due w id room)
@@ -306,20 +306,20 @@ try_unlock-kept v client handle at count = Kept-option (handle_of v client handl
 
 Untouched-owner_asked : (v : Volume) (file : ℕ) (owner : Option ℕ) → Untouched v (with_owner_asked v file owner)
 Untouched-owner_asked v file None = Untouched-same v
-Untouched-owner_asked v file (Some sid) = record { oplocks = refl; locks = refl; pending = refl; ended = refl; last_break = refl; seen = Watches-equal refl refl; numbers = record { files = refl; links = refl; streams = refl; handles = refl; locks = refl } }
+Untouched-owner_asked v file (Some sid) = record { oplocks = refl; locks = refl; pending = refl; ended = refl; last_break = refl; seen = Watches-equal refl refl; opens = refl; numbers = record { files = refl; links = refl; streams = refl; handles = refl; locks = refl } }
 
 Untouched-dacl_asked : (v : Volume) (file : ℕ) (dacl : DaclChange) → Untouched v (with_dacl_asked v file dacl)
 Untouched-dacl_asked v file Keep = Untouched-same v
-Untouched-dacl_asked v file Remove = record { oplocks = refl; locks = refl; pending = refl; ended = refl; last_break = refl; seen = Watches-equal refl refl; numbers = record { files = refl; links = refl; streams = refl; handles = refl; locks = refl } }
-Untouched-dacl_asked v file (Put dacl) = record { oplocks = refl; locks = refl; pending = refl; ended = refl; last_break = refl; seen = Watches-equal refl refl; numbers = record { files = refl; links = refl; streams = refl; handles = refl; locks = refl } }
+Untouched-dacl_asked v file Remove = record { oplocks = refl; locks = refl; pending = refl; ended = refl; last_break = refl; seen = Watches-equal refl refl; opens = refl; numbers = record { files = refl; links = refl; streams = refl; handles = refl; locks = refl } }
+Untouched-dacl_asked v file (Put dacl) = record { oplocks = refl; locks = refl; pending = refl; ended = refl; last_break = refl; seen = Watches-equal refl refl; opens = refl; numbers = record { files = refl; links = refl; streams = refl; handles = refl; locks = refl } }
 
-Untouched-security : (v : Volume) (link file : ℕ) (owner : Option ℕ) (dacl : DaclChange) → Untouched v (with_security v link file owner dacl)
+pub Untouched-security : (v : Volume) (link file : ℕ) (owner : Option ℕ) (dacl : DaclChange) → Untouched v (with_security v link file owner dacl)
 Untouched-security v link file owner dacl =
     let own : Volume = with_owner_asked v file owner in
     let listed : Volume = with_dacl_asked own file dacl in
     let timed : Volume = with_change_time listed file in
     Untouched-next (Untouched-owner_asked v file owner) (Untouched-next (Untouched-dacl_asked own file dacl)
-    (Untouched-next {v = timed} (record { oplocks = refl; locks = refl; pending = refl; ended = refl; last_break = refl; seen = Watches-equal refl refl; numbers = record { files = refl; links = refl; streams = refl; handles = refl; locks = refl } })
+    (Untouched-next {v = timed} (record { oplocks = refl; locks = refl; pending = refl; ended = refl; last_break = refl; seen = Watches-equal refl refl; opens = refl; numbers = record { files = refl; links = refl; streams = refl; handles = refl; locks = refl } })
     (Untouched-if (asks_something owner dacl) _ timed (Untouched-noted timed link 3 0x100 None) (Untouched-same timed))))
 
 set_security_of-kept : (v : Volume) (client link file : ℕ) (owner : Option ℕ) (dacl : DaclChange) → Kept v (set_security_of v client link file owner dacl)
@@ -365,7 +365,7 @@ Keeps-given_up v turn = record {
   seen = Watches-equal refl refl;
 }
 
-KeepsAll-given_up : (v : Volume) (turn : ℕ) → KeepsAll v (with_oplock_given_up v turn)
+pub KeepsAll-given_up : (v : Volume) (turn : ℕ) → KeepsAll v (with_oplock_given_up v turn)
 KeepsAll-given_up v turn = KeepsAll-old v (with_oplock_given_up v turn) (record { files = refl; links = refl; streams = refl; handles = refl; locks = refl }) (Keeps-given_up v turn) (λ b lives. old b lives) (λ b is. is) (let fewer = how_many-filter_le is_unbroken (λ (o : Oplock). not (is_granted_under turn o)) v.oplocks in omega arith)
     (λ number. how_many-filter_le (is_breaking number) (λ (o : Oplock). not (is_granted_under turn o)) v.oplocks)
   where
@@ -374,7 +374,7 @@ KeepsAll-given_up v turn = KeepsAll-old v (with_oplock_given_up v turn) (record 
     old (blocker.Lock number) is = is
 
 -- a call that has a turn is pending
-pending-numbered : (rows : List (ℕ × Pending)) (client number turn : ℕ) → number_of (is_call client number) rows ≡ Some turn → 1 ≤ how_many (is_call_of client number) rows
+pub pending-numbered : (rows : List (ℕ × Pending)) (client number turn : ℕ) → number_of (is_call client number) rows ≡ Some turn → 1 ≤ how_many (is_call_of client number) rows
 pending-numbered rows client number turn found = elim (option_cases (find (is_call_of client number) rows)) [
   | inl none ↦ (let impossible : None ≡ Some turn = rw none at found in cc)
   | inr some ↦ how_many-some (is_call_of client number) rows
@@ -389,4 +389,4 @@ try_cancel-kept v client number =
     (Kept-refused v InvalidParameter)
 
 pub ticks-kept : (v : Volume) (ticks : ℕ) → Kept v (ends_with (with_ticks v ticks) Success)
-ticks-kept v ticks = Kept-done (with_ticks v ticks) _ (KeepsAll-untouched v (with_ticks v ticks) (record { oplocks = refl; locks = refl; pending = refl; ended = refl; last_break = refl; seen = Watches-equal refl refl; numbers = record { files = refl; links = refl; streams = refl; handles = refl; locks = refl } }))
+ticks-kept v ticks = Kept-done (with_ticks v ticks) _ (KeepsAll-untouched v (with_ticks v ticks) (record { oplocks = refl; locks = refl; pending = refl; ended = refl; last_break = refl; seen = Watches-equal refl refl; opens = refl; numbers = record { files = refl; links = refl; streams = refl; handles = refl; locks = refl } }))

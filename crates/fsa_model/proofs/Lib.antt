@@ -12,12 +12,13 @@ pub mod FrameOpens
 pub mod FrameOplocks
 pub mod FrameWatches
 pub mod GrantLaws
+pub mod GrantedLaws
+pub mod HeldLaws
 pub mod HistoryLaws
 pub mod KeepLaws
 pub mod LineExamples
 pub mod LockingExamples
 pub mod LoopLaws
-pub mod NoWaitsLaws
 pub mod OnceHistory
 pub mod OnceLaws
 pub mod OpenExamples
@@ -25,10 +26,12 @@ pub mod OpenLeaves
 pub mod OpenTable
 pub mod OpenWaits
 pub mod OplockExamples
+pub mod PendLaws
 pub mod ReportLaws
 pub mod RowLaws
 pub mod ScheduleLaws
 pub mod ScriptLaws
+pub mod ScriptSpelt
 pub mod SecurityExamples
 pub mod SettleExamples
 pub mod SettleLaws
@@ -42,6 +45,7 @@ pub mod TryFrame
 pub mod TryLaws
 pub mod TurnLaws
 pub mod WaitEnds
+pub mod WaitExamples
 pub mod WaitLaws
 pub mod WatchExamples
 pub mod WatchLaws

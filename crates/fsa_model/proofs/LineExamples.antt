@@ -1,24 +1,28 @@
--- Lines of opens, worked by hand: what their bytes say, how they are written, which are no lines, and a
--- turn of an open.
+-- Lines, worked by hand: what their bytes say, how they are written, and which are no lines; and a turn of
+-- an open.
 use Rattle.std.specs.Prelude.{◌≡◌, ℕ, true, false, List, [], ◌∷◌, map, Some, None, option_map, Result, Ok, Err, codes, refl}
 use Rattle.fsa_types.specs.CaseTable.{ascii_pairs}
 use Rattle.fsa_types.specs.declared.request.Disposition.{Disposition}
 use Rattle.fsa_types.specs.declared.request.Disposition.TheVariants.{Supersede, OpenExisting, CreateNew, OpenIf, Overwrite, OverwriteIf}
-use Rattle.fsa_types.specs.declared.request.Request.TheVariants.{Create}
-use Rattle.fsa_types.specs.declared.request.What.TheVariants.{Ask}
+use Rattle.fsa_types.specs.declared.request.Request.{Request}
+use Rattle.fsa_types.specs.declared.request.Request.TheVariants.{Create, Read, Write, Flush, SetEnd, Lock, Unlock, Cancel}
+use Rattle.fsa_types.specs.declared.request.What.TheVariants.{Ask, WaitFor}
 use Rattle.fsa_types.specs.declared.reply.Action.TheVariants.{Created}
 use Rattle.fsa_types.specs.declared.reply.Answer.TheVariants.{Ended}
 use Rattle.fsa_types.specs.declared.reply.Body.TheVariants.{Nothing, Opened}
 use Rattle.fsa_types.specs.declared.reply.EndOf.{EndOf}
 use Rattle.fsa_types.specs.declared.status.Status.TheVariants.{Success, CannotDelete}
 use Rattle.fsa_model.specs.Fault.{Kind, BadSyntax}
+use Rattle.fsa_model.specs.ByteLines.{read_fields, start_at, write_fields, flush_fields, set_end_fields}
+use Rattle.fsa_model.specs.LockLines.{lock_fields, unlock_fields}
+use Rattle.fsa_model.specs.WaitLines.{cancel_fields, wait_fields}
 use Rattle.fsa_model.specs.Lines.{Line, RequestLine, request_of, line_of}
 use Rattle.fsa_model.specs.Open.{try_create, create_at, create_walked, create_named, create_by_link, create_found, create_there, create_in_file, create_stream, create_on_stream, open_stream, open_directory, open_granted, overwrite_existing, open_existing, clashed, create_missing, make_file, make_directory, stopped}
 use Rattle.fsa_model.specs.Outcome.{TurnOut}
 use Rattle.fsa_model.specs.OpenLines.{disposition_at, create_fields}
 use Rattle.fsa_model.specs.Requests.{what_of}
-use Rattle.fsa_model.specs.Spelling.{line_text}
-use Rattle.fsa_model.specs.Words.{field_at, number_at, mask_of, mask_at, text_of, text_at}
+use Rattle.fsa_model.specs.Spelling.{is_line, line_text}
+use Rattle.fsa_model.specs.Words.{field_at, number_at, mask_of, mask_at, text_of, text_at, choice_at, string_of, string_at}
 use Rattle.fsa_model.specs.Turn.{turn}
 use Rattle.fsa_model.specs.Volume.{File, Handle, Volume, fresh, root}
 
@@ -110,6 +114,169 @@ pub no_opens :
     ∷ []
 unfolding line_of request_of what_of create_fields text_at text_of mask_at mask_of disposition_at number_at field_at
 no_opens = refl
+
+-- ---- bytes, locks and waits
+
+-- call 1 of client `a`
+abbrev pub asks : Request → Line
+asks request = RequestLine (codes "a") 1 (Ask request)
+
+-- the greatest numbers and the least; `end`; each word of a lock; an empty range, and one that passes the
+-- last place
+abbrev pub byte_lines : List (List ℕ)
+byte_lines =
+    codes "a 1 read 1 18446744073709551615 16384"
+    ∷ codes "a 1 write 1 18446744073709551615 x00ff"
+    ∷ codes "a 1 write 1 0 x"
+    ∷ codes "a 1 write 1 end x0a"
+    ∷ codes "a 1 flush 4294967295"
+    ∷ codes "a 1 setend 0 0"
+    ∷ codes "a 1 setend 1 18446744073709551615"
+    ∷ codes "a 1 lock 1 0 10 ex now"
+    ∷ codes "a 1 lock 2 15 0 sh wait"
+    ∷ codes "a 1 lock 4294967295 18446744073709551615 18446744073709551615 ex wait"
+    ∷ codes "a 1 lock 3 7 1 sh now"
+    ∷ codes "a 1 unlock 1 0 10"
+    ∷ codes "a 1 unlock 4294967295 18446744073709551615 18446744073709551615"
+    ∷ codes "a 1 cancel 0"
+    ∷ codes "a 1 cancel 4294967295"
+    ∷ codes "a 1 wait 0"
+    ∷ codes "a 1 wait 4294967295"
+    ∷ []
+
+pub bytes_said :
+    map line_of byte_lines
+    ≡ map {B = Result Line Kind} Ok (
+    asks (Read 1 18446744073709551615 16384)
+    ∷ asks (Write 1 (Some 18446744073709551615) (0 ∷ 255 ∷ []))
+    ∷ asks (Write 1 (Some 0) [])
+    ∷ asks (Write 1 None (10 ∷ []))
+    ∷ asks (Flush 4294967295)
+    ∷ asks (SetEnd 0 0)
+    ∷ asks (SetEnd 1 18446744073709551615)
+    ∷ asks (Lock 1 0 10 true false)
+    ∷ asks (Lock 2 15 0 false true)
+    ∷ asks (Lock 4294967295 18446744073709551615 18446744073709551615 true true)
+    ∷ asks (Lock 3 7 1 false false)
+    ∷ asks (Unlock 1 0 10)
+    ∷ asks (Unlock 4294967295 18446744073709551615 18446744073709551615)
+    ∷ asks (Cancel 0)
+    ∷ asks (Cancel 4294967295)
+    ∷ RequestLine (codes "a") 1 (WaitFor 0)
+    ∷ RequestLine (codes "a") 1 (WaitFor 4294967295)
+    ∷ [])
+unfolding line_of request_of what_of read_fields write_fields start_at flush_fields set_end_fields lock_fields unlock_fields cancel_fields wait_fields choice_at string_at string_of number_at field_at
+bytes_said = refl
+
+-- written, with small numbers
+pub bytes_written :
+    map line_text (
+    asks (Read 1 65536 4)
+    ∷ asks (Write 12 (Some 0) (10 ∷ 255 ∷ []))
+    ∷ asks (Write 1 None [])
+    ∷ asks (Flush 10)
+    ∷ asks (SetEnd 1 305)
+    ∷ asks (Lock 1 0 10 true false)
+    ∷ asks (Lock 2 15 0 false true)
+    ∷ asks (Unlock 1 0 10)
+    ∷ asks (Cancel 7)
+    ∷ RequestLine (codes "a") 1 (WaitFor 21)
+    ∷ [])
+    ≡ codes "a 1 read 1 65536 4"
+    ∷ codes "a 1 write 12 0 x0aff"
+    ∷ codes "a 1 write 1 end x"
+    ∷ codes "a 1 flush 10"
+    ∷ codes "a 1 setend 1 305"
+    ∷ codes "a 1 lock 1 0 10 ex now"
+    ∷ codes "a 1 lock 2 15 0 sh wait"
+    ∷ codes "a 1 unlock 1 0 10"
+    ∷ codes "a 1 cancel 7"
+    ∷ codes "a 1 wait 21"
+    ∷ []
+bytes_written = refl
+
+-- a place, a length or a handle that is too great; a number with a leading zero; a field that is empty,
+-- missing or too many, or whose word is another; a space at the end
+abbrev pub bad_lines : List (List ℕ)
+bad_lines =
+    codes "a 1 read 1 18446744073709551616 0"
+    ∷ codes "a 1 read 1 0 16385"
+    ∷ codes "a 1 read 1 00 1"
+    ∷ codes "a 1 read 1 0"
+    ∷ codes "a 1 read 1 end 1"
+    ∷ codes "a 1 write 1 18446744073709551616 x"
+    ∷ codes "a 1 write 1 End x"
+    ∷ codes "a 1 write 1 end"
+    ∷ codes "a 1 write 1  x"
+    ∷ codes "a 1 write 1 end x0"
+    ∷ codes "a 1 write 1 end x00 0"
+    ∷ codes "a 1 flush"
+    ∷ codes "a 1 flush 4294967296"
+    ∷ codes "a 1 flush 01"
+    ∷ codes "a 1 flush 1 0"
+    ∷ codes "a 1 setend 1"
+    ∷ codes "a 1 setend 1 18446744073709551616"
+    ∷ codes "a 1 setend 1 end"
+    ∷ codes "a 1 setend 1 00"
+    ∷ codes "a 1 setend 1 0 0"
+    ∷ codes "a 1 lock 1 18446744073709551616 1 ex now"
+    ∷ codes "a 1 lock 1 0 18446744073709551616 ex now"
+    ∷ codes "a 1 lock 1 0  ex now"
+    ∷ codes "a 1 lock 1 0 ex now"
+    ∷ codes "a 1 lock 1 0 1 ex"
+    ∷ codes "a 1 lock 1 0 1 now"
+    ∷ codes "a 1 lock 1 0 1 now ex"
+    ∷ codes "a 1 lock 1 0 1 EX now"
+    ∷ codes "a 1 lock 1 0 1 exclusive now"
+    ∷ codes "a 1 lock 1 0 1 ex later"
+    ∷ codes "a 1 lock 1 01 1 ex now"
+    ∷ codes "a 1 lock 1 0 1 ex now 0"
+    ∷ codes "a 1 lock 1 0 1 ex now "
+    ∷ codes "a 1 unlock 1 18446744073709551616 1"
+    ∷ codes "a 1 unlock 1 0 18446744073709551616"
+    ∷ codes "a 1 unlock 1 0"
+    ∷ codes "a 1 unlock 1 0 "
+    ∷ codes "a 1 unlock 1 0 01"
+    ∷ codes "a 1 unlock 1 0 1 ex"
+    ∷ codes "a 1 cancel"
+    ∷ codes "a 1 cancel 4294967296"
+    ∷ codes "a 1 cancel 01"
+    ∷ codes "a 1 cancel 1 2"
+    ∷ codes "a 1 wait"
+    ∷ codes "a 1 wait 4294967296"
+    ∷ codes "a 1 wait 00"
+    ∷ codes "a 1 wait 1 2"
+    ∷ codes "a 1 wait x"
+    ∷ []
+
+pub no_byte_lines : map line_of bad_lines ≡ map {B = Result Line Kind} (λ line. Err BadSyntax) bad_lines
+unfolding line_of request_of what_of read_fields write_fields start_at flush_fields set_end_fields lock_fields unlock_fields cancel_fields wait_fields choice_at string_at string_of number_at field_at
+no_byte_lines = refl
+
+-- what no line can say
+pub unsaid :
+    map (λ request. is_line (asks request)) (
+    Read 1 18446744073709551616 0
+    ∷ Read 1 0 16385
+    ∷ Write 1 (Some 18446744073709551616) []
+    ∷ Write 4294967296 None []
+    ∷ Flush 4294967296
+    ∷ SetEnd 1 18446744073709551616
+    ∷ Lock 1 18446744073709551616 0 true true
+    ∷ Unlock 1 0 18446744073709551616
+    ∷ Cancel 4294967296
+    ∷ [])
+    ≡ false
+    ∷ false
+    ∷ false
+    ∷ false
+    ∷ false
+    ∷ false
+    ∷ false
+    ∷ false
+    ∷ false
+    ∷ []
+unsaid = refl
 
 -- ---- a turn of an open
 

@@ -17,7 +17,7 @@ use Rattle.fsa_model.proofs.CountLaws.{and_left, and_right, how_many-weaker}
 use Rattle.fsa_model.proofs.OnceLaws.{is_same-refl}
 use Rattle.fsa_model.proofs.RowLaws.{option_cases}
 use Rattle.fsa_model.proofs.SettleLaws.{is_under, is_free, some_equal, none-ready}
-use Rattle.fsa_model.proofs.TakenLaws.{GivesUpTo, is_let_go, let_go, taken-once}
+use Rattle.fsa_model.proofs.TakenLaws.{GivesAtMost, is_let_go, let_go, taken-once}
 use Rattle.fsa_model.proofs.TryLaws.{Watches, Watches-equal, Watches-next, is_given}
 use Rattle.fsa_model.proofs.WaitLaws.{unbroken}
 use Rattle.fsa_model.proofs.TurnLaws.{MayTurn, Turns, turn-turns, Adds-answered, try-keeps}
@@ -49,7 +49,7 @@ pub record Runs (v : Volume) (history : List HistoryEntry) (w : Volume) : Type 0
   pub done : next_ready w ≡ None
   pub seen : Watches v w
   pub times : (client number : ℕ) → times client number w ≡ times client number v + how_many (is_entry_of client number) history
-  pub gives : (more : ℕ) → GivesUpTo v (length v.ended + more) → GivesUpTo w (length w.ended + more)
+  pub gives : (more : ℕ) → GivesAtMost v (length v.ended + more) → GivesAtMost w (length w.ended + more)
   -- a break is of an oplock, and an oplock of a call
   pub breaks : w.last_break + unbroken w ≤ v.last_break + unbroken v + length history
 
@@ -77,7 +77,7 @@ run-runs setup history r differ is = steps-runs (begun setup) r history (MayTurn
 
 -- so numbers of each kind are at most one more than the ends, and of streams twice as many
 pub run-gives : (setup : Setup) (history : List HistoryEntry) (r : Run) → ((client number : ℕ) → how_many (is_entry_of client number) history ≤ 1) → run setup history ≡ Some r
-    → GivesUpTo r.volume (length r.volume.ended + 1)
+    → GivesAtMost r.volume (length r.volume.ended + 1)
 run-gives setup history r differ is = Runs.gives (run-runs setup history r differ is) 1 (record { files = omega arith; links = omega arith; streams = omega arith; handles = omega arith; locks = omega arith })
 
 -- and no more breaks than turns have begun

@@ -20,8 +20,9 @@ use Rattle.fsa_model.specs.Walk.{Walked, Reached, Barred, Diverted, point_of, wa
 use Rattle.fsa_types.specs.declared.status.Status.TheVariants.{Success, SharingViolation}
 use Rattle.fsa_types.specs.declared.reply.Action.TheVariants as action
 use Rattle.fsa_model.specs.Breaks.{with_breaks}
-use Rattle.fsa_model.specs.Open.{waits, completes_if_oplocked, overwrite_action}
+use Rattle.fsa_model.specs.Open.{open_waits, completes_if_oplocked, overwrite_action}
 use Rattle.fsa_model.proofs.WaitLaws.{HasOneOplockEach}
+use Rattle.fsa_model.proofs.PendLaws.{HandlesStay-next, HandlesStay-opened, HandlesStay-same}
 use Rattle.fsa_model.proofs.TryLaws.{Watches-equal, Watches-next, FewNumbers, FewNumbers-before, FewNumbers-after, SameNumbers, SameNumbers-breaks, SameWaits, Leaves-same_waits, Tries-untouched, Leaves, Leaves-breaks, Leaves-next, Untouched, Untouched-same, Untouched-next, Untouched-noted, Tries, Tries-done, Tries-refused, Tries-if, Tries-option, Tries-held_by, Tries-breaks}
 
 -- ---- how an open ends
@@ -40,6 +41,7 @@ Makes-next makes un = record {
     ended = un.ended ∙ makes.same.ended;
     last_break = un.last_break ∙ makes.same.last_break;
     seen = Watches-next makes.same.seen un.seen;
+    stay = HandlesStay-next makes.same.stay (HandlesStay-same un.opens un.numbers.handles);
     last_lock = un.numbers.locks ∙ makes.same.last_lock;
   };
   few = FewNumbers-before makes.few un.numbers;
@@ -53,10 +55,10 @@ broken-opens : (v u w : Volume) (why : Status) (done : Action) → Leaves v u �
 broken-opens v u w why done leaves same makes = Tries-done w _ (Leaves-next leaves (Leaves-same_waits u w makes.same)) (FewNumbers-after same makes.few)
 
 plain-open : (w : Volume) (asked : Asked) (link : ℕ) (stream : Option ℕ) → Makes w (with_open w asked link stream)
-plain-open w asked link stream = record { same = record { oplocks = refl; locks = refl; pending = refl; ended = refl; last_break = refl; seen = Watches-equal refl refl; last_lock = refl }; few = record { files = omega arith; links = omega arith; streams = omega arith; handles = omega arith; locks = omega arith } }
+plain-open w asked link stream = record { same = record { oplocks = refl; locks = refl; pending = refl; ended = refl; last_break = refl; seen = Watches-equal refl refl; stay = HandlesStay-opened _ refl refl; last_lock = refl }; few = record { files = omega arith; links = omega arith; streams = omega arith; handles = omega arith; locks = omega arith } }
 
 plain-open_on : (v : Volume) (asked : Asked) (link file : ℕ) → Makes v (with_open (with_stream v file (stream_name asked.path)) asked link (Some (v.last_stream + 1)))
-plain-open_on v asked link file = record { same = record { oplocks = refl; locks = refl; pending = refl; ended = refl; last_break = refl; seen = Watches-equal refl refl; last_lock = refl }; few = record { files = omega arith; links = omega arith; streams = omega arith; handles = omega arith; locks = omega arith } }
+plain-open_on v asked link file = record { same = record { oplocks = refl; locks = refl; pending = refl; ended = refl; last_break = refl; seen = Watches-equal refl refl; stay = HandlesStay-opened _ refl refl; last_lock = refl }; few = record { files = omega arith; links = omega arith; streams = omega arith; handles = omega arith; locks = omega arith } }
 
 stopped-tries : (v : Volume) (asked : Asked) (file : ℕ) (rest : List ℕ) → HasOneOplockEach v → Tries Leaves v (stopped v file rest)
 unfolding stopped
@@ -69,7 +71,7 @@ make_directory-tries : (v : Volume) (asked : Asked) (dir : ℕ) (name : List ℕ
 unfolding make_directory
 make_directory-tries v asked dir name =
     made-opens v _ Success action.Created
-    (Makes-next {v = with_open (with_directory_made v asked dir name) asked (v.last_link + 1) None} (record { same = record { oplocks = refl; locks = refl; pending = refl; ended = refl; last_break = refl; seen = Watches-equal refl refl; last_lock = refl }; few = record { files = omega arith; links = omega arith; streams = omega arith; handles = omega arith; locks = omega arith } })
+    (Makes-next {v = with_open (with_directory_made v asked dir name) asked (v.last_link + 1) None} (record { same = record { oplocks = refl; locks = refl; pending = refl; ended = refl; last_break = refl; seen = Watches-equal refl refl; stay = HandlesStay-opened _ refl refl; last_lock = refl }; few = record { files = omega arith; links = omega arith; streams = omega arith; handles = omega arith; locks = omega arith } })
     (Untouched-noted _ (v.last_link + 1) 1 0x2 None))
 
 make_file-tries : (v : Volume) (asked : Asked) (dir : ℕ) (name : List ℕ) → Tries Leaves v (make_file v asked dir name)
@@ -78,10 +80,10 @@ make_file-tries v asked dir name =
     Tries-if (names_stream asked.path) _ _
     (λ named. made-opens v _ Success action.Created
     (Makes-next {v = with_open (with_stream (with_file_made v asked dir name) (v.last_file + 1) (stream_name asked.path)) asked (v.last_link + 1) (Some (v.last_stream + 2))}
-    (record { same = record { oplocks = refl; locks = refl; pending = refl; ended = refl; last_break = refl; seen = Watches-equal refl refl; last_lock = refl }; few = record { files = omega arith; links = omega arith; streams = omega arith; handles = omega arith; locks = omega arith } })
+    (record { same = record { oplocks = refl; locks = refl; pending = refl; ended = refl; last_break = refl; seen = Watches-equal refl refl; stay = HandlesStay-opened _ refl refl; last_lock = refl }; few = record { files = omega arith; links = omega arith; streams = omega arith; handles = omega arith; locks = omega arith } })
     (Untouched-next (Untouched-noted _ (v.last_link + 1) 1 0x1 None) (Untouched-noted _ (v.last_link + 1) 6 0x200 (Some (v.last_stream + 2))))))
     (λ unnamed. made-opens v _ Success action.Created
-    (Makes-next {v = with_open (with_file_made v asked dir name) asked (v.last_link + 1) (Some (v.last_stream + 1))} (record { same = record { oplocks = refl; locks = refl; pending = refl; ended = refl; last_break = refl; seen = Watches-equal refl refl; last_lock = refl }; few = record { files = omega arith; links = omega arith; streams = omega arith; handles = omega arith; locks = omega arith } })
+    (Makes-next {v = with_open (with_file_made v asked dir name) asked (v.last_link + 1) (Some (v.last_stream + 1))} (record { same = record { oplocks = refl; locks = refl; pending = refl; ended = refl; last_break = refl; seen = Watches-equal refl refl; stay = HandlesStay-opened _ refl refl; last_lock = refl }; few = record { files = omega arith; links = omega arith; streams = omega arith; handles = omega arith; locks = omega arith } })
     (Untouched-noted _ (v.last_link + 1) 1 0x1 None)))
 
 create_missing-tries : (v : Volume) (asked : Asked) (dir : ℕ) (name : List ℕ) → HasOneOplockEach v → Tries Leaves v (create_missing v asked dir name)
@@ -104,9 +106,9 @@ open_existing-tries : (v : Volume) (asked : Asked) (link : ℕ) (stream : Option
 unfolding open_existing
 open_existing-tries v asked link stream on one =
     Tries-if (not (wants_more asked)) _ _ (λ is. made-opens v _ Success action.Opened (plain-open v asked link stream))
-    (λ no. Tries-if (not (waits v on ReadOpen asked.key)) _ _ (λ is. after_breaks Success)
+    (λ no. Tries-if (not (open_waits v on ReadOpen asked.key)) _ _ (λ is. after_breaks Success)
     (λ no. Tries-if (completes_if_oplocked asked) _ _ (λ is. after_breaks status.OplockBreakInProgress)
-    (λ is. Tries-held_by v on ReadOpen None asked.key one (twice (waits v on ReadOpen asked.key) no))))
+    (λ is. Tries-held_by v on ReadOpen None asked.key one (twice (open_waits v on ReadOpen asked.key) no))))
   where
     twice : (b : Bool) → not b ≡ false → b ≡ true
     twice true is = refl
@@ -122,7 +124,7 @@ Untouched-overwrite_noted w link stream false = Untouched-noted w link 3 0x1C No
 Untouched-overwritten : (w : Volume) (asked : Asked) (link file stream : ℕ) → Untouched w (with_overwritten w asked link file stream)
 Untouched-overwritten w asked link file stream =
     let noted : Untouched w (with_overwrite_noted w link stream (names_stream asked.path)) = Untouched-overwrite_noted w link stream (names_stream asked.path) in
-    record { oplocks = noted.oplocks; locks = noted.locks; pending = noted.pending; ended = noted.ended; last_break = noted.last_break; seen = record { more = noted.seen.more; changes = noted.seen.changes; watches = noted.seen.watches }; numbers = record { files = noted.numbers.files; links = noted.numbers.links; streams = noted.numbers.streams; handles = noted.numbers.handles; locks = noted.numbers.locks } }
+    record { oplocks = noted.oplocks; locks = noted.locks; pending = noted.pending; ended = noted.ended; last_break = noted.last_break; seen = record { more = noted.seen.more; changes = noted.seen.changes; watches = noted.seen.watches }; opens = noted.opens; numbers = record { files = noted.numbers.files; links = noted.numbers.links; streams = noted.numbers.streams; handles = noted.numbers.handles; locks = noted.numbers.locks } }
 
 overwrite_existing-tries : (v : Volume) (asked : Asked) (link file stream : ℕ) → HasOneOplockEach v → Tries Leaves v (overwrite_existing v asked link file stream)
 unfolding overwrite_existing

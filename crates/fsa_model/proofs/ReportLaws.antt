@@ -129,7 +129,7 @@ taken_up-reports s entry handle filter tree room may is what = elim (cases_Bool 
 
 -- ---- each report of a turn
 
-repeated-keeps : (steps : ℕ) (s : Settling) → MaySettle s.volume → MaySettle (repeated settle_step steps s).volume
+pub repeated-keeps : (steps : ℕ) (s : Settling) → MaySettle s.volume → MaySettle (repeated settle_step steps s).volume
 repeated-keeps zero s may = may
 repeated-keeps (suc steps) s may = elim (option_cases (settle_step s)) [
   | inl none ↦ rw none may

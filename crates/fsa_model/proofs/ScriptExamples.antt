@@ -7,7 +7,7 @@ use Rattle.fsa_types.specs.declared.request.Disposition.TheVariants.{Supersede, 
 use Rattle.fsa_model.specs.Fault.{BadCut, BadSyntax, BadClient, BadNumber}
 use Rattle.fsa_model.specs.Words.{field_at, number_at, mask_of, mask_at, text_of, text_at, string_of, string_at}
 use Rattle.fsa_model.specs.OpenLines.{disposition_at, create_fields}
-use Rattle.fsa_model.specs.ByteLines.{write_fields}
+use Rattle.fsa_model.specs.ByteLines.{start_at, write_fields}
 use Rattle.fsa_model.specs.ClockLines.{tick_fields}
 use Rattle.fsa_model.specs.Requests.{what_of}
 use Rattle.fsa_model.specs.Lines.{Pair, ClientLine, RequestLine, pair_at, sids_at, client_at, request_of, line_of}
@@ -58,7 +58,7 @@ unfolding line_of request_of what_of create_fields text_at text_of mask_at mask_
 key_too_great = refl
 
 pub write : line_of (codes "a 2 write 1 3 x0aff") ≡ Ok (RequestLine (codes "a") 2 (Ask (Write 1 (Some 3) (10 ∷ 255 ∷ []))))
-unfolding line_of request_of what_of write_fields string_at string_of number_at field_at
+unfolding line_of request_of what_of write_fields start_at string_at string_of number_at field_at
 write = refl
 
 pub leading_zero : line_of (codes "client a 07") ≡ Err BadSyntax
@@ -69,7 +69,7 @@ pub two_spaces : line_of (codes "a  1 tick 0") ≡ Err BadSyntax
 unfolding line_of request_of number_at field_at
 two_spaces = refl
 
-pub not_built : line_of (codes "a 1 flush 1") ≡ Err BadSyntax
+pub not_built : line_of (codes "a 1 notify 1 0x1 flat 100") ≡ Err BadSyntax
 unfolding line_of request_of what_of number_at field_at
 not_built = refl
 

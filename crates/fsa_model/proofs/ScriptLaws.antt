@@ -1,27 +1,31 @@
--- Laws of scripts: their calls are numbered in turn, few, and within the bounds of requests.
-use Rattle.std.proofs.Common.{◌≡◌, ℕ, ◌+◌, ◌*◌, ◌<◌, ◌≤◌, zero, suc, List, [], ◌∷◌, ◌++◌, length, map, Bool, true, false, cond, if◌then◌else◌, Option, Some, None, Result, Ok, Err, refl, ap, sym, subst, ◌∙◌, append_assoc, append-nil, arith, length-append, ne_eqb, eqb-true, leb-true, le-leb, ltb-true}
+-- Laws of scripts: their calls are numbered in turn, within the bounds of requests, and no more than lines.
+use Rattle.std.proofs.Common.{◌≡◌, ℕ, ◌+◌, ◌-◌, ◌*◌, ◌<◌, ◌≤◌, zero, suc, List, [], ◌∷◌, ◌++◌, length, map, Bool, true, false, cond, if◌then◌else◌, Option, Some, None, Result, Ok, Err, refl, ap, sym, subst, ◌∙◌, append_assoc, append-nil, arith, length-append, ne_eqb, eqb-true, leb-true, le-leb}
 use Rattle.std.proofs.lemmas.Bool.{and_parts}
 use Rattle.std.proofs.lemmas.List.Quantifiers.{position-Some}
 use Rattle.std.specs.Prelude.{◌==◌, ◌&&◌, not, nat_le, nat_lt, IsTrue, filter, is_some, codes, nat_eq, drop}
-use Rattle.std.specs.List.{enumerate_from, starts_with}
+use Rattle.std.specs.List.{count_by, enumerate_from, starts_with}
+use Rattle.std.proofs.lemmas.List.Splits.{length-slice_split}
+use Rattle.std.proofs.lemmas.List.Sums.{sum_by-cons}
 use Rattle.fsa_types.specs.declared.request.Call.{Call}
 use Rattle.fsa_types.specs.declared.request.Ace.{Ace}
 use Rattle.fsa_types.specs.declared.request.DaclChange.{DaclChange}
 use Rattle.fsa_types.specs.declared.request.DaclChange.TheVariants.{Keep, Remove, Put}
 use Rattle.fsa_types.specs.BoundedList.{full}
 use Rattle.fsa_types.specs.declared.request.What.{What}
-use Rattle.fsa_types.specs.declared.request.What.TheVariants.{Ask, Tick}
-use Rattle.fsa_types.specs.declared.request.Request.TheVariants.{Create, Close, Read, Write, SetSecurity}
+use Rattle.fsa_types.specs.declared.request.What.TheVariants.{Ask, Tick, WaitFor}
+use Rattle.fsa_types.specs.declared.request.Request.TheVariants.{Create, Close, Read, Write, Flush, SetEnd, Lock, Unlock, SetSecurity, Cancel}
 use Rattle.fsa_types.specs.Request.{dacl_fits, what_fits}
 use Rattle.fsa_types.specs.CaseTable.{is_at_fault}
 use Rattle.fsa_model.specs.Setup.{Client, Script}
 use Rattle.fsa_model.specs.Fault.{Kind, BadSyntax, Fault, ◌>>=◌, only_if, read_as}
-use Rattle.fsa_model.specs.Numbers.{digit_of, number_after, number_of}
-use Rattle.fsa_model.specs.Words.{same, word_of, after_word, field_at, number_at, mask_at, text_at, onto, bytes_of, string_of, string_at, ended, is_name, most_id, most_bytes}
-use Rattle.fsa_model.specs.Requests.{marks_nothing, what_of}
+use Rattle.fsa_model.specs.Numbers.{digit_of, number_after, written_number}
+use Rattle.fsa_model.specs.Words.{same, word_of, after_word, field_at, number_at, mask_at, text_at, choice_at, onto, written_bytes, string_of, string_at, ended, is_name, most_id, most_place, most_bytes}
+use Rattle.fsa_model.specs.Requests.{can_be_asked, what_of}
 use Rattle.fsa_model.specs.OpenLines.{most_key, disposition_at, is_built_create, create_fields, close_fields}
-use Rattle.fsa_model.specs.ByteLines.{most_place, read_fields, write_fields}
+use Rattle.fsa_model.specs.ByteLines.{read_fields, start_at, write_fields, flush_fields, set_end_fields}
+use Rattle.fsa_model.specs.LockLines.{lock_fields, unlock_fields}
 use Rattle.fsa_model.specs.ClockLines.{tick_fields}
+use Rattle.fsa_model.specs.WaitLines.{cancel_fields, wait_fields}
 use Rattle.fsa_model.specs.InformationLines.{owner_at, ace_of, entry_of, after_entry, ace_onto, aces_of, most_aces, dacl_of, dacl_at, set_security_fields}
 use Rattle.fsa_model.specs.Lines.{Line, Version, DefaultTable, PairTable, Pair, ClientLine, RequestLine, pair_at, sids_at, client_at, request_of, line_of}
 use Rattle.fsa_model.specs.Script.{Reading, nothing_read, takes_version, takes_table, takes_pairs, takes_clients, takes_requests, place_of, next_number, with_call, with_client, take_client, take_call, take_request_of, take_request, take_line, line_after, end_after, at_line, lines_from, pieces, script_of}
@@ -31,7 +35,7 @@ use Rattle.fsa_model.proofs.ScheduleLaws.{calls_of-push}
 
 -- ---- the leaves behind the lines
 
-AreNumbered-append : (before front back : List Call) → AreNumbered before front → AreNumbered (before ++ front) back → AreNumbered before (front ++ back)
+pub AreNumbered-append : (before front back : List Call) → AreNumbered before front → AreNumbered (before ++ front) back → AreNumbered before (front ++ back)
 AreNumbered-append before [] back first rest = subst (λ (calls : List Call). AreNumbered calls back) (append-nil before) rest
 AreNumbered-append before (call ∷ front) back first rest =
     (first.0, AreNumbered-append (before ++ call ∷ []) front back first.1 (subst (λ (calls : List Call). AreNumbered calls back) (sym (append_assoc before (call ∷ []) front)) rest))
@@ -109,7 +113,7 @@ number_after-bound base most n (byte ∷ bytes) number below is =
     let within : (nat_lt (digit_of byte) base && nat_le (n * base + digit_of byte) most) ≡ true = if_some _ _ number is in
     number_after-bound base most (n * base + digit_of byte) bytes number (leb-true _ most (and_parts (nat_lt (digit_of byte) base) (nat_le (n * base + digit_of byte) most) within).1) (rw within at is)
 
-number_of-bound : (base most : ℕ) (bytes : List ℕ) (number : ℕ) → number_of base most bytes ≡ Some number → number ≤ most
+number_of-bound : (base most : ℕ) (bytes : List ℕ) (number : ℕ) → written_number base most bytes ≡ Some number → number ≤ most
 number_of-bound base most [] number is = cc
 number_of-bound base most (byte ∷ []) number is = number_after-bound base most 0 (byte ∷ []) number (omega arith) is
 number_of-bound base most (byte ∷ second ∷ bytes) number is =
@@ -123,7 +127,7 @@ number_at-bound : (most : ℕ) (bytes : List ℕ) → IfRead (IsAtMost most) (nu
 unfolding number_at
 number_at-bound most bytes =
     then-gives (IsAtMost most) (field_at bytes) _ (λ word.
-    bind-gives (λ (number : ℕ). number ≤ most) (IsAtMost most) (read_as (number_of 10 most word.0)) _ (read_as-gives (λ (number : ℕ). number ≤ most) (number_of 10 most word.0) (number_of-bound 10 most word.0)) (λ number below.
+    bind-gives (λ (number : ℕ). number ≤ most) (IsAtMost most) (read_as (written_number 10 most word.0)) _ (read_as-gives (λ (number : ℕ). number ≤ most) (written_number 10 most word.0) (number_of-bound 10 most word.0)) (λ number below.
     ok-gives (IsAtMost most) (number, word.1) below))
 
 -- a list has at most half as many items as this
@@ -134,12 +138,12 @@ onto-half : (most item : ℕ) (read : Result (List ℕ) Kind) → IfRead (IsHalf
 onto-half most item (Ok items) half = ok-gives (IsHalf (suc (suc most))) (item ∷ items) (let few : length items + length items ≤ most = half.given items refl in omega arith)
 onto-half most item (Err kind) half = err-gives (IsHalf (suc (suc most))) kind
 
-bytes_of-half : (digits : List ℕ) → IfRead (IsHalf (length digits)) (bytes_of digits)
+bytes_of-half : (digits : List ℕ) → IfRead (IsHalf (length digits)) (written_bytes digits)
 bytes_of-half [] = ok-gives (IsHalf 0) [] (omega arith)
 bytes_of-half (digit ∷ []) = err-gives (IsHalf 1) _
 bytes_of-half (high ∷ low ∷ digits) =
     if-gives (IsHalf (suc (suc (length digits)))) (nat_lt (digit_of high) 16 && nat_lt (digit_of low) 16) _ _
-    (λ good. onto-half (length digits) (digit_of high * 16 + digit_of low) (bytes_of digits) (bytes_of-half digits))
+    (λ good. onto-half (length digits) (digit_of high * 16 + digit_of low) (written_bytes digits) (bytes_of-half digits))
     (λ bad. err-gives (IsHalf (suc (suc (length digits)))) _)
 
 -- at most 16,384 bytes
@@ -154,7 +158,7 @@ unfolding string_of
 string_of-short [] = err-gives IsShort _
 string_of-short (byte ∷ digits) =
     if-gives IsShort (byte == 120 && nat_le (length digits) 32768) _ _
-    (λ good. half-short (length digits) (bytes_of digits) (leb-true _ 32768 (and_parts (byte == 120) (nat_le (length digits) 32768) good).1) (bytes_of-half digits))
+    (λ good. half-short (length digits) (written_bytes digits) (leb-true _ 32768 (and_parts (byte == 120) (nat_le (length digits) 32768) good).1) (bytes_of-half digits))
     (λ bad. err-gives IsShort _)
 
 abbrev IsShortAt : List ℕ × List ℕ → Type 0
@@ -169,7 +173,7 @@ string_at-short bytes =
 -- ---- the requests are within the bounds
 
 abbrev Fits : What → Type 0
-Fits what = IsTrue (what_fits what) × IsTrue (marks_nothing what) × IsTrue (ticks_fit what)
+Fits what = IsTrue (what_fits what) × IsTrue (can_be_asked what) × IsTrue (ticks_fit what)
 
 ended-gives : {A : Type 0} (P : A → Type 0) (rest : List ℕ) (value : A) → P value → IfRead P (ended rest value)
 ended-gives P rest value holds = only_if-gives P (length rest == 0) value holds
@@ -198,15 +202,46 @@ read_fields-fits bytes =
 write_fields-fits : (bytes : List ℕ) → IfRead Fits (write_fields bytes)
 unfolding write_fields
 write_fields-fits bytes =
-    then-gives Fits (number_at most_id bytes) _ (λ handle. then-gives Fits (number_at most_place handle.1) _ (λ place.
-    bind-gives IsShortAt Fits (string_at place.1) _ (string_at-short place.1) (λ string short.
-    ended-gives Fits string.1 (Ask (Write handle.0 (Some place.0) string.0)) (le-leb (length string.0) 16384 short, refl, refl))))
+    then-gives Fits (number_at most_id bytes) _ (λ handle. then-gives Fits (start_at handle.1) _ (λ start.
+    bind-gives IsShortAt Fits (string_at start.1) _ (string_at-short start.1) (λ string short.
+    ended-gives Fits string.1 (Ask (Write handle.0 start.0 string.0)) (le-leb (length string.0) 16384 short, refl, refl))))
+
+flush_fields-fits : (bytes : List ℕ) → IfRead Fits (flush_fields bytes)
+unfolding flush_fields
+flush_fields-fits bytes = then-gives Fits (number_at most_id bytes) _ (λ handle. ended-gives Fits handle.1 (Ask (Flush handle.0)) (refl, refl, refl))
+
+set_end_fields-fits : (bytes : List ℕ) → IfRead Fits (set_end_fields bytes)
+unfolding set_end_fields
+set_end_fields-fits bytes =
+    then-gives Fits (number_at most_id bytes) _ (λ handle. then-gives Fits (number_at most_place handle.1) _ (λ length.
+    ended-gives Fits length.1 (Ask (SetEnd handle.0 length.0)) (refl, refl, refl)))
+
+lock_fields-fits : (bytes : List ℕ) → IfRead Fits (lock_fields bytes)
+unfolding lock_fields
+lock_fields-fits bytes =
+    then-gives Fits (number_at most_id bytes) _ (λ handle. then-gives Fits (number_at most_place handle.1) _ (λ place. then-gives Fits (number_at most_place place.1) _ (λ count.
+    then-gives Fits (choice_at (codes "ex") (codes "sh") count.1) _ (λ exclusive. then-gives Fits (choice_at (codes "wait") (codes "now") exclusive.1) _ (λ wait.
+    ended-gives Fits wait.1 (Ask (Lock handle.0 place.0 count.0 exclusive.0 wait.0)) (refl, refl, refl))))))
+
+unlock_fields-fits : (bytes : List ℕ) → IfRead Fits (unlock_fields bytes)
+unfolding unlock_fields
+unlock_fields-fits bytes =
+    then-gives Fits (number_at most_id bytes) _ (λ handle. then-gives Fits (number_at most_place handle.1) _ (λ place. then-gives Fits (number_at most_place place.1) _ (λ count.
+    ended-gives Fits count.1 (Ask (Unlock handle.0 place.0 count.0)) (refl, refl, refl))))
 
 tick_fields-fits : (bytes : List ℕ) → IfRead Fits (tick_fields bytes)
 unfolding tick_fields
 tick_fields-fits bytes =
     bind-gives (IsAtMost most_id) Fits (number_at most_id bytes) _ (number_at-bound most_id bytes) (λ ticks below.
     ended-gives Fits ticks.1 (Tick ticks.0) (refl, refl, le-leb ticks.0 4294967295 below))
+
+cancel_fields-fits : (bytes : List ℕ) → IfRead Fits (cancel_fields bytes)
+unfolding cancel_fields
+cancel_fields-fits bytes = then-gives Fits (number_at most_id bytes) _ (λ number. ended-gives Fits number.1 (Ask (Cancel number.0)) (refl, refl, refl))
+
+wait_fields-fits : (bytes : List ℕ) → IfRead Fits (wait_fields bytes)
+unfolding wait_fields
+wait_fields-fits bytes = then-gives Fits (number_at most_id bytes) _ (λ number. ended-gives Fits number.1 (WaitFor number.0) (refl, refl, refl))
 
 -- at most so many entries
 abbrev AreFew : ℕ → List Ace → Type 0
@@ -260,9 +295,15 @@ what_of-fits verb fields =
     (λ no. if-gives Fits (same verb (codes "close")) _ _ (λ is. close_fields-fits fields)
     (λ no. if-gives Fits (same verb (codes "read")) _ _ (λ is. read_fields-fits fields)
     (λ no. if-gives Fits (same verb (codes "write")) _ _ (λ is. write_fields-fits fields)
+    (λ no. if-gives Fits (same verb (codes "flush")) _ _ (λ is. flush_fields-fits fields)
+    (λ no. if-gives Fits (same verb (codes "setend")) _ _ (λ is. set_end_fields-fits fields)
+    (λ no. if-gives Fits (same verb (codes "lock")) _ _ (λ is. lock_fields-fits fields)
+    (λ no. if-gives Fits (same verb (codes "unlock")) _ _ (λ is. unlock_fields-fits fields)
     (λ no. if-gives Fits (same verb (codes "setsecurity")) _ _ (λ is. set_security_fields-fits fields)
     (λ no. if-gives Fits (same verb (codes "tick")) _ _ (λ is. tick_fields-fits fields)
-    (λ no. err-gives Fits _))))))
+    (λ no. if-gives Fits (same verb (codes "cancel")) _ _ (λ is. cancel_fields-fits fields)
+    (λ no. if-gives Fits (same verb (codes "wait")) _ _ (λ is. wait_fields-fits fields)
+    (λ no. err-gives Fits _))))))))))))
 
 -- a line that is a request is within the bounds, and one of a client has a SID
 abbrev LineFits : Line → Type 0
@@ -302,11 +343,10 @@ HaveSids-push : (clients : List Client) (client : Client) → HaveSids clients �
 HaveSids-push [] client have last = (last, tt)
 HaveSids-push (one ∷ clients) client have last = (have.0, HaveSids-push clients client have.1 last)
 
--- the calls are numbered in turn, each is one of so many clients and within the bounds, and there are few
+-- the calls are numbered in turn, and each is one of so many clients and within the bounds
 record Lawful (clients : ℕ) (lines : List Call) : Type 0 where
   numbered : AreNumbered [] lines
   fit : AreLineCalls clients lines
-  few : length lines ≤ 64
 
 AreLineCalls-push : (clients : ℕ) (calls : List Call) (call : Call) → AreLineCalls clients calls → IsLineCall clients call → AreLineCalls clients (calls ++ call ∷ [])
 AreLineCalls-push clients [] call fit last = (last, tt)
@@ -316,11 +356,11 @@ AreLineCalls-push clients (one ∷ calls) call fit last = (fit.0, AreLineCalls-p
 AreLineCalls-more : (few many : ℕ) (calls : List Call) → few ≤ many → AreLineCalls few calls → AreLineCalls many calls
 AreLineCalls-more few many [] more fit = tt
 AreLineCalls-more few many (call ∷ calls) more fit = (
-  record { fits = fit.0.fits; marks_nothing = fit.0.marks_nothing; ticks = fit.0.ticks; client = let below : call.client < few = fit.0.client in omega arith },
+  record { fits = fit.0.fits; can_be_asked = fit.0.can_be_asked; ticks = fit.0.ticks; client = let below : call.client < few = fit.0.client in omega arith },
   AreLineCalls-more few many calls more fit.1,
 )
 
-length-filter_calls : (calls : List Call) (client : ℕ) → length (filter (λ (call : Call). call.client == client) calls) ≡ calls_of client calls
+pub length-filter_calls : (calls : List Call) (client : ℕ) → length (filter (λ (call : Call). call.client == client) calls) ≡ calls_of client calls
 length-filter_calls [] client = refl
 length-filter_calls (call ∷ calls) client =
     elim (call.client == client) as (λ test. length (cond test (call ∷ filter (λ (call : Call). call.client == client) calls) (filter (λ (call : Call). call.client == client) calls)) ≡ cond test 1 0 + calls_of client calls) [
@@ -328,12 +368,11 @@ length-filter_calls (call ∷ calls) client =
       | false ↦ omega (arith, length-filter_calls calls client)
     ]
 
-Lawful-push : (clients : ℕ) (lines : List Call) (call : Call) → Lawful clients lines → call.number ≡ next_number lines call.client → IsLineCall clients call → length lines < 64
+Lawful-push : (clients : ℕ) (lines : List Call) (call : Call) → Lawful clients lines → call.number ≡ next_number lines call.client → IsLineCall clients call
     → Lawful clients (lines ++ call ∷ [])
-Lawful-push clients lines call lawful next fits few = record {
+Lawful-push clients lines call lawful next fits = record {
   numbered = AreNumbered-append [] lines (call ∷ []) lawful.numbered (next ∙ ap (λ count. count + 1) (length-filter_calls lines call.client), tt);
   fit = AreLineCalls-push clients lines call lawful.fit fits;
-  few = omega (arith, length-append lines (call ∷ []));
 }
 
 -- how many clients were read
@@ -347,40 +386,35 @@ abbrev IsLawful : Reading → Type 0
 IsLawful reading = IsLawfulScript reading.script
 
 Lawful-more : (few many : ℕ) (lines : List Call) → few ≤ many → Lawful few lines → Lawful many lines
-Lawful-more few many lines more lawful = record { numbered = lawful.numbered; fit = AreLineCalls-more few many lines more lawful.fit; few = lawful.few }
+Lawful-more few many lines more lawful = record { numbered = lawful.numbered; fit = AreLineCalls-more few many lines more lawful.fit }
 
 -- the place of a name is one of those of the clients
 place_of-below : (clients : List Client) (name : List ℕ) (place : ℕ) → place_of clients name ≡ Some place → place < length clients
 place_of-below clients name place is = (position-Some (λ (client : Client). same name client.name) clients place (record { name = []; sids = [] }) is).0
 
-take_call-lawful : (reading : Reading) (client number : ℕ) (what : What) → IsLawful reading → client < clients_in reading → Fits what → length reading.script.lines < 64
+take_call-lawful : (reading : Reading) (client number : ℕ) (what : What) → IsLawful reading → client < clients_in reading → Fits what
     → IfRead IsLawful (take_call reading client number what)
 unfolding take_call
-take_call-lawful reading client number what lawful known fits few =
+take_call-lawful reading client number what lawful known fits =
     if-gives IsLawful (number == next_number reading.script.lines client) _ _
     (λ is. ok-gives IsLawful (with_call reading client number what) (
       lawful.0,
       Lawful-push (clients_in reading) reading.script.lines (record { client = client; number = number; what = what }) lawful.1 (eqb-true number (next_number reading.script.lines client) is)
-          (record { fits = fits.0; marks_nothing = fits.1; ticks = fits.2; client = known }) few,
+          (record { fits = fits.0; can_be_asked = fits.1; ticks = fits.2; client = known }),
     ))
     (λ out. err-gives IsLawful _)
 
 take_request_of-lawful : (reading : Reading) (place : Option ℕ) (number : ℕ) (what : What) → IsLawful reading → ((client : ℕ) → place ≡ Some client → client < clients_in reading) → Fits what
-    → length reading.script.lines < 64 → IfRead IsLawful (take_request_of reading place number what)
-take_request_of-lawful reading None number what lawful known fits few = err-gives IsLawful _
-take_request_of-lawful reading (Some client) number what lawful known fits few = take_call-lawful reading client number what lawful (known client refl) fits few
-
-right_true : (left right : Bool) → not (left && right) ≡ false → right ≡ true
-right_true true true e = refl
-right_true true false e = cc
-right_true false right e = cc
+    → IfRead IsLawful (take_request_of reading place number what)
+take_request_of-lawful reading None number what lawful known fits = err-gives IsLawful _
+take_request_of-lawful reading (Some client) number what lawful known fits = take_call-lawful reading client number what lawful (known client refl) fits
 
 take_request-lawful : (reading : Reading) (name : List ℕ) (number : ℕ) (what : What) → IsLawful reading → Fits what → IfRead IsLawful (take_request reading name number what)
 unfolding take_request
 take_request-lawful reading name number what lawful fits =
-    if-gives IsLawful (not (takes_requests reading.stage && nat_lt (length reading.script.lines) 64)) _ _
-    (λ over. err-gives IsLawful _)
-    (λ within. take_request_of-lawful reading (place_of reading.script.setup.clients name) number what lawful (place_of-below reading.script.setup.clients name) fits (ltb-true _ 64 (right_true (takes_requests reading.stage) (nat_lt (length reading.script.lines) 64) within)))
+    if-gives IsLawful (not (takes_requests reading.stage)) _ _
+    (λ early. err-gives IsLawful _)
+    (λ behind. take_request_of-lawful reading (place_of reading.script.setup.clients name) number what lawful (place_of-below reading.script.setup.clients name) fits)
 
 take_client-lawful : (reading : Reading) (name sids : List ℕ) → IsLawful reading → 0 < length sids → IfRead IsLawful (take_client reading name sids)
 unfolding take_client
@@ -426,7 +460,7 @@ script_of-gives : (bytes : List ℕ) → IfRead HasLawful (script_of bytes)
 unfolding script_of
 script_of-gives bytes =
     if-gives HasLawful (length bytes == 0) _ _ (λ none. err-gives HasLawful _)
-    (λ some. lines_from-lawful 1 nothing_read (pieces bytes) (tt, record { numbered = tt; fit = tt; few = omega arith }))
+    (λ some. lines_from-lawful 1 nothing_read (pieces bytes) (tt, record { numbered = tt; fit = tt }))
 
 script_of-lawful : (bytes : List ℕ) (script : Script) → script_of bytes ≡ Ok script → IsLawfulScript script
 script_of-lawful bytes script is = (script_of-gives bytes).given script is
@@ -435,14 +469,234 @@ script_of-lawful bytes script is = (script_of-gives bytes).given script is
 pub script_of-numbered : (bytes : List ℕ) (script : Script) → script_of bytes ≡ Ok script → AreNumbered [] script.lines
 script_of-numbered bytes script is = (script_of-lawful bytes script is).1.numbered
 
--- a script's calls are of its clients, within the bounds of requests, and mark nothing for deletion
+-- a script's calls are of its clients, within the bounds of requests, and ask what a line can say
 pub script_of-fits : (bytes : List ℕ) (script : Script) → script_of bytes ≡ Ok script → AreLineCalls (length script.setup.clients) script.lines
 script_of-fits bytes script is = (script_of-lawful bytes script is).1.fit
-
--- a script has few calls
-pub script_of-few : (bytes : List ℕ) (script : Script) → script_of bytes ≡ Ok script → length script.lines ≤ 64
-script_of-few bytes script is = (script_of-lawful bytes script is).1.few
 
 -- a script's clients have SIDs
 pub script_of-sids : (bytes : List ℕ) (script : Script) → script_of bytes ≡ Ok script → HaveSids script.setup.clients
 script_of-sids bytes script is = (script_of-lawful bytes script is).0
+
+-- ---- how many calls there are
+
+-- a script, or what was read of one, has at most so many calls
+abbrev HasCalls : ℕ → Script → Type 0
+HasCalls most script = length script.lines ≤ most
+
+abbrev ReadCalls : ℕ → Reading → Type 0
+ReadCalls most reading = HasCalls most reading.script
+
+one_more : (most : ℕ) (reading : Reading) (client number : ℕ) (what : What) → ReadCalls most reading → ReadCalls (most + 1) (with_call reading client number what)
+one_more most reading client number what few = omega (arith, length-append reading.script.lines (record { client = client; number = number; what = what } ∷ []))
+
+take_call-few : (most : ℕ) (reading : Reading) (client number : ℕ) (what : What) → ReadCalls most reading → IfRead (ReadCalls (most + 1)) (take_call reading client number what)
+unfolding take_call
+take_call-few most reading client number what few =
+    if-gives (ReadCalls (most + 1)) (number == next_number reading.script.lines client) _ _
+    (λ is. ok-gives (ReadCalls (most + 1)) (with_call reading client number what) (one_more most reading client number what few))
+    (λ out. err-gives (ReadCalls (most + 1)) _)
+
+take_request_of-few : (most : ℕ) (reading : Reading) (place : Option ℕ) (number : ℕ) (what : What) → ReadCalls most reading → IfRead (ReadCalls (most + 1)) (take_request_of reading place number what)
+take_request_of-few most reading None number what few = err-gives (ReadCalls (most + 1)) _
+take_request_of-few most reading (Some client) number what few = take_call-few most reading client number what few
+
+take_request-few : (most : ℕ) (reading : Reading) (name : List ℕ) (number : ℕ) (what : What) → ReadCalls most reading → IfRead (ReadCalls (most + 1)) (take_request reading name number what)
+unfolding take_request
+take_request-few most reading name number what few =
+    if-gives (ReadCalls (most + 1)) (not (takes_requests reading.stage)) _ _
+    (λ early. err-gives (ReadCalls (most + 1)) _)
+    (λ behind. take_request_of-few most reading (place_of reading.script.setup.clients name) number what few)
+
+take_client-few : (most : ℕ) (reading : Reading) (name sids : List ℕ) → ReadCalls most reading → IfRead (ReadCalls (most + 1)) (take_client reading name sids)
+unfolding take_client
+take_client-few most reading name sids few =
+    if-gives (ReadCalls (most + 1)) (not (takes_clients reading.stage)) _ _ (λ bad. err-gives (ReadCalls (most + 1)) _)
+    (λ good. if-gives (ReadCalls (most + 1)) (is_some (place_of reading.script.setup.clients name)) _ _ (λ named. err-gives (ReadCalls (most + 1)) _) (λ new. ok-gives (ReadCalls (most + 1)) (with_client reading name sids) (omega arith)))
+
+-- a line makes one call at most
+take_line-few : (most : ℕ) (reading : Reading) (line : Line) → ReadCalls most reading → IfRead (ReadCalls (most + 1)) (take_line reading line)
+unfolding take_line
+take_line-few most reading Version few = only_if-gives (ReadCalls (most + 1)) (takes_version reading.stage) _ (omega arith)
+take_line-few most reading DefaultTable few = only_if-gives (ReadCalls (most + 1)) (takes_table reading.stage) _ (omega arith)
+take_line-few most reading PairTable few = only_if-gives (ReadCalls (most + 1)) (takes_table reading.stage) _ (omega arith)
+take_line-few most reading (Pair source target) few =
+    only_if-gives (ReadCalls (most + 1)) (takes_pairs reading.stage && nat_le source 65535 && nat_le target 65535 && not (is_at_fault reading.script.setup.table (source, target))) _ (omega arith)
+take_line-few most reading (ClientLine name sids) few = take_client-few most reading name sids few
+take_line-few most reading (RequestLine name number what) few = take_request-few most reading name number what few
+
+line_after-few : (most : ℕ) (reading : Reading) (bytes : List ℕ) → ReadCalls most reading → IfRead (ReadCalls (most + 1)) (line_after reading bytes)
+unfolding line_after
+line_after-few most reading bytes few = then-gives (ReadCalls (most + 1)) (line_of bytes) (take_line reading) (λ line. take_line-few most reading line few)
+
+end_after-few : (most line : ℕ) (reading : Reading) (rest : List ℕ) → ReadCalls most reading → IfRead (HasCalls most) (end_after line reading rest)
+unfolding end_after
+end_after-few most line reading rest few =
+    if-gives (HasCalls most) (not (length rest == 0)) _ _ (λ cut. err-gives (HasCalls most) _)
+    (λ whole. if-gives (HasCalls most) (not (takes_requests reading.stage)) _ _ (λ bad. err-gives (HasCalls most) _) (λ good. ok-gives (HasCalls most) reading.script few))
+
+at_line-few : (most many line : ℕ) (read : Result Reading Kind) (more : Reading → Result Script Fault) → IfRead (ReadCalls most) read → ((next : Reading) → ReadCalls most next → IfRead (HasCalls many) (more next))
+    → IfRead (HasCalls many) (at_line line read more)
+at_line-few most many line (Ok reading) more few next = next reading (few.given reading refl)
+at_line-few most many line (Err kind) more few next = err-gives (HasCalls many) _
+
+has_more : (few many : ℕ) (read : Result Script Fault) → few ≤ many → IfRead (HasCalls few) read → IfRead (HasCalls many) read
+has_more few many read less calls = record { given = λ script is. let at_most : length script.lines ≤ few = calls.given script is in omega arith }
+
+some_left : (texts : List (List ℕ)) → (length texts == 0) ≡ false → 1 ≤ length texts
+some_left [] some = (let impossible : true ≡ false = some in cc)
+some_left (text ∷ texts) some = omega arith
+
+-- each text but the last is a line
+lines_from-few : (most line : ℕ) (reading : Reading) (texts : List (List ℕ)) → ReadCalls most reading → IfRead (HasCalls (most + (length texts - 1))) (lines_from line reading texts)
+lines_from-few most line reading [] few = has_more most (most + (0 - 1)) (end_after line reading []) (omega arith) (end_after-few most line reading [] few)
+lines_from-few most line reading (bytes ∷ more) few =
+    if-gives (HasCalls many) (length more == 0) _ _
+    (λ last. has_more most many (end_after line reading bytes) (omega arith) (end_after-few most line reading bytes few))
+    (λ inner.
+    let some : 1 ≤ length more = some_left more inner in
+    at_line-few (most + 1) many line (line_after reading bytes) (λ next. lines_from (line + 1) next more) (line_after-few most reading bytes few)
+    (λ next read. has_more (most + 1 + (length more - 1)) many (lines_from (line + 1) next more) (omega arith) (lines_from-few (most + 1) (line + 1) next more read)))
+  where
+    many : ℕ
+    many = most + (length (bytes ∷ more) - 1)
+
+script_of-calls : (bytes : List ℕ) → IfRead (HasCalls (count_by (λ byte. byte == 10) bytes)) (script_of bytes)
+unfolding script_of
+script_of-calls bytes =
+    if-gives (HasCalls (count_by (λ byte. byte == 10) bytes)) (length bytes == 0) _ _ (λ none. err-gives (HasCalls (count_by (λ byte. byte == 10) bytes)) _)
+    (λ some. has_more (0 + (length (pieces bytes) - 1)) (count_by (λ byte. byte == 10) bytes) (lines_from 1 nothing_read (pieces bytes)) (omega (arith, length-slice_split (λ byte. byte == 10) bytes)) (lines_from-few 0 1 nothing_read (pieces bytes) (omega arith)))
+
+-- a script has no more calls than there are line feeds in its bytes
+pub script_of-few : (bytes : List ℕ) (script : Script) → script_of bytes ≡ Ok script → length script.lines ≤ count_by (λ byte. byte == 10) bytes
+script_of-few bytes script is = (script_of-calls bytes).given script is
+
+-- ---- how many clients there are
+
+-- a script, or what was read of one, has at most so many clients
+abbrev HasClients : ℕ → Script → Type 0
+HasClients most script = length script.setup.clients ≤ most
+
+abbrev ReadClients : ℕ → Reading → Type 0
+ReadClients most reading = HasClients most reading.script
+
+-- how many clients a line names that begins so, or doesn't
+abbrev named : Bool → ℕ
+named begins = cond begins 1 0
+
+abbrev begins_client : List ℕ → Bool
+begins_client text = starts_with nat_eq text (codes "client ")
+
+-- only a line that begins so names a client
+abbrev BeginsSo : Bool → Line → Type 0
+BeginsSo begins (ClientLine name sids) = begins ≡ true
+BeginsSo begins _ = Unit {0}
+
+pair_at-begins : (begins : Bool) (bytes : List ℕ) → IfRead (BeginsSo begins) (pair_at bytes)
+unfolding pair_at
+pair_at-begins begins bytes =
+    then-gives (BeginsSo begins) (mask_at bytes) _ (λ source. then-gives (BeginsSo begins) (mask_at source.1) _ (λ target. ended-gives (BeginsSo begins) target.1 (Pair source.0 target.0) tt))
+
+request_of-begins : (begins : Bool) (bytes : List ℕ) → IfRead (BeginsSo begins) (request_of bytes)
+unfolding request_of
+request_of-begins begins bytes =
+    then-gives (BeginsSo begins) (only_if (is_name (word_of bytes)) (word_of bytes)) _ (λ name. then-gives (BeginsSo begins) (number_at most_id (after_word bytes)) _ (λ number.
+    then-gives (BeginsSo begins) (field_at number.1) _ (λ verb. then-gives (BeginsSo begins) (what_of verb.0 verb.1) _ (λ what. ok-gives (BeginsSo begins) (RequestLine name number.0 what) tt))))
+
+begun_so : (begins : Bool) (line : Line) → begins ≡ true → BeginsSo begins line
+begun_so begins (ClientLine name sids) is = is
+begun_so begins _ is = tt
+
+always : {A E : Type 0} (P : A → Type 0) (read : Result A E) → ((value : A) → P value) → IfRead P read
+always P read holds = record { given = λ value is. holds value }
+
+line_of-begins : (bytes : List ℕ) → IfRead (BeginsSo (begins_client bytes)) (line_of bytes)
+unfolding line_of
+line_of-begins bytes =
+    if-gives (BeginsSo (begins_client bytes)) (same bytes (codes "fsa 1")) _ _ (λ is. ok-gives (BeginsSo (begins_client bytes)) Version tt)
+    (λ no. if-gives (BeginsSo (begins_client bytes)) (same bytes (codes "table default")) _ _ (λ is. ok-gives (BeginsSo (begins_client bytes)) DefaultTable tt)
+    (λ no. if-gives (BeginsSo (begins_client bytes)) (same bytes (codes "table pairs")) _ _ (λ is. ok-gives (BeginsSo (begins_client bytes)) PairTable tt)
+    (λ no. if-gives (BeginsSo (begins_client bytes)) (starts_with nat_eq bytes (codes "up 0x")) _ _ (λ is. pair_at-begins (begins_client bytes) (drop 2 bytes))
+    (λ no. if-gives (BeginsSo (begins_client bytes)) (begins_client bytes) _ _ (λ is. always (BeginsSo (begins_client bytes)) (client_at (drop 6 bytes)) (λ line. begun_so (begins_client bytes) line is))
+    (λ no. request_of-begins (begins_client bytes) bytes)))))
+
+take_client-named : (most : ℕ) (begins : Bool) (reading : Reading) (name sids : List ℕ) → begins ≡ true → ReadClients most reading → IfRead (ReadClients (most + named begins)) (take_client reading name sids)
+unfolding take_client
+take_client-named most begins reading name sids is few =
+    if-gives (ReadClients (most + named begins)) (not (takes_clients reading.stage)) _ _ (λ bad. err-gives (ReadClients (most + named begins)) _)
+    (λ good. if-gives (ReadClients (most + named begins)) (is_some (place_of reading.script.setup.clients name)) _ _ (λ known. err-gives (ReadClients (most + named begins)) _)
+    (λ new. ok-gives (ReadClients (most + named begins)) (with_client reading name sids) (rw is (omega (arith, length-append reading.script.setup.clients (record { name = name; sids = sids } ∷ []))))))
+
+take_call-named : (most : ℕ) (reading : Reading) (client number : ℕ) (what : What) → ReadClients most reading → IfRead (ReadClients most) (take_call reading client number what)
+unfolding take_call
+take_call-named most reading client number what few =
+    if-gives (ReadClients most) (number == next_number reading.script.lines client) _ _ (λ is. ok-gives (ReadClients most) (with_call reading client number what) few) (λ out. err-gives (ReadClients most) _)
+
+take_request_of-named : (most : ℕ) (reading : Reading) (place : Option ℕ) (number : ℕ) (what : What) → ReadClients most reading → IfRead (ReadClients most) (take_request_of reading place number what)
+take_request_of-named most reading None number what few = err-gives (ReadClients most) _
+take_request_of-named most reading (Some client) number what few = take_call-named most reading client number what few
+
+take_request-named : (most : ℕ) (reading : Reading) (name : List ℕ) (number : ℕ) (what : What) → ReadClients most reading → IfRead (ReadClients most) (take_request reading name number what)
+unfolding take_request
+take_request-named most reading name number what few =
+    if-gives (ReadClients most) (not (takes_requests reading.stage)) _ _ (λ early. err-gives (ReadClients most) _)
+    (λ behind. take_request_of-named most reading (place_of reading.script.setup.clients name) number what few)
+
+names_more : (few many : ℕ) (read : Result Reading Kind) → few ≤ many → IfRead (ReadClients few) read → IfRead (ReadClients many) read
+names_more few many read less clients = record { given = λ reading is. let at_most : length reading.script.setup.clients ≤ few = clients.given reading is in omega arith }
+
+take_line-named : (most : ℕ) (begins : Bool) (reading : Reading) (line : Line) → BeginsSo begins line → ReadClients most reading → IfRead (ReadClients (most + named begins)) (take_line reading line)
+unfolding take_line
+take_line-named most begins reading Version so few = names_more most (most + named begins) _ (omega arith) (only_if-gives (ReadClients most) (takes_version reading.stage) _ few)
+take_line-named most begins reading DefaultTable so few = names_more most (most + named begins) _ (omega arith) (only_if-gives (ReadClients most) (takes_table reading.stage) _ few)
+take_line-named most begins reading PairTable so few = names_more most (most + named begins) _ (omega arith) (only_if-gives (ReadClients most) (takes_table reading.stage) _ few)
+take_line-named most begins reading (Pair source target) so few =
+    names_more most (most + named begins) _ (omega arith)
+    (only_if-gives (ReadClients most) (takes_pairs reading.stage && nat_le source 65535 && nat_le target 65535 && not (is_at_fault reading.script.setup.table (source, target))) _ few)
+take_line-named most begins reading (ClientLine name sids) so few = take_client-named most begins reading name sids so few
+take_line-named most begins reading (RequestLine name number what) so few =
+    names_more most (most + named begins) (take_request reading name number what) (omega arith) (take_request-named most reading name number what few)
+
+line_after-named : (most : ℕ) (reading : Reading) (bytes : List ℕ) → ReadClients most reading → IfRead (ReadClients (most + named (begins_client bytes))) (line_after reading bytes)
+unfolding line_after
+line_after-named most reading bytes few =
+    bind-gives (BeginsSo (begins_client bytes)) (ReadClients (most + named (begins_client bytes))) (line_of bytes) (take_line reading) (line_of-begins bytes)
+    (λ line so. take_line-named most (begins_client bytes) reading line so few)
+
+end_after-named : (most line : ℕ) (reading : Reading) (rest : List ℕ) → ReadClients most reading → IfRead (HasClients most) (end_after line reading rest)
+unfolding end_after
+end_after-named most line reading rest few =
+    if-gives (HasClients most) (not (length rest == 0)) _ _ (λ cut. err-gives (HasClients most) _)
+    (λ whole. if-gives (HasClients most) (not (takes_requests reading.stage)) _ _ (λ bad. err-gives (HasClients most) _) (λ good. ok-gives (HasClients most) reading.script few))
+
+at_line-named : (most many line : ℕ) (read : Result Reading Kind) (more : Reading → Result Script Fault) → IfRead (ReadClients most) read → ((next : Reading) → ReadClients most next → IfRead (HasClients many) (more next))
+    → IfRead (HasClients many) (at_line line read more)
+at_line-named most many line (Ok reading) more few next = next reading (few.given reading refl)
+at_line-named most many line (Err kind) more few next = err-gives (HasClients many) _
+
+more_named : (few many : ℕ) (read : Result Script Fault) → few ≤ many → IfRead (HasClients few) read → IfRead (HasClients many) read
+more_named few many read less clients = record { given = λ script is. let at_most : length script.setup.clients ≤ few = clients.given script is in omega arith }
+
+count-step : (text : List ℕ) (texts : List (List ℕ)) → count_by begins_client (text ∷ texts) ≡ named (begins_client text) + count_by begins_client texts
+count-step text texts = sum_by-cons (λ line. named (begins_client line)) text texts
+
+lines_from-named : (most line : ℕ) (reading : Reading) (texts : List (List ℕ)) → ReadClients most reading → IfRead (HasClients (most + count_by begins_client texts)) (lines_from line reading texts)
+lines_from-named most line reading [] few = more_named most (most + count_by begins_client []) (end_after line reading []) (omega arith) (end_after-named most line reading [] few)
+lines_from-named most line reading (bytes ∷ more) few =
+    if-gives (HasClients many) (length more == 0) _ _
+    (λ last. more_named most many (end_after line reading bytes) (omega arith) (end_after-named most line reading bytes few))
+    (λ inner. at_line-named (most + named (begins_client bytes)) many line (line_after reading bytes) (λ next. lines_from (line + 1) next more) (line_after-named most reading bytes few)
+    (λ next read. more_named (most + named (begins_client bytes) + count_by begins_client more) many (lines_from (line + 1) next more) (omega (arith, count-step bytes more)) (lines_from-named (most + named (begins_client bytes)) (line + 1) next more read)))
+  where
+    many : ℕ
+    many = most + count_by begins_client (bytes ∷ more)
+
+script_of-names : (bytes : List ℕ) → IfRead (HasClients (count_by begins_client (pieces bytes))) (script_of bytes)
+unfolding script_of
+script_of-names bytes =
+    if-gives (HasClients (count_by begins_client (pieces bytes))) (length bytes == 0) _ _ (λ none. err-gives (HasClients (count_by begins_client (pieces bytes))) _)
+    (λ some. more_named (0 + count_by begins_client (pieces bytes)) (count_by begins_client (pieces bytes)) (lines_from 1 nothing_read (pieces bytes)) (omega arith) (lines_from-named 0 1 nothing_read (pieces bytes) (omega arith)))
+
+-- a script has no more clients than there are lines in its bytes that begin with `client `
+pub script_of-named : (bytes : List ℕ) (script : Script) → script_of bytes ≡ Ok script
+    → length script.setup.clients ≤ count_by (λ line. starts_with nat_eq line (codes "client ")) (pieces bytes)
+script_of-named bytes script is = (script_of-names bytes).given script is

@@ -22,13 +22,13 @@ use Rattle.fsa_model.specs.Outcome.{Outcome, Done, Stay, Hold}
 use Rattle.fsa_model.specs.Settle.{Settling, settled, with_tried, starves, held_taken_up, taken_up, settle_step, repeated, taken_up_all}
 use Rattle.fsa_model.specs.Try.{try_what, try}
 use Rattle.fsa_model.specs.Volume.{Pending, Volume}
-use Rattle.fsa_model.specs.Waiting.{blocker_lives, is_blocked, is_held, has_come, has_due, is_notify_of, is_notify_on, is_first_notify, is_ready, next_ready, is_wait, all_wait, is_asked_before, waits_in_order, with_stalled}
-use Rattle.fsa_model.proofs.CountLaws.{and_left, and_right, and_true, how_many-length, how_many-weaker, how_many-same, how_many-filter, how_many-filter_le, how_many-map, how_many-split, how_many-some, how_many-none, some-how_many, only-one, how_many-in_order}
+use Rattle.fsa_model.specs.Waiting.{AreLiving, blocker_lives, is_blocked, is_held, has_come, has_due, is_notify_of, is_notify_on, is_first_notify, is_ready, next_ready, is_wait, all_wait, is_asked_before, waits_in_order, with_stalled}
+use Rattle.fsa_model.proofs.CountLaws.{and_left, and_right, and_true, how_many-either, how_many-length, how_many-weaker, how_many-same, how_many-filter, how_many-filter_le, how_many-map, how_many-split, how_many-some, how_many-none, some-how_many, only-one, how_many-in_order}
 use Rattle.fsa_model.proofs.DataWaits.{try_read-tries, try_write-tries, try_set_end-tries, try_lock-tries}
 use Rattle.fsa_model.proofs.OnceLaws.{is_call_of, is_same-refl, fewer-calls_ended, gone-calls_ended, blockers-calls_ended}
 use Rattle.fsa_model.proofs.OpenWaits.{try_create-tries}
 use Rattle.fsa_model.proofs.RowLaws.{any-same, any-weaker, option_cases, option_map-none, change_at, change_at-number}
-use Rattle.fsa_model.proofs.TryLaws.{AreLiving, Keeps, Leaves, Leaves-same, Leaves-untouched, Tries, TriesTo, Tries-if, Tries-refused, HasOneOplockEach-kept}
+use Rattle.fsa_model.proofs.TryLaws.{Keeps, Leaves, Leaves-same, Leaves-untouched, Tries, TriesTo, Tries-if, Tries-refused, HasOneOplockEach-kept}
 use Rattle.fsa_model.proofs.WaitLaws.{HasOneOplockEach, Found, some_item}
 use Rattle.fsa_model.proofs.WatchLaws.{comes_over, SameWatching, watching-calls_ended, has_due-same}
 
@@ -276,16 +276,6 @@ MaySettle-ends v client number reply may = record {
   turns = λ turn. (let few : how_many (is_under turn) v.pending ≤ 1 = may.turns turn in let fewer = how_many-filter_le (is_under turn) (λ e. not (is_call client number e.1)) v.pending in omega arith);
   held = (let none = may.held in let fewer = how_many-filter_le is_held_wrongly (λ e. not (is_call client number e.1)) v.pending in omega arith);
 }
-
--- at most as many pass one of two tests as pass the first and the second
-how_many-either : {X : Type 0} (p q r : X → Bool) (items : List X) → ((x : X) → r x ≡ true → (p x ≡ true) ⊎ (q x ≡ true)) → how_many r items ≤ how_many p items + how_many q items
-how_many-either p q r [] either = omega arith
-how_many-either p q r (x ∷ items) either =
-    let rest = how_many-either p q r items either in
-    elim (cases_Bool (r x)) [
-      | inr fails ↦ rw fails (omega arith)
-      | inl passes ↦ elim (either x passes) [ inl one ↦ rw (passes, one) (omega arith) | inr other ↦ rw (passes, other) (omega arith) ]
-    ]
 
 -- a call is held anew, under a turn under which only what can be held is pending
 MaySettle-holds : (v : Volume) (turn : ℕ) (blockers : List Blocker) → how_many (λ e. is_under turn e && not (may_be_held e.1.call.what)) v.pending ≡ 0 → MaySettle v → MaySettle (with_blockers v turn blockers)

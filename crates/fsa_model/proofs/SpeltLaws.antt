@@ -10,8 +10,8 @@ use Rattle.std.proofs.Math.Nat.{le-mul_of_pos_right}
 use Rattle.std.proofs.lemmas.Bool.{and_parts, cases_Bool}
 use Rattle.std.proofs.lemmas.Bool.Decides.{nat_tests}
 use Rattle.fsa_model.specs.Fault.{Kind, BadSyntax, ◌>>=◌, only_if, read_as}
-use Rattle.fsa_model.specs.Numbers.{digit_of, glyph, spelled, number_after, number_of}
-use Rattle.fsa_model.specs.Words.{word_of, after_word, field_at, ended, number_at, mask_of, mask_at, upper_digit_of, are_upper_digits, unit_of_digits, is_plain, onto, units_of, escaped_units, text_of, text_at, bytes_of, string_of, string_at}
+use Rattle.fsa_model.specs.Numbers.{digit_of, glyph, spelled, number_after, written_number}
+use Rattle.fsa_model.specs.Words.{word_of, after_word, field_at, ended, number_at, mask_of, mask_at, upper_digit_of, are_upper_digits, unit_of_digits, is_plain, onto, units_of, escaped_units, text_of, text_at, written_bytes, string_of, string_at}
 use Rattle.fsa_model.specs.FieldText.{number_text, mask_text, upper_glyph, byte_text, string_text}
 use Rattle.fsa_model.specs.Spelled.{escape_text, SpellsUnit, SpellsUnits}
 
@@ -112,7 +112,7 @@ zero_digit byte is = grind (arith, nat_tests)
 some_digit : (byte : ℕ) → (byte == 48) ≡ false → 0 < digit_of byte
 some_digit byte other = grind (arith, nat_tests)
 
-pub number_back : (base most n : ℕ) (word : List ℕ) → 2 ≤ base → base ≤ 16 → number_of base most word ≡ Some n → word ≡ spelled base n
+pub number_back : (base most n : ℕ) (word : List ℕ) → 2 ≤ base → base ≤ 16 → written_number base most word ≡ Some n → word ≡ spelled base n
 number_back base most n [] two hexadecimal is = absurd (let e : None ≡ Some n = is in cc)
 number_back base most n (byte ∷ []) two hexadecimal is =
     elim (cases_Bool (byte == 48)) [
@@ -135,7 +135,7 @@ number_after-most base most n m (byte ∷ bytes) within is =
     let parts = some_if (nat_lt (digit_of byte) base && nat_le (n * base + digit_of byte) most) (number_after base most (n * base + digit_of byte) bytes) m is in
     number_after-most base most (n * base + digit_of byte) m bytes (leb-true _ most (and_parts (nat_lt (digit_of byte) base) (nat_le (n * base + digit_of byte) most) parts.0).1) parts.1
 
-pub number_of-most : (base most n : ℕ) (word : List ℕ) → number_of base most word ≡ Some n → n ≤ most
+pub number_of-most : (base most n : ℕ) (word : List ℕ) → written_number base most word ≡ Some n → n ≤ most
 number_of-most base most n [] is = absurd (let e : None ≡ Some n = is in cc)
 number_of-most base most n (byte ∷ []) is = number_after-most base most 0 n (byte ∷ []) (omega arith) is
 number_of-most base most n (byte ∷ second ∷ bytes) is =
@@ -146,9 +146,9 @@ pub number_at-back : (most : ℕ) (bytes : List ℕ) (number : ℕ × List ℕ) 
 unfolding number_at
 number_at-back most bytes number is =
     let word = bind_ok (field_at bytes) _ number is in
-    let value = bind_ok (read_as (number_of 10 most word.0.0)) _ number word.2 in
+    let value = bind_ok (read_as (written_number 10 most word.0.0)) _ number word.2 in
     let pair : (value.0, word.0.1) ≡ number = (let e : Ok (value.0, word.0.1) ≡ Ok number = value.2 in cc) in
-    let read : number_of 10 most word.0.0 ≡ Some value.0 = read_as_ok (number_of 10 most word.0.0) value.0 value.1 in (
+    let read : written_number 10 most word.0.0 ≡ Some value.0 = read_as_ok (written_number 10 most word.0.0) value.0 value.1 in (
       field_back bytes word.0 word.1
           ∙ ap (λ (w : List ℕ). 32 ∷ (w ++ word.0.1)) (number_back 10 most value.0 word.0.0 (omega arith) (omega arith) read)
           ∙ ap (λ (p : ℕ × List ℕ). number_text p.0 ++ p.1) pair,
@@ -162,9 +162,9 @@ unfolding mask_of
 mask_of-back [] mask is = absurd (let e : Err BadSyntax ≡ Ok mask = is in cc)
 mask_of-back (first ∷ []) mask is = absurd (let e : Err BadSyntax ≡ Ok mask = is in cc)
 mask_of-back (first ∷ x ∷ digits) mask is =
-    let parts = if_ok (first == 48 && x == 120) (read_as (number_of 16 4294967295 digits)) mask is in
+    let parts = if_ok (first == 48 && x == 120) (read_as (written_number 16 4294967295 digits)) mask is in
     let marks = and_parts (first == 48) (x == 120) parts.0 in
-    let read : number_of 16 4294967295 digits ≡ Some mask = read_as_ok (number_of 16 4294967295 digits) mask parts.1 in (
+    let read : written_number 16 4294967295 digits ≡ Some mask = read_as_ok (written_number 16 4294967295 digits) mask parts.1 in (
       ap (λ (a : ℕ). a ∷ x ∷ digits) (eqb-true first 48 marks.0)
           ∙ ap (λ (b : ℕ). 48 ∷ b ∷ digits) (eqb-true x 120 marks.1)
           ∙ ap (λ (rest : List ℕ). 48 ∷ 120 ∷ rest) (number_back 16 4294967295 mask digits (omega arith) (omega arith) read),
@@ -287,13 +287,13 @@ pair_of high low small_high small_low =
 abbrev pub ReadsBytes : List ℕ → List ℕ → Type 0
 ReadsBytes bytes digits = (digits ≡ flat_map byte_text bytes) × (list_all (λ byte. nat_le byte 255) bytes ≡ true) × (length digits ≡ length bytes * 2)
 
-bytes_back : (digits bytes : List ℕ) → bytes_of digits ≡ Ok bytes → ReadsBytes bytes digits
+bytes_back : (digits bytes : List ℕ) → written_bytes digits ≡ Ok bytes → ReadsBytes bytes digits
 bytes_back [] bytes is = let none : [] ≡ bytes = (let e : Ok [] ≡ Ok bytes = is in cc) in subst (λ (b : List ℕ). ReadsBytes b []) none (refl, refl, refl)
 bytes_back (digit ∷ []) bytes is = absurd (let e : Err BadSyntax ≡ Ok bytes = is in cc)
 bytes_back (high ∷ low ∷ digits) bytes is =
-    let parts = if_ok (nat_lt (digit_of high) 16 && nat_lt (digit_of low) 16) (onto (digit_of high * 16 + digit_of low) (bytes_of digits)) bytes is in
+    let parts = if_ok (nat_lt (digit_of high) 16 && nat_lt (digit_of low) 16) (onto (digit_of high * 16 + digit_of low) (written_bytes digits)) bytes is in
     let tests = and_parts (nat_lt (digit_of high) 16) (nat_lt (digit_of low) 16) parts.0 in
-    let more = onto_ok (digit_of high * 16 + digit_of low) (bytes_of digits) bytes parts.1 in
+    let more = onto_ok (digit_of high * 16 + digit_of low) (written_bytes digits) bytes parts.1 in
     let rest = bytes_back digits more.0 more.1 in
     let here = pair_of high low (ltb-true (digit_of high) 16 tests.0) (ltb-true (digit_of low) 16 tests.1) in
     let twice : length digits ≡ length more.0 * 2 = rest.2 in
@@ -308,7 +308,7 @@ string_of-back : (word bytes : List ℕ) → string_of word ≡ Ok bytes
 unfolding string_of
 string_of-back [] bytes is = absurd (let e : Err BadSyntax ≡ Ok bytes = is in cc)
 string_of-back (byte ∷ digits) bytes is =
-    let parts = if_ok (byte == 120 && nat_le (length digits) 32768) (bytes_of digits) bytes is in
+    let parts = if_ok (byte == 120 && nat_le (length digits) 32768) (written_bytes digits) bytes is in
     let tests = and_parts (byte == 120) (nat_le (length digits) 32768) parts.0 in
     let back = bytes_back digits bytes parts.1 in
     let twice : length digits ≡ length bytes * 2 = back.2 in

@@ -13,17 +13,19 @@ use Rattle.fsa_types.specs.declared.request.DaclChange.{DaclChange}
 use Rattle.fsa_types.specs.declared.request.DaclChange.TheVariants.{Keep, Remove, Put}
 use Rattle.fsa_types.specs.declared.request.Disposition.{Disposition}
 use Rattle.fsa_types.specs.declared.request.Disposition.TheVariants.{Supersede, OpenExisting, CreateNew, OpenIf, Overwrite, OverwriteIf}
-use Rattle.fsa_types.specs.declared.request.Request.TheVariants.{Create, Close, Read, Write, SetSecurity}
+use Rattle.fsa_types.specs.declared.request.Request.TheVariants.{Create, Close, Read, Write, Flush, SetEnd, Lock, Unlock, SetSecurity, Cancel}
 use Rattle.fsa_types.specs.declared.request.What.{What}
-use Rattle.fsa_types.specs.declared.request.What.TheVariants.{Ask, Tick}
+use Rattle.fsa_types.specs.declared.request.What.TheVariants.{Ask, Tick, WaitFor}
 use Rattle.fsa_model.specs.Fault.{Kind, BadSyntax, ◌>>=◌, only_if}
-use Rattle.fsa_model.specs.Numbers.{number_of, spelled}
-use Rattle.fsa_model.specs.Words.{most_id, same, field_at, number_at, mask_at, mask_of, text_at, string_at}
-use Rattle.fsa_model.specs.FieldText.{number_text, mask_text, string_text}
+use Rattle.fsa_model.specs.Numbers.{written_number, spelled}
+use Rattle.fsa_model.specs.Words.{most_id, most_place, same, field_at, number_at, mask_at, mask_of, text_at, choice_of, choice_at, string_at}
+use Rattle.fsa_model.specs.FieldText.{number_text, mask_text, choice_text, string_text}
 use Rattle.fsa_model.specs.OpenLines.{most_key, disposition_of, disposition_at, disposition_text, is_built_create, create_fields, close_fields}
-use Rattle.fsa_model.specs.ByteLines.{most_place, read_fields, write_fields}
+use Rattle.fsa_model.specs.ByteLines.{read_fields, written_place, start_at, start_text, write_fields, flush_fields, set_end_fields}
+use Rattle.fsa_model.specs.LockLines.{lock_fields, unlock_fields}
 use Rattle.fsa_model.specs.InformationLines.{sid_of, owner_at, owner_text, ace_with, ace_of, ace_text, entry_of, after_entry, ace_onto, aces_of, most_aces, dacl_of, dacl_at, dacl_text, is_ace, is_dacl, set_security_fields}
 use Rattle.fsa_model.specs.ClockLines.{tick_fields}
+use Rattle.fsa_model.specs.WaitLines.{cancel_fields, wait_fields}
 use Rattle.fsa_model.specs.Requests.{what_of}
 use Rattle.fsa_model.specs.Verbs.{verb}
 use Rattle.fsa_model.specs.Spelling.{is_built}
@@ -46,7 +48,7 @@ if_or false one other value is = inr is
 
 sid_back : (word : List ℕ) (sid : ℕ) → sid_of word ≡ Ok sid → (word ≡ spelled 10 sid) × (sid ≤ 4294967295)
 sid_back word sid is =
-    let read : number_of 10 most_id word ≡ Some sid = read_as_ok (number_of 10 most_id word) sid is in
+    let read : written_number 10 most_id word ≡ Some sid = read_as_ok (written_number 10 most_id word) sid is in
     (number_back 10 most_id sid word (omega arith) (omega arith) read, number_of-most 10 most_id sid word read)
 
 abbrev ReadsOwner : Option ℕ → List ℕ → Type 0
@@ -242,6 +244,61 @@ disposition_at-back bytes disposition is =
     let pair : (value.0, word.0.1) ≡ disposition = (let e : Ok (value.0, word.0.1) ≡ Ok disposition = value.2 in cc) in
     field_back bytes word.0 word.1 ∙ ap (λ (w : List ℕ). w ++ word.0.1) (disposition_of-back word.0.0 value.0 value.1) ∙ ap (λ (p : Disposition × List ℕ). disposition_text p.0 ++ p.1) pair
 
+-- ---- words of two, and where a write begins
+
+choice_of-back : (first second word : List ℕ) (choice : Bool) → choice_of first second word ≡ Ok choice → 32 ∷ word ≡ choice_text first second choice
+choice_of-back first second word choice is =
+    elim (if_or (same word first) (Ok true) (if same word second then Ok false else Err BadSyntax) choice is) [
+      | inl h ↦
+          let made : true ≡ choice = (let e : Ok true ≡ Ok choice = h.1 in cc) in
+          ap (λ (w : List ℕ). 32 ∷ w) (same-is word first h.0) ∙ ap (choice_text first second) made
+      | inr h ↦
+          let parts = if_ok (same word second) (Ok false) choice h in
+          let made : false ≡ choice = (let e : Ok false ≡ Ok choice = parts.1 in cc) in
+          ap (λ (w : List ℕ). 32 ∷ w) (same-is word second parts.0) ∙ ap (choice_text first second) made
+    ]
+
+choice_at-back : (first second bytes : List ℕ) (choice : Bool × List ℕ) → choice_at first second bytes ≡ Ok choice → bytes ≡ choice_text first second choice.0 ++ choice.1
+unfolding choice_at
+choice_at-back first second bytes choice is =
+    let word = bind_ok (field_at bytes) _ choice is in
+    let value = bind_ok (choice_of first second word.0.0) _ choice word.2 in
+    let pair : (value.0, word.0.1) ≡ choice = (let e : Ok (value.0, word.0.1) ≡ Ok choice = value.2 in cc) in
+    field_back bytes word.0 word.1 ∙ ap (λ (w : List ℕ). w ++ word.0.1) (choice_of-back first second word.0.0 value.0 value.1) ∙ ap (λ (p : Bool × List ℕ). choice_text first second p.0 ++ p.1) pair
+
+abbrev ReadsStart : Option ℕ → List ℕ → Type 0
+ReadsStart start text = (text ≡ start_text start) × (option_map_or (λ place. nat_le place most_place) start true ≡ true)
+
+start_word : (word : List ℕ) (start : Option ℕ) → (if same word (codes "end") then Ok None else written_place word >>= (λ place. Ok (Some place))) ≡ Ok start → ReadsStart start (32 ∷ word)
+start_word word start is =
+    elim (if_or (same word (codes "end")) (Ok None) (written_place word >>= (λ place. Ok (Some place))) start is) [
+      | inl ended ↦
+          let none : None ≡ start = (let e : Ok None ≡ Ok start = ended.1 in cc) in
+          subst (λ (s : Option ℕ). ReadsStart s (32 ∷ word)) none (ap (λ (w : List ℕ). 32 ∷ w) (same-is word (codes "end") ended.0), refl)
+      | inr read ↦
+          let place = bind_ok (written_place word) (λ p. Ok (Some p)) start read in
+          let some : Some place.0 ≡ start = (let e : Ok (Some place.0) ≡ Ok start = place.2 in cc) in
+          let number : written_number 10 most_place word ≡ Some place.0 = read_as_ok (written_number 10 most_place word) place.0 place.1 in
+          subst (λ (s : Option ℕ). ReadsStart s (32 ∷ word)) some (
+            ap (λ (w : List ℕ). 32 ∷ w) (number_back 10 most_place place.0 word (omega arith) (omega arith) number),
+            le-leb place.0 most_place (number_of-most 10 most_place place.0 word number),
+          )
+    ]
+
+start_at-back : (bytes : List ℕ) (start : Option ℕ × List ℕ) → start_at bytes ≡ Ok start
+    → (bytes ≡ start_text start.0 ++ start.1) × (option_map_or (λ place. nat_le place most_place) start.0 true ≡ true)
+unfolding start_at
+start_at-back bytes start is =
+    let word = bind_ok (field_at bytes) _ start is in
+    let value = bind_ok (if same word.0.0 (codes "end") then Ok None else written_place word.0.0 >>= (λ place. Ok (Some place))) _ start word.2 in
+    let pair : (value.0, word.0.1) ≡ start = (let e : Ok (value.0, word.0.1) ≡ Ok start = value.2 in cc) in
+    let back = start_word word.0.0 value.0 value.1 in (
+      field_back bytes word.0 word.1
+          ∙ ap (λ (w : List ℕ). w ++ word.0.1) back.0
+          ∙ ap (λ (p : Option ℕ × List ℕ). start_text p.0 ++ p.1) pair,
+      subst (λ (p : Option ℕ × List ℕ). option_map_or (λ place. nat_le place most_place) p.0 true ≡ true) pair back.1,
+    )
+
 -- ---- the fields of each verb
 
 -- what was read is said by a verb of this name, whose fields these bytes write
@@ -282,27 +339,114 @@ read_back fields what is =
           ∙ ap (λ (rest : List ℕ). number_text handle.0.0 ++ rest) (second.0
           ∙ ap (λ (rest : List ℕ). number_text place.0.0 ++ rest) (third.0
           ∙ ap (λ (rest : List ℕ). number_text count.0.0 ++ rest) last.0 ∙ append-nil (number_text count.0.0))),
-      rw (le-leb handle.0.0 4294967295 first.1, le-leb place.0.0 65535 second.1, le-leb count.0.0 16384 third.1) refl,
+      rw (le-leb handle.0.0 4294967295 first.1, le-leb place.0.0 most_place second.1, le-leb count.0.0 16384 third.1) refl,
     )
 
 write_back : (fields : List ℕ) (what : What) → write_fields fields ≡ Ok what → ReadsVerb (codes "write") what fields
 unfolding write_fields
 write_back fields what is =
     let handle = bind_ok (number_at most_id fields) _ what is in
-    let place = bind_ok (number_at most_place handle.0.1) _ what handle.2 in
-    let string = bind_ok (string_at place.0.1) _ what place.2 in
-    let last = ended_ok string.0.1 (Ask (Write handle.0.0 (Some place.0.0) string.0.0)) what string.2 in
+    let start = bind_ok (start_at handle.0.1) _ what handle.2 in
+    let string = bind_ok (string_at start.0.1) _ what start.2 in
+    let last = ended_ok string.0.1 (Ask (Write handle.0.0 start.0.0 string.0.0)) what string.2 in
     let first = number_at-back most_id fields handle.0 handle.1 in
-    let second = number_at-back most_place handle.0.1 place.0 place.1 in
-    let third = string_at-back place.0.1 string.0 string.1 in
+    let second = start_at-back handle.0.1 start.0 start.1 in
+    let third = string_at-back start.0.1 string.0 string.1 in
     subst (λ (w : What). ReadsVerb (codes "write") w fields) last.1 (
       refl,
       first.0
           ∙ ap (λ (rest : List ℕ). number_text handle.0.0 ++ rest) (second.0
-          ∙ ap (λ (rest : List ℕ). number_text place.0.0 ++ rest) (third.0
+          ∙ ap (λ (rest : List ℕ). start_text start.0.0 ++ rest) (third.0
           ∙ ap (λ (rest : List ℕ). string_text string.0.0 ++ rest) last.0 ∙ append-nil (string_text string.0.0))),
-      rw (le-leb handle.0.0 4294967295 first.1, le-leb place.0.0 65535 second.1, third.1, le-leb (length string.0.0) 16384 third.2) refl,
+      rw (le-leb handle.0.0 4294967295 first.1, second.1, third.1, le-leb (length string.0.0) 16384 third.2) refl,
     )
+
+flush_back : (fields : List ℕ) (what : What) → flush_fields fields ≡ Ok what → ReadsVerb (codes "flush") what fields
+unfolding flush_fields
+flush_back fields what is =
+    let handle = bind_ok (number_at most_id fields) _ what is in
+    let last = ended_ok handle.0.1 (Ask (Flush handle.0.0)) what handle.2 in
+    let first = number_at-back most_id fields handle.0 handle.1 in
+    subst (λ (w : What). ReadsVerb (codes "flush") w fields) last.1
+    (refl, first.0 ∙ ap (λ (rest : List ℕ). number_text handle.0.0 ++ rest) last.0 ∙ append-nil (number_text handle.0.0), le-leb handle.0.0 4294967295 first.1)
+
+set_end_back : (fields : List ℕ) (what : What) → set_end_fields fields ≡ Ok what → ReadsVerb (codes "setend") what fields
+unfolding set_end_fields
+set_end_back fields what is =
+    let handle = bind_ok (number_at most_id fields) _ what is in
+    let length = bind_ok (number_at most_place handle.0.1) _ what handle.2 in
+    let last = ended_ok length.0.1 (Ask (SetEnd handle.0.0 length.0.0)) what length.2 in
+    let first = number_at-back most_id fields handle.0 handle.1 in
+    let second = number_at-back most_place handle.0.1 length.0 length.1 in
+    subst (λ (w : What). ReadsVerb (codes "setend") w fields) last.1 (
+      refl,
+      first.0
+          ∙ ap (λ (rest : List ℕ). number_text handle.0.0 ++ rest) (second.0
+          ∙ ap (λ (rest : List ℕ). number_text length.0.0 ++ rest) last.0 ∙ append-nil (number_text length.0.0)),
+      rw (le-leb handle.0.0 4294967295 first.1, le-leb length.0.0 most_place second.1) refl,
+    )
+
+lock_back : (fields : List ℕ) (what : What) → lock_fields fields ≡ Ok what → ReadsVerb (codes "lock") what fields
+unfolding lock_fields
+lock_back fields what is =
+    let handle = bind_ok (number_at most_id fields) _ what is in
+    let place = bind_ok (number_at most_place handle.0.1) _ what handle.2 in
+    let count = bind_ok (number_at most_place place.0.1) _ what place.2 in
+    let exclusive = bind_ok (choice_at (codes "ex") (codes "sh") count.0.1) _ what count.2 in
+    let wait = bind_ok (choice_at (codes "wait") (codes "now") exclusive.0.1) _ what exclusive.2 in
+    let last = ended_ok wait.0.1 (Ask (Lock handle.0.0 place.0.0 count.0.0 exclusive.0.0 wait.0.0)) what wait.2 in
+    let first = number_at-back most_id fields handle.0 handle.1 in
+    let second = number_at-back most_place handle.0.1 place.0 place.1 in
+    let third = number_at-back most_place place.0.1 count.0 count.1 in
+    let fourth = choice_at-back (codes "ex") (codes "sh") count.0.1 exclusive.0 exclusive.1 in
+    let fifth = choice_at-back (codes "wait") (codes "now") exclusive.0.1 wait.0 wait.1 in
+    subst (λ (w : What). ReadsVerb (codes "lock") w fields) last.1 (
+      refl,
+      first.0
+          ∙ ap (λ (rest : List ℕ). number_text handle.0.0 ++ rest) (second.0
+          ∙ ap (λ (rest : List ℕ). number_text place.0.0 ++ rest) (third.0
+          ∙ ap (λ (rest : List ℕ). number_text count.0.0 ++ rest) (fourth
+          ∙ ap (λ (rest : List ℕ). choice_text (codes "ex") (codes "sh") exclusive.0.0 ++ rest) (fifth
+          ∙ ap (λ (rest : List ℕ). choice_text (codes "wait") (codes "now") wait.0.0 ++ rest) last.0 ∙ append-nil (choice_text (codes "wait") (codes "now") wait.0.0))))),
+      rw (le-leb handle.0.0 4294967295 first.1, le-leb place.0.0 most_place second.1, le-leb count.0.0 most_place third.1) refl,
+    )
+
+unlock_back : (fields : List ℕ) (what : What) → unlock_fields fields ≡ Ok what → ReadsVerb (codes "unlock") what fields
+unfolding unlock_fields
+unlock_back fields what is =
+    let handle = bind_ok (number_at most_id fields) _ what is in
+    let place = bind_ok (number_at most_place handle.0.1) _ what handle.2 in
+    let count = bind_ok (number_at most_place place.0.1) _ what place.2 in
+    let last = ended_ok count.0.1 (Ask (Unlock handle.0.0 place.0.0 count.0.0)) what count.2 in
+    let first = number_at-back most_id fields handle.0 handle.1 in
+    let second = number_at-back most_place handle.0.1 place.0 place.1 in
+    let third = number_at-back most_place place.0.1 count.0 count.1 in
+    subst (λ (w : What). ReadsVerb (codes "unlock") w fields) last.1 (
+      refl,
+      first.0
+          ∙ ap (λ (rest : List ℕ). number_text handle.0.0 ++ rest) (second.0
+          ∙ ap (λ (rest : List ℕ). number_text place.0.0 ++ rest) (third.0
+          ∙ ap (λ (rest : List ℕ). number_text count.0.0 ++ rest) last.0 ∙ append-nil (number_text count.0.0))),
+      rw (le-leb handle.0.0 4294967295 first.1, le-leb place.0.0 most_place second.1, le-leb count.0.0 most_place third.1) refl,
+    )
+
+cancel_back : (fields : List ℕ) (what : What) → cancel_fields fields ≡ Ok what → ReadsVerb (codes "cancel") what fields
+unfolding cancel_fields
+cancel_back fields what is =
+    let number = bind_ok (number_at most_id fields) _ what is in
+    let last = ended_ok number.0.1 (Ask (Cancel number.0.0)) what number.2 in
+    let first = number_at-back most_id fields number.0 number.1 in
+    subst (λ (w : What). ReadsVerb (codes "cancel") w fields) last.1
+    (refl, first.0 ∙ ap (λ (rest : List ℕ). number_text number.0.0 ++ rest) last.0 ∙ append-nil (number_text number.0.0), le-leb number.0.0 4294967295 first.1)
+
+wait_back : (fields : List ℕ) (what : What) → wait_fields fields ≡ Ok what → ReadsVerb (codes "wait") what fields
+unfolding wait_fields
+wait_back fields what is =
+    let number = bind_ok (number_at most_id fields) _ what is in
+    let last = ended_ok number.0.1 (WaitFor number.0.0) what number.2 in
+    let first = number_at-back most_id fields number.0 number.1 in
+    subst (λ (w : What). ReadsVerb (codes "wait") w fields) last.1
+    (refl, first.0 ∙ ap (λ (rest : List ℕ). number_text number.0.0 ++ rest) last.0 ∙ append-nil (number_text number.0.0), le-leb number.0.0 4294967295 first.1)
 
 set_security_back : (fields : List ℕ) (what : What) → set_security_fields fields ≡ Ok what → ReadsVerb (codes "setsecurity") what fields
 unfolding set_security_fields
@@ -381,5 +525,11 @@ what_of-back word fields what is =
     verb_case word (codes "close") fields (close_fields fields) _ what is (close_back fields what) (λ is.
     verb_case word (codes "read") fields (read_fields fields) _ what is (read_back fields what) (λ is.
     verb_case word (codes "write") fields (write_fields fields) _ what is (write_back fields what) (λ is.
+    verb_case word (codes "flush") fields (flush_fields fields) _ what is (flush_back fields what) (λ is.
+    verb_case word (codes "setend") fields (set_end_fields fields) _ what is (set_end_back fields what) (λ is.
+    verb_case word (codes "lock") fields (lock_fields fields) _ what is (lock_back fields what) (λ is.
+    verb_case word (codes "unlock") fields (unlock_fields fields) _ what is (unlock_back fields what) (λ is.
     verb_case word (codes "setsecurity") fields (set_security_fields fields) _ what is (set_security_back fields what) (λ is.
-    verb_case word (codes "tick") fields (tick_fields fields) (Err BadSyntax) what is (tick_back fields what) (λ is. absurd (let e : Err BadSyntax ≡ Ok what = is in cc)))))))
+    verb_case word (codes "tick") fields (tick_fields fields) _ what is (tick_back fields what) (λ is.
+    verb_case word (codes "cancel") fields (cancel_fields fields) _ what is (cancel_back fields what) (λ is.
+    verb_case word (codes "wait") fields (wait_fields fields) (Err BadSyntax) what is (wait_back fields what) (λ is. absurd (let e : Err BadSyntax ≡ Ok what = is in cc)))))))))))))

@@ -17,13 +17,13 @@ use Rattle.fsa_model.specs.Outcome.{Outcome, Done, Stay, Hold}
 use Rattle.fsa_model.specs.Settle.{Settling, with_tried, starves, held_taken_up, taken_up, settle_step, taken_up_all}
 use Rattle.fsa_model.specs.Try.{try}
 use Rattle.fsa_model.specs.Volume.{Pending, Volume}
-use Rattle.fsa_model.specs.Waiting.{blocker_lives, is_held, is_ready, next_ready, is_granted_under}
+use Rattle.fsa_model.specs.Waiting.{AreLiving, blocker_lives, is_held, is_ready, next_ready, is_granted_under}
 use Rattle.fsa_model.proofs.CountLaws.{and_left, and_right, how_many-append, how_many-weaker, how_many-same, how_many-filter, how_many-filter_le, how_many-map, how_many-split, how_many-some, how_many-none, some-how_many, only-one, how_many-length}
 use Rattle.fsa_model.proofs.OnceLaws.{Extends, Extends-length, Extends-same, Extends-next, is_call_of, is_same-refl, IsOnce-kept}
 use Rattle.fsa_model.proofs.RowLaws.{option_cases, option_map-none, change_at, change_at-number}
 use Rattle.fsa_model.proofs.SettleLaws.{MaySettle, IsNext, is_under, is_free, how_many_free, next_ready-is, ready-free, next-may_be_held, try-tries, MaySettle-kept, Steps, Steps-settle_step, repeated-ends, some_equal, none-ready}
 use Rattle.fsa_model.proofs.WaitLaws.{unbroken, HasOneOplockEach, HasOneBreakEach}
-use Rattle.fsa_model.proofs.TryLaws.{SameNumbers, SameNumbers-same, FewNumbers, FewNumbers-same, AreLiving, Keeps, Keeps-next, Keeps-ends, Leaves, Leaves-same, Tries, TriesTo, is_given, GrantsNoneHeld, GrantsNoneHeld-kept, HasOneOplockEach-kept, held-ends, swapped, Watches, Watches-equal, Watches-next, Leaves-untouched, Untouched}
+use Rattle.fsa_model.proofs.TryLaws.{SameNumbers, SameNumbers-same, FewNumbers, FewNumbers-same, Keeps, Keeps-next, Keeps-ends, Leaves, Leaves-same, Tries, TriesTo, is_given, GrantsNoneHeld, GrantsNoneHeld-kept, HasOneOplockEach-kept, held-ends, swapped, Watches, Watches-equal, Watches-next, Leaves-untouched, Untouched}
 use Rattle.fsa_model.proofs.WatchLaws.{comes_over}
 
 -- ---- what is asked of the volume
@@ -51,7 +51,7 @@ abbrev pub one_if : Bool → ℕ
 one_if test = cond test 1 0
 
 -- at most so many numbers of each kind have been given, and twice as many of streams
-pub record GivesUpTo (v : Volume) (most : ℕ) : Type 0 where
+pub record GivesAtMost (v : Volume) (most : ℕ) : Type 0 where
   pub files : v.last_file ≤ most
   pub links : v.last_link ≤ most
   pub streams : v.last_stream ≤ most * 2
@@ -59,8 +59,8 @@ pub record GivesUpTo (v : Volume) (most : ℕ) : Type 0 where
   pub locks : v.last_lock ≤ most
 
 -- where no number is given, and no end is taken away
-pub GivesUpTo-same : (v w : Volume) (more : ℕ) → SameNumbers v w → Extends v.ended w.ended → GivesUpTo v (length v.ended + more) → GivesUpTo w (length w.ended + more)
-GivesUpTo-same v w more same extends gives =
+pub GivesAtMost-same : (v w : Volume) (more : ℕ) → SameNumbers v w → Extends v.ended w.ended → GivesAtMost v (length v.ended + more) → GivesAtMost w (length w.ended + more)
+GivesAtMost-same v w more same extends gives =
     let longer = Extends-length extends in
     record {
       files = let is = same.files in let few = gives.files in omega arith;
@@ -71,9 +71,9 @@ GivesUpTo-same v w more same extends gives =
     }
 
 -- where a call that was given a few numbers ends
-pub GivesUpTo-ends : (v w : Volume) (client number more : ℕ) (reply : Reply) → FewNumbers v w → Extends v.ended w.ended → GivesUpTo v (length v.ended + more)
-    → GivesUpTo (with_end w client number reply) (length (with_end w client number reply).ended + more)
-GivesUpTo-ends v w client number more reply few extends gives =
+pub GivesAtMost-ends : (v w : Volume) (client number more : ℕ) (reply : Reply) → FewNumbers v w → Extends v.ended w.ended → GivesAtMost v (length v.ended + more)
+    → GivesAtMost (with_end w client number reply) (length (with_end w client number reply).ended + more)
+GivesAtMost-ends v w client number more reply few extends gives =
     let longer = Extends-length extends in
     let one = length-append w.ended (record { client = client; number = number; reply = reply } ∷ []) in
     record {
@@ -244,7 +244,7 @@ pub record GoesOn (v : Volume) (s : Settling) : Type 0 where
   pub granted : (turn : ℕ) → how_many (is_granted_under turn) s.volume.oplocks ≤ how_many (is_granted_under turn) v.oplocks
   pub ended : Extends v.ended s.volume.ended
   pub seen : Watches v s.volume
-  pub gives : (more : ℕ) → GivesUpTo v (length v.ended + more) → GivesUpTo s.volume (length s.volume.ended + more)
+  pub gives : (more : ℕ) → GivesAtMost v (length v.ended + more) → GivesAtMost s.volume (length s.volume.ended + more)
   pub breaks : s.volume.last_break + unbroken s.volume ≤ v.last_break + unbroken v
   -- the held calls that no living blocker held then were taken up once, or are still to be
   pub taken : (turn : ℕ) → how_many (λ t. t == turn) s.taken + let_go turn s.volume ≡ let_go turn v
@@ -262,7 +262,7 @@ record Goes (turns : List ℕ) (v w : Volume) : Type 0 where
   granted : (turn : ℕ) → how_many (is_granted_under turn) w.oplocks ≤ how_many (is_granted_under turn) v.oplocks
   ended : Extends v.ended w.ended
   seen : Watches v w
-  gives : (more : ℕ) → GivesUpTo v (length v.ended + more) → GivesUpTo w (length w.ended + more)
+  gives : (more : ℕ) → GivesAtMost v (length v.ended + more) → GivesAtMost w (length w.ended + more)
   breaks : w.last_break + unbroken w ≤ v.last_break + unbroken v
   taken : (turn : ℕ) → how_many (λ t. t == turn) turns + let_go turn w ≡ let_go turn v
 
@@ -316,7 +316,7 @@ Goes-unheld v entry reply once none given there waits =
       granted = keeps.granted;
       ended = keeps.ended;
       seen = keeps.seen;
-      gives = λ more up. GivesUpTo-ends v v entry.1.call.client entry.1.call.number more reply (FewNumbers-same (SameNumbers-same v)) (Extends-same v.ended) up;
+      gives = λ more up. GivesAtMost-ends v v entry.1.call.client entry.1.call.number more reply (FewNumbers-same (SameNumbers-same v)) (Extends-same v.ended) up;
       breaks = omega arith;
       taken = λ turn. (let stay = held-ends v entry.1.call.client entry.1.call.number reply once other (λ e. is_under turn e && is_free v e) in
           let before = how_many-same (is_let_go turn v) (λ e. is_held e.1 && (is_under turn e && is_free v e)) v.pending (λ e. turned_round (is_under turn e) (is_held e.1) (is_free v e)) in
@@ -347,7 +347,7 @@ Goes-waits v w entry reply un once none given next waits =
       granted = λ turn. (let first = leaves.keeps.granted turn in let second = goes.granted turn in omega arith);
       ended = Extends-next leaves.keeps.ended goes.ended;
       seen = Watches-next leaves.keeps.seen goes.seen;
-      gives = λ more up. goes.gives more (GivesUpTo-same v w more un.numbers leaves.keeps.ended up);
+      gives = λ more up. goes.gives more (GivesAtMost-same v w more un.numbers leaves.keeps.ended up);
       breaks = (let first = leaves.breaks in let second = goes.breaks in omega arith);
       taken = λ turn. goes.taken turn ∙ let_go-kept turn v w leaves once none given;
     }
@@ -392,7 +392,7 @@ Goes-ends v w entry reply leaves few once none given next held =
       granted = keeps.granted;
       ended = keeps.ended;
       seen = keeps.seen;
-      gives = λ more up. GivesUpTo-ends v w client number more reply few leaves.keeps.ended up;
+      gives = λ more up. GivesAtMost-ends v w client number more reply few leaves.keeps.ended up;
       breaks = leaves.breaks;
       taken = λ turn. (let ends = let_go-ends turn entry.0 w client number reply once_after some in let kept = let_go-kept turn v w leaves once none given in omega arith);
     }
@@ -421,7 +421,7 @@ Goes-holds v w entry blockers leaves numbers living may once none given next hel
   ended = leaves.keeps.ended;
   seen = record { more = leaves.keeps.seen.more; changes = leaves.keeps.seen.changes; watches = leaves.keeps.seen.watches };
   breaks = leaves.breaks;
-  gives = λ more up. (let later = GivesUpTo-same v w more numbers leaves.keeps.ended up in record { files = later.files; links = later.links; streams = later.streams; handles = later.handles; locks = later.locks });
+  gives = λ more up. (let later = GivesAtMost-same v w more numbers leaves.keeps.ended up in record { files = later.files; links = later.links; streams = later.streams; handles = later.handles; locks = later.locks });
   taken = λ turn. (let holds = let_go-holds turn entry.0 w blockers few (still_there (still-let_go v w entry (λ _. true) leaves once none given next held refl)) some_lives in
       let kept = let_go-kept turn v w leaves once none given in omega arith);
 }

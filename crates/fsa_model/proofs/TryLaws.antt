@@ -1,6 +1,6 @@
 -- What a try leaves of what calls wait for: one law for each way in which a definition goes on.
 use Rattle.std.proofs.Common.{◌≡◌, ℕ, ◌+◌, ◌≤◌, Bool, true, false, not, List, [], ◌∷◌, length, refl, ap, sym, ◌∙◌, arith, inl, inr, ◌⊎◌, Option, Some, None}
-use Rattle.std.specs.List.{filter, find, list_any, All}
+use Rattle.std.specs.List.{filter, find, list_any}
 use Rattle.std.specs.Option.{option_map_or}
 use Rattle.std.specs.Prelude.{◌==◌, ◌&&◌, nat_le, map, is_some, if◌then◌else◌, ◌++◌, nat_lt}
 use Rattle.std.proofs.lemmas.Bool.{cases_Bool, eq-eqb, eqb-true, leb-true, le-leb, lt-leb, ltb-true, lt-ltb}
@@ -26,10 +26,12 @@ use Rattle.fsa_model.specs.Once.{how_many, times, made, IsOnce}
 use Rattle.fsa_model.specs.Outcome.{Outcome, Done, Stay, Hold, refused}
 use Rattle.fsa_model.specs.Volume.{Oplock, Pending, Volume, Change, Watch}
 use Rattle.fsa_model.specs.Waiting.{blocker_lives, is_breaking, is_granted_under, is_held}
+pub use Rattle.fsa_model.specs.Waiting.{AreLiving}
 use Rattle.fsa_model.specs.Waits.{waits_for, held_by}
 use Rattle.fsa_model.proofs.BreakLaws.{broken, told-oplocks, with_breaks-rest}
-use Rattle.fsa_model.proofs.CountLaws.{and_left, and_right, how_many-filter, how_many-filter_le, how_many-in_order, how_many-none, how_many-split, how_many-weaker, only-one, how_many-map, how_many-same, how_many-some, and_true}
+use Rattle.fsa_model.proofs.CountLaws.{and_left, and_right, how_many-filter, how_many-filter_le, how_many-in_order, how_many-none, how_many-split, how_many-weaker, only-one, how_many-map, how_many-same, how_many-some, some-how_many, and_true}
 use Rattle.fsa_model.proofs.OnceLaws.{Extends, Extends-same, Extends-next, Extends-equal, is_call_of, times-pending_ends, made-with_end, IsOnce-kept, is_same-refl}
+use Rattle.fsa_model.proofs.PendLaws.{HandlesStay, HandlesStay-same, HandlesStay-next, NoneLapsed, NoneLapsed-ends_under, NoneLapsed-same, OneGrantEach, found-under, lapsed}
 use Rattle.fsa_model.proofs.RowLaws.{option_cases, find-any}
 use Rattle.fsa_model.proofs.WaitLaws.{is_of, lacks_break, lowered, begun, goes_on_badly, done_to, new-effect, last-effect, badly-rest, chosen-well, or_none, IsNew, HasOneBreakEach, HasOneOplockEach, with_breaks-lives, with_breaks-spends, unbroken, with_breaks-new, with_breaks-last, awaited-live, find-passes}
 
@@ -98,6 +100,9 @@ pub record Leaves (v w : Volume) : Type 0 where
   pub held : IsOnce v → GrantsNoneHeld v → (test : ℕ × Pending → Bool) → how_many (λ entry. is_held entry.1 && test entry) w.pending ≡ how_many (λ entry. is_held entry.1 && test entry) v.pending
   pub breaks : w.last_break + unbroken w ≤ v.last_break + unbroken v
   pub ones : KeepsOnes v w
+  pub stay : HandlesStay v w
+  -- and an oplock without a break stays granted to a pending call
+  pub pends : IsOnce v → OneGrantEach v → NoneLapsed v → NoneLapsed w
 
 -- no file, link, stream, handle or lock has been given a number
 pub record SameNumbers (v w : Volume) : Type 0 where
@@ -124,6 +129,7 @@ pub record SameWaits (v w : Volume) : Type 0 where
   pub last_break : w.last_break ≡ v.last_break
   pub last_lock : w.last_lock ≡ v.last_lock
   pub seen : Watches v w
+  pub stay : HandlesStay v w
 
 -- nor is a number given
 pub record Untouched (v w : Volume) : Type 0 where
@@ -133,6 +139,7 @@ pub record Untouched (v w : Volume) : Type 0 where
   pub ended : w.ended ≡ v.ended
   pub last_break : w.last_break ≡ v.last_break
   pub seen : Watches v w
+  pub opens : w.handles ≡ v.handles
   pub numbers : SameNumbers v w
 
 pub SameNumbers-same : (v : Volume) → SameNumbers v v
@@ -241,7 +248,10 @@ KeepsNumbers-next {u} {v} {w} first second = record {
     not_given b (inr no_number) isnt = no_number
 
 pub Leaves-same : (v : Volume) → Leaves v v
-Leaves-same v = record { keeps = Keeps-same v; lives = λ b lives. lives; new = λ b lives. inl lives; given = λ b is. is; held = λ once none test. refl; breaks = omega arith; ones = λ one all_given each. each }
+Leaves-same v = record { keeps = Keeps-same v; lives = λ b lives. lives; new = λ b lives. inl lives; given = λ b is. is; held = λ once none test. refl; breaks = omega arith; ones = λ one all_given each. each; stay = HandlesStay-same refl refl; pends = λ once one_grant none. none }
+
+pub OneGrantEach-kept : (v w : Volume) → Keeps v w → OneGrantEach v → OneGrantEach w
+OneGrantEach-kept v w keeps one turn = (let few : how_many (is_granted_under turn) v.oplocks ≤ 1 = one turn in let fewer = keeps.granted turn in omega arith)
 
 pub Leaves-next : {u v w : Volume} → Leaves u v → Leaves v w → Leaves u w
 Leaves-next {u} {v} {w} first second =
@@ -254,10 +264,12 @@ Leaves-next {u} {v} {w} first second =
       breaks = numbers.breaks;
       ones = numbers.ones;
       held = λ once none test. second.held (IsOnce-kept u v (first.keeps.times once) once) (GrantsNoneHeld-kept u v first.keeps none) test ∙ first.held once none test;
+      stay = HandlesStay-next first.stay second.stay;
+      pends = λ once one none. second.pends (IsOnce-kept u v (first.keeps.times once) once) (OneGrantEach-kept u v first.keeps one) (first.pends once one none);
     }
 
 pub Untouched-same : (v : Volume) → Untouched v v
-Untouched-same v = record { oplocks = refl; locks = refl; pending = refl; ended = refl; last_break = refl; seen = Watches-equal refl refl; numbers = SameNumbers-same v }
+Untouched-same v = record { oplocks = refl; locks = refl; pending = refl; ended = refl; last_break = refl; seen = Watches-equal refl refl; opens = refl; numbers = SameNumbers-same v }
 
 pub Untouched-next : {u v w : Volume} → Untouched u v → Untouched v w → Untouched u w
 Untouched-next first second = record {
@@ -267,13 +279,14 @@ Untouched-next first second = record {
   ended = second.ended ∙ first.ended;
   last_break = second.last_break ∙ first.last_break;
   seen = Watches-next first.seen second.seen;
+  opens = second.opens ∙ first.opens;
   numbers = SameNumbers-next first.numbers second.numbers;
 }
 
 pub Untouched-noted : (v : Volume) (link action bits : ℕ) (stream : Option ℕ) → Untouched v (with_change_noted v link action bits stream)
 Untouched-noted v link action bits stream = elim (option_cases (row_of v.links link)) [
   | inl none ↦ rw none (Untouched-same v)
-  | inr some ↦ rw some.1 (record { oplocks = refl; locks = refl; pending = refl; ended = refl; last_break = refl; seen = Watches-noted v _ (record { action = action; bits = bits; seen_from = seen_from v.links some.0 (stream_suffix v.streams stream) } ∷ []) refl refl; numbers = record { files = refl; links = refl; streams = refl; handles = refl; locks = refl } })
+  | inr some ↦ rw some.1 (record { oplocks = refl; locks = refl; pending = refl; ended = refl; last_break = refl; seen = Watches-noted v _ (record { action = action; bits = bits; seen_from = seen_from v.links some.0 (stream_suffix v.streams stream) } ∷ []) refl refl; opens = refl; numbers = record { files = refl; links = refl; streams = refl; handles = refl; locks = refl } })
 ]
 
 pub Keeps-same_waits : (v w : Volume) → SameWaits v w → Keeps v w
@@ -308,10 +321,12 @@ Leaves-same_waits v w un = record {
   breaks = rw (un.oplocks, un.last_break) (omega arith);
   ones = λ one all_given each number. (let few : how_many (is_breaking number) v.oplocks ≤ 1 = each number in rw un.oplocks few);
   held = λ once none test. rw un.pending refl;
+  stay = un.stay;
+  pends = λ once one none. NoneLapsed-same v w un.oplocks un.pending un.stay.found none;
 }
 
 pub SameWaits-untouched : {v w : Volume} → Untouched v w → SameWaits v w
-SameWaits-untouched un = record { oplocks = un.oplocks; locks = un.locks; pending = un.pending; ended = un.ended; last_break = un.last_break; seen = un.seen; last_lock = un.numbers.locks }
+SameWaits-untouched un = record { oplocks = un.oplocks; locks = un.locks; pending = un.pending; ended = un.ended; last_break = un.last_break; seen = un.seen; stay = HandlesStay-same un.opens un.numbers.handles; last_lock = un.numbers.locks }
 
 pub Leaves-untouched : (v w : Volume) → Untouched v w → Leaves v w
 Leaves-untouched v w un = Leaves-same_waits v w (SameWaits-untouched un)
@@ -495,6 +510,95 @@ held-broken kind v (o ∷ oplocks) once none test =
     of_first : (t : ℕ) → o.call ≡ Some t → 1 ≤ how_many (is_granted_under t) (o ∷ oplocks)
     of_first t is = (let here : is_granted_under t o ≡ true = rw (is, eq-eqb t t refl) refl in rw here (omega arith))
 
+-- an oplock without a break stays granted to a pending call, whatever breaks
+NoneLapsed-told : (v : Volume) (turn : Option ℕ) (level : Level) (ack : Bool) → IsOnce v → ((t : ℕ) → turn ≡ Some t → how_many (is_granted_under t) v.oplocks ≡ 0) → NoneLapsed v → NoneLapsed (with_told v turn level ack)
+NoneLapsed-told v None level ack once ended none = none
+NoneLapsed-told v (Some turn) level ack once ended none = elim (option_cases (row_of v.pending turn)) [
+  | inl missing ↦ rw missing none
+  | inr some ↦ rw some.1 (NoneLapsed-ends_under v some.0.call.client some.0.call.number turn (record { status = Success; body = Broken level ack }) once (found-under v.pending turn some.0 some.1) (ended turn refl) none)
+]
+
+-- no oplock of another handle is granted under this turn
+abbrev pub granted_elsewhere : ℕ → ℕ → Oplock → Bool
+granted_elsewhere turn handle oplock = is_granted_under turn oplock && not (is_of handle oplock)
+
+alone-changed : (change : Oplock → Oplock) (at turn handle : ℕ) (oplocks : List Oplock) → ((o : Oplock) → (change o).handle ≡ o.handle)
+    → ((o : Oplock) → is_granted_under turn (change o) ≡ true → is_granted_under turn o ≡ true)
+    → how_many (granted_elsewhere turn handle) (map (changed change at) oplocks) ≤ how_many (granted_elsewhere turn handle) oplocks
+alone-changed change at turn handle oplocks same grants =
+    let mapped = how_many-map (granted_elsewhere turn handle) (changed change at) oplocks in
+    let weaker = how_many-weaker (λ o. granted_elsewhere turn handle (changed change at o)) (granted_elsewhere turn handle) oplocks (λ o both. of_changed o both) in
+    omega arith
+  where
+    of_changed : (o : Oplock) → granted_elsewhere turn handle (changed change at o) ≡ true → granted_elsewhere turn handle o ≡ true
+    of_changed o both = elim (cases_Bool (o.handle == at)) [
+      | inr other ↦ rw other at both
+      | inl here ↦ (let its : (is_granted_under turn (change o) && not ((change o).handle == handle)) ≡ true = rw here at both in
+          let there : not (o.handle == handle) ≡ true = rw (same o) at (and_right (is_granted_under turn (change o)) (not ((change o).handle == handle)) its) in
+          and_true (is_granted_under turn o) (not (o.handle == handle)) (grants o (and_left (is_granted_under turn (change o)) (not ((change o).handle == handle)) its)) there)
+    ]
+
+alone-effect : (v : Volume) (oplock : Oplock) (done : Effect) (turn handle : ℕ) → how_many (granted_elsewhere turn handle) (with_effect v oplock done).oplocks ≤ how_many (granted_elsewhere turn handle) v.oplocks
+alone-effect v oplock Stays turn handle = omega arith
+alone-effect v oplock Ends turn handle =
+    let same = ap (λ (oplocks : List Oplock). how_many (granted_elsewhere turn handle) oplocks) (told-oplocks (without_oplock v oplock.handle) oplock.call Nil false) in
+    let fewer = how_many-filter_le (granted_elsewhere turn handle) (λ (o : Oplock). not (o.handle == oplock.handle)) v.oplocks in
+    omega arith
+alone-effect v oplock (Begins level) turn handle =
+    let same = ap (λ (oplocks : List Oplock). how_many (granted_elsewhere turn handle) oplocks) (told-oplocks (with_break_begun v oplock.handle level) oplock.call level true) in
+    let fewer = alone-changed (λ o. record o { target = Some level; number = v.last_break + 1; call = None }) oplock.handle turn handle v.oplocks (λ o. refl) (λ o is. cc) in
+    omega arith
+alone-effect v oplock (Lowers level) turn handle = alone-changed (λ o. record o { target = Some level }) oplock.handle turn handle v.oplocks (λ o. refl) (λ o is. is)
+
+NoneLapsed-effect : (v : Volume) (oplock : Oplock) (done : Effect) → IsOnce v → ((t : ℕ) → oplock.call ≡ Some t → how_many (granted_elsewhere t oplock.handle) v.oplocks ≡ 0) → NoneLapsed v → NoneLapsed (with_effect v oplock done)
+NoneLapsed-effect v oplock Stays once alone none = none
+NoneLapsed-effect v oplock (Lowers level) once alone none =
+    let mapped = how_many-map (lapsed v) (changed (λ o. record o { target = Some level }) oplock.handle) v.oplocks in
+    let weaker = how_many-weaker (λ o. lapsed v (changed (λ o. record o { target = Some level }) oplock.handle o)) (lapsed v) v.oplocks
+    (λ o is. elim (cases_Bool (o.handle == oplock.handle)) [ inl here ↦ (let impossible : false ≡ true = rw here at is in cc) | inr other ↦ rw other at is ]) in
+    omega arith
+NoneLapsed-effect v oplock Ends once alone none =
+    NoneLapsed-told (without_oplock v oplock.handle) oplock.call Nil false once
+    (λ t is. (let kept = how_many-filter (is_granted_under t) (λ (o : Oplock). not (o.handle == oplock.handle)) v.oplocks in
+    let same = how_many-same (λ (o : Oplock). not (o.handle == oplock.handle) && is_granted_under t o) (granted_elsewhere t oplock.handle) v.oplocks (λ o. swapped (not (o.handle == oplock.handle)) (is_granted_under t o)) in
+    let zero_there = alone t is in omega arith))
+    (let fewer = how_many-filter_le (lapsed v) (λ (o : Oplock). not (o.handle == oplock.handle)) v.oplocks in omega arith)
+NoneLapsed-effect v oplock (Begins level) once alone none =
+    NoneLapsed-told (with_break_begun v oplock.handle level) oplock.call level true once
+    (λ t is. (let mapped = how_many-map (is_granted_under t) (changed change oplock.handle) v.oplocks in
+    let weaker = how_many-weaker (λ o. is_granted_under t (changed change oplock.handle o)) (granted_elsewhere t oplock.handle) v.oplocks
+    (λ o passes. elim (cases_Bool (o.handle == oplock.handle)) [ inl here ↦ (let impossible : false ≡ true = rw here at passes in cc) | inr other ↦ (let granted : is_granted_under t o ≡ true = rw other at passes in rw (other, granted) refl) ]) in
+    let zero_there = alone t is in omega arith))
+    (let mapped = how_many-map (lapsed v) (changed change oplock.handle) v.oplocks in
+    let weaker = how_many-weaker (λ o. lapsed v (changed change oplock.handle o)) (lapsed v) v.oplocks
+    (λ o is. elim (cases_Bool (o.handle == oplock.handle)) [ inl here ↦ (let impossible : false ≡ true = rw here at is in cc) | inr other ↦ rw other at is ]) in
+    omega arith)
+  where
+    change : Oplock → Oplock
+    change o = record o { target = Some level; number = v.last_break + 1; call = None }
+
+NoneLapsed-broken : (kind : Class) (v : Volume) (oplocks : List Oplock) → IsOnce v
+    → ((turn handle : ℕ) → 1 ≤ how_many (λ o. is_granted_under turn o && is_of handle o) oplocks → how_many (granted_elsewhere turn handle) v.oplocks ≡ 0)
+    → NoneLapsed v → NoneLapsed (broken kind v oplocks)
+NoneLapsed-broken kind v [] once alone none = none
+NoneLapsed-broken kind v (o ∷ oplocks) once alone none =
+    let next : Volume = with_effect v o (effect kind o.level o.target) in
+    let keeps : Keeps v next = Keeps-effect v o (effect kind o.level o.target) in
+    NoneLapsed-broken kind next oplocks (IsOnce-kept v next (keeps.times once) once)
+    (λ turn handle some. let zero_there : how_many (granted_elsewhere turn handle) v.oplocks ≡ 0 = alone turn handle (omega arith) in
+    let fewer = alone-effect v o (effect kind o.level o.target) turn handle in omega arith)
+    (NoneLapsed-effect v o (effect kind o.level o.target) once (λ t is. alone t o.handle (of_first t is)) none)
+  where
+    of_first : (t : ℕ) → o.call ≡ Some t → 1 ≤ how_many (λ x. is_granted_under t x && is_of o.handle x) (o ∷ oplocks)
+    of_first t is = (let here : is_granted_under t o ≡ true = rw (is, eq-eqb t t refl) refl in rw (here, eq-eqb o.handle o.handle refl) (omega arith))
+
+NoneLapsed-breaks : (v : Volume) (on : HandleSet) (kind : Class) (acting : Option ℕ) (key : ℕ) → IsOnce v → OneGrantEach v → NoneLapsed v → NoneLapsed (with_breaks v on kind acting key)
+NoneLapsed-breaks v on kind acting key once one none =
+    NoneLapsed-broken kind v (chosen v on acting key) once (λ turn handle some.
+    let ordered = how_many-in_order (λ o. is_granted_under turn o && is_of handle o) (is_broken_before v) (filter (is_chosen v on acting key) v.oplocks) in
+    let kept = how_many-filter_le (λ o. is_granted_under turn o && is_of handle o) (is_chosen v on acting key) v.oplocks in
+    how_many-none (granted_elsewhere turn handle) v.oplocks (only-one (is_granted_under turn) (is_of handle) v.oplocks (one turn) (some-how_many (λ o. is_granted_under turn o && is_of handle o) v.oplocks (omega arith)))) none
+
 -- a break that goes on keeps its number
 fewer-lowered : (at number : ℕ) (level : Level) (xs : List Oplock) → list_any (lacks_break at) xs ≡ false → how_many (is_breaking number) (map (changed (lowered level) at) xs) ≤ how_many (is_breaking number) xs
 fewer-lowered at number level [] none = omega arith
@@ -573,6 +677,8 @@ Leaves-breaks v on kind acting key one = record {
       let ordered = how_many-in_order (is_granted_under turn) (is_broken_before v) (filter (is_chosen v on acting key) v.oplocks) in
       let kept = how_many-filter_le (is_granted_under turn) (is_chosen v on acting key) v.oplocks in
       let many : 1 ≤ how_many (is_granted_under turn) v.oplocks = omega arith in none turn many) test;
+  stay = HandlesStay-same (ap (λ (w : Volume). w.handles) (with_breaks-rest v on kind acting key)) (ap (λ (w : Volume). w.last_handle) (with_breaks-rest v on kind acting key));
+  pends = λ once one_grant none. NoneLapsed-breaks v on kind acting key once one_grant none;
 }
 
 pub SameNumbers-breaks : (v : Volume) (on : HandleSet) (kind : Class) (acting : Option ℕ) (key : ℕ) → SameNumbers v (with_breaks v on kind acting key)
@@ -585,11 +691,6 @@ SameNumbers-breaks v on kind acting key = record {
 }
 
 -- ---- how a try ends
-
--- blockers that live, at least one
-pub record AreLiving (v : Volume) (blockers : List Blocker) : Type 0 where
-  pub some : (length blockers == 0) ≡ false
-  pub live : All (λ b. blocker_lives v b ≡ true) blockers
 
 -- a try ends its call or holds it by blockers that live, and leaves such a volume
 abbrev pub TriesTo : (Volume → Volume → Type 0) → Volume → Outcome → Type 0

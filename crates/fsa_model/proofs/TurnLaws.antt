@@ -27,14 +27,14 @@ use Rattle.fsa_model.specs.Settle.{settled, taken_up_all}
 use Rattle.fsa_model.specs.Try.{try_request, try_what, try}
 use Rattle.fsa_model.specs.Turn.{Turned, turn_number, answered, ends_between, settlement, turned, turn, volume_after}
 use Rattle.fsa_model.specs.Volume.{Pending, Volume}
-use Rattle.fsa_model.specs.Waiting.{is_held, is_granted_under, is_wait, next_ready, all_wait, is_asked_before, waits_in_order, with_stalled}
+use Rattle.fsa_model.specs.Waiting.{AreLiving, is_held, is_granted_under, is_wait, next_ready, all_wait, is_asked_before, waits_in_order, with_stalled}
 use Rattle.fsa_model.proofs.CountLaws.{and_left, how_many-append, how_many-weaker, how_many-filter_le, how_many-in_order}
 use Rattle.fsa_model.proofs.GrantLaws.{StaysUnder, StaysUnder-kept, GrantsTo, Grants, Grants-refused, try_oplock-grants, try_ack-grants, Answers, Answers-refused, try_ack-ends, EndsNone, EndsNone-refused, try_oplock-ends}
-use Rattle.fsa_model.proofs.KeepLaws.{KeepsAll, KeepsAll-same, StaysTo, Kept, Kept-if, Kept-refused, KeepsAll-calls_ended, try_close-kept, try_leave-kept, try_flush-kept, try_unlock-kept, try_set_security-kept, try_wait-kept, try_cancel-kept, ticks-kept, try_notify-kept}
+use Rattle.fsa_model.proofs.KeepLaws.{KeepsAll, KeepsAll-same, KeptTo, Kept, Kept-if, Kept-refused, KeepsAll-calls_ended, try_close-kept, try_leave-kept, try_flush-kept, try_unlock-kept, try_set_security-kept, try_wait-kept, try_cancel-kept, ticks-kept, try_notify-kept}
 use Rattle.fsa_model.proofs.OnceLaws.{Extends, Extends-next, is_call_of, is_same, is_same-equal, times-with_end, length-filter_split, IsOnce-kept}
 use Rattle.fsa_model.proofs.SettleLaws.{MaySettle-kept, MaySettle-ends, may_be_held, is_under, is_held_wrongly, try-tries, settled-done, some_equal}
-use Rattle.fsa_model.proofs.TakenLaws.{GivesUpTo, GivesUpTo-same, GivesUpTo-ends, is_ungiven, MayTakeUp, GoesOn, taken_up_all-goes}
-use Rattle.fsa_model.proofs.TryLaws.{SameNumbers, FewNumbers, FewNumbers-same, AreLiving, KeepsNumbers, KeepsNumbers-leaves, Leaves, Tries, TriesTo, GrantsNoneHeld, GrantsNoneHeld-kept, HasOneOplockEach-kept, is_given, Watches, Watches-next}
+use Rattle.fsa_model.proofs.TakenLaws.{GivesAtMost, GivesAtMost-same, GivesAtMost-ends, is_ungiven, MayTakeUp, GoesOn, taken_up_all-goes}
+use Rattle.fsa_model.proofs.TryLaws.{SameNumbers, FewNumbers, FewNumbers-same, KeepsNumbers, KeepsNumbers-leaves, Leaves, Tries, TriesTo, GrantsNoneHeld, GrantsNoneHeld-kept, HasOneOplockEach-kept, is_given, Watches, Watches-next}
 use Rattle.fsa_model.proofs.WaitLaws.{unbroken, HasOneOplockEach}
 
 -- ---- a try of any call
@@ -51,7 +51,7 @@ tried_of-tries v turn what (Done after reply) held so = (KeepsNumbers-leaves so.
 tried_of-tries v turn what (Stay after interim) held so = absurd so
 tried_of-tries v turn what (Hold after blockers interim) held so = (KeepsNumbers-leaves so.0, (so.1.0, (so.1.1, held)))
 
-tried_of-kept : (v : Volume) (turn : ℕ) (what : What) (outcome : Outcome) → HasOneOplockEach v → StaysTo v outcome → TriedTo v turn what outcome
+tried_of-kept : (v : Volume) (turn : ℕ) (what : What) (outcome : Outcome) → HasOneOplockEach v → KeptTo v outcome → TriedTo v turn what outcome
 tried_of-kept v turn what (Done after reply) one so = (so.kept, FewNumbers-same so.same)
 tried_of-kept v turn what (Stay after interim) one so = StaysUnder-kept v after turn one so
 tried_of-kept v turn what (Hold after blockers interim) one so = absurd so
@@ -211,16 +211,16 @@ MayTakeUp-stays v w turn stays no_call may = record {
 
 -- a turn's own try leaves so much: no call is pending under a turn to come, and no oplock is granted to one, but
 -- the own call, where it isn't held, may have been granted one under this turn
-pub record MayPend (v : Volume) : Type 0 where
+pub record IsBetween (v : Volume) : Type 0 where
   pub take_up : MayTakeUp v
   pub turns : how_many (λ e. nat_lt (made v) e.0) v.pending ≡ 0
   pub granted : (turn : ℕ) → made v + 1 < turn → how_many (is_granted_under turn) v.oplocks ≡ 0
 
-MayPend-turn : (v : Volume) → MayTurn v → MayPend v
-MayPend-turn v may = record { take_up = may.take_up; turns = may.turns; granted = λ turn later. may.granted turn (omega arith) }
+IsBetween-turn : (v : Volume) → MayTurn v → IsBetween v
+IsBetween-turn v may = record { take_up = may.take_up; turns = may.turns; granted = λ turn later. may.granted turn (omega arith) }
 
-MayPend-stays : (v w : Volume) → StaysUnder v (made v + 1) w → MayTurn v → MayPend w
-MayPend-stays v w stays may =
+IsBetween-stays : (v w : Volume) → StaysUnder v (made v + 1) w → MayTurn v → IsBetween w
+IsBetween-stays v w stays may =
     let same = stays.made may.take_up.once in
     record {
       take_up = MayTakeUp-stays v w (made v + 1) stays (let weaker = how_many-weaker (is_under (made v + 1)) (λ e. nat_lt (made v) e.0) v.pending (λ e under. (let at : e.0 ≡ made v + 1 = eqb-true e.0 (made v + 1) under in lt-ltb (made v) e.0 (omega arith))) in
@@ -245,7 +245,7 @@ pub record Adds (v : Volume) (client number : ℕ) (w : Volume) : Type 0 where
   pub times : (other_client other_number : ℕ) → times other_client other_number w ≡ times other_client other_number v + cond (is_same client number other_client other_number) 1 0
   pub made : made w ≡ made v + 1
   pub seen : Watches v w
-  pub gives : (more : ℕ) → GivesUpTo v (length v.ended + more) → GivesUpTo w (length w.ended + more)
+  pub gives : (more : ℕ) → GivesAtMost v (length v.ended + more) → GivesAtMost w (length w.ended + more)
   -- a call begins at most one break more: it was granted an oplock
   pub breaks : w.last_break + unbroken w ≤ v.last_break + unbroken v + 1
 
@@ -306,7 +306,7 @@ Adds-end v client number reply may none = record {
     ]
 
 -- it is pending, held by nothing or, where it can be, by blockers that live
-Adds-pending : (v : Volume) (call : Call) (blockers : List Blocker) → MayPend v → (is_held (record { call = call; blockers = blockers }) ≡ false) ⊎ (how_many (is_granted_under (made v + 1)) v.oplocks ≡ 0)
+Adds-pending : (v : Volume) (call : Call) (blockers : List Blocker) → IsBetween v → (is_held (record { call = call; blockers = blockers }) ≡ false) ⊎ (how_many (is_granted_under (made v + 1)) v.oplocks ≡ 0)
     → times call.client call.number v ≡ 0 → is_held_wrongly (made v + 1, record { call = call; blockers = blockers }) ≡ false → list_any (λ b. not (is_given v b)) blockers ≡ false
     → AddsCall v call.client call.number (with_pending v (made v + 1) call blockers)
 Adds-pending v call blockers may apart none rightly all_given = record {
@@ -395,7 +395,7 @@ pub Adds-answered : (v : Volume) (call : Call) (outcome : Outcome) → MayTurn v
 Adds-answered v call outcome may none tried = go outcome tried
   where
     since : (w x : Volume) → Watches v x → ((client number : ℕ) → times client number w ≡ times client number v) → made w ≡ made v → w.last_break + unbroken w ≤ v.last_break + unbroken v + 1
-        → ((more : ℕ) → GivesUpTo v (length v.ended + more) → GivesUpTo x (length x.ended + more)) → x.last_break + unbroken x ≤ w.last_break + unbroken w → AddsCall w call.client call.number x → Adds v call.client call.number x
+        → ((more : ℕ) → GivesAtMost v (length v.ended + more) → GivesAtMost x (length x.ended + more)) → x.last_break + unbroken x ≤ w.last_break + unbroken w → AddsCall w call.client call.number x → Adds v call.client call.number x
     since w x seen same_times same_made first gives breaks adds = record {
       seen = seen;
       breaks = omega arith;
@@ -406,13 +406,13 @@ Adds-answered v call outcome may none tried = go outcome tried
     }
 
     pends : (w : Volume) (blockers : List Blocker) → Watches v w → ((client number : ℕ) → times client number w ≡ times client number v) → made w ≡ made v → w.last_break + unbroken w ≤ v.last_break + unbroken v + 1 → Extends v.ended w.ended
-        → MayPend w → (is_held (record { call = call; blockers = blockers }) ≡ false) ⊎ (how_many (is_granted_under (made w + 1)) w.oplocks ≡ 0) → SameNumbers v w
+        → IsBetween w → (is_held (record { call = call; blockers = blockers }) ≡ false) ⊎ (how_many (is_granted_under (made w + 1)) w.oplocks ≡ 0) → SameNumbers v w
         → is_held_wrongly (made w + 1, record { call = call; blockers = blockers }) ≡ false → list_any (λ b. not (is_given w b)) blockers ≡ false
         → Adds v call.client call.number (with_pending w (made v + 1) call blockers)
     pends w blockers seen same_times same_made first extends may_pend apart same rightly all_given =
         subst (λ (made_before : ℕ). Adds v call.client call.number (with_pending w (made_before + 1) call blockers)) same_made
         (since w (with_pending w (made w + 1) call blockers) (record { more = seen.more; changes = seen.changes; watches = seen.watches }) same_times same_made first
-        (λ more up. (let later = GivesUpTo-same v w more same extends up in record { files = later.files; links = later.links; streams = later.streams; handles = later.handles; locks = later.locks })) (omega arith)
+        (λ more up. (let later = GivesAtMost-same v w more same extends up in record { files = later.files; links = later.links; streams = later.streams; handles = later.handles; locks = later.locks })) (omega arith)
         (Adds-pending w call blockers may_pend apart (same_times call.client call.number ∙ none) rightly all_given))
 
     first_of : (w : Volume) → KeepsNumbers v w → w.last_break + unbroken w ≤ v.last_break + unbroken v + 1
@@ -420,12 +420,12 @@ Adds-answered v call outcome may none tried = go outcome tried
 
     go : (outcome : Outcome) → TriedTo v (turn_number v) call.what outcome → Adds v call.client call.number (answered call (turn_number v) outcome)
     go (Done w reply) tried =
-        since w (with_end w call.client call.number reply) (record { more = tried.0.keeps.seen.more; changes = tried.0.keeps.seen.changes; watches = tried.0.keeps.seen.watches }) (tried.0.keeps.times may.take_up.once) (tried.0.keeps.made may.take_up.once) (first_of w tried.0) (λ more up. GivesUpTo-ends v w call.client call.number more reply tried.1 tried.0.keeps.ended up) (omega arith)
+        since w (with_end w call.client call.number reply) (record { more = tried.0.keeps.seen.more; changes = tried.0.keeps.seen.changes; watches = tried.0.keeps.seen.watches }) (tried.0.keeps.times may.take_up.once) (tried.0.keeps.made may.take_up.once) (first_of w tried.0) (λ more up. GivesAtMost-ends v w call.client call.number more reply tried.1 tried.0.keeps.ended up) (omega arith)
         (Adds-end w call.client call.number reply (MayTurn-kept v w tried.0 may) (tried.0.keeps.times may.take_up.once call.client call.number ∙ none))
-    go (Stay w interim) tried = pends w [] tried.seen (tried.times may.take_up.once) (tried.made may.take_up.once) tried.breaks tried.ended (MayPend-stays v w tried may) (inl refl) tried.same refl refl
+    go (Stay w interim) tried = pends w [] tried.seen (tried.times may.take_up.once) (tried.made may.take_up.once) tried.breaks tried.ended (IsBetween-stays v w tried may) (inl refl) tried.same refl refl
     go (Hold w blockers interim) tried =
         let may_turn : MayTurn w = MayTurn-kept v w tried.0 may in
-        pends w blockers tried.0.keeps.seen (tried.0.keeps.times may.take_up.once) (tried.0.keeps.made may.take_up.once) (first_of w tried.0) tried.0.keeps.ended (MayPend-turn w may_turn) (inr (may_turn.granted (made w + 1) (omega arith))) tried.1.0
+        pends w blockers tried.0.keeps.seen (tried.0.keeps.times may.take_up.once) (tried.0.keeps.made may.take_up.once) (first_of w tried.0) tried.0.keeps.ended (IsBetween-turn w may_turn) (inr (may_turn.granted (made w + 1) (omega arith))) tried.1.0
         (can_be (is_held (record { call = call; blockers = blockers })) tried.1.1.1)
         (list_any_none (λ b. not (is_given w b)) blockers (λ k d within. (let is : is_given w (get_or blockers k d) ≡ true = may_turn.take_up.given.living (get_or blockers k d) (tried.1.1.0.live k d within) in rw is refl)))
       where
@@ -436,7 +436,7 @@ Adds-answered v call outcome may none tried = go outcome tried
 -- ---- the settlement, and the turn
 
 -- where all wait, the waits end
-stalled-kept : (v : Volume) → KeepsAll v (with_stalled v)
+pub stalled-kept : (v : Volume) → KeepsAll v (with_stalled v)
 stalled-kept v = go (all_wait v)
   where
     go : (all : Bool) → KeepsAll v (if all then with_calls_ended (λ _. Stalled) (waits_in_order v) v else v)
@@ -453,7 +453,7 @@ pub record Settles (v w : Volume) : Type 0 where
   pub made : made w ≡ made v
   pub ended : Extends v.ended w.ended
   pub seen : Watches v w
-  pub gives : (more : ℕ) → GivesUpTo v (length v.ended + more) → GivesUpTo w (length w.ended + more)
+  pub gives : (more : ℕ) → GivesAtMost v (length v.ended + more) → GivesAtMost w (length w.ended + more)
   pub breaks : w.last_break + unbroken w ≤ v.last_break + unbroken v
 
 pub settled-settles : (v : Volume) (starved : List CallId) → MayTurn v → Settles v (settled v starved).volume
@@ -475,7 +475,7 @@ settled-settles v starved may =
       made = kept.keeps.made on.once ∙ on.made;
       ended = Extends-next on.ended kept.keeps.ended;
       seen = Watches-next on.seen kept.keeps.seen;
-      gives = λ more up. GivesUpTo-same taken (with_stalled taken) more stalled.same kept.keeps.ended (on.gives more up);
+      gives = λ more up. GivesAtMost-same taken (with_stalled taken) more stalled.same kept.keeps.ended (on.gives more up);
       breaks = (let before = on.breaks in let last = kept.breaks in omega arith);
     }
 
@@ -489,7 +489,7 @@ pub record Turns (v : Volume) (call : Call) (w : Volume) : Type 0 where
   -- changes were only added, and a watch that goes back before them stood there as it is
   pub seen : Watches v w
   -- numbers are given to calls as they end
-  pub gives : (more : ℕ) → GivesUpTo v (length v.ended + more) → GivesUpTo w (length w.ended + more)
+  pub gives : (more : ℕ) → GivesAtMost v (length v.ended + more) → GivesAtMost w (length w.ended + more)
   pub breaks : w.last_break + unbroken w ≤ v.last_break + unbroken v + 1
 
 pub settlement-turns : (v : Volume) (call : Call) (starved : List CallId) → MayTurn v → times call.client call.number v ≡ 0 → Turns v call (settlement v call starved).volume

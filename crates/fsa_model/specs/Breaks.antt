@@ -6,7 +6,7 @@ use Rattle.std.specs.Option.{option_map_or}
 use Rattle.std.specs.Ordering.{is_lt}
 use Rattle.fsa_types.specs.CaseTable.{cmp_name, same_name}
 pub use Rattle.fsa_types.specs.OplockLists.{is_told}
-use Rattle.fsa_types.specs.OplockLists.{OplockState, after_effect, effect_on, told_by, told_among, number_of_break, awaited_among}
+use Rattle.fsa_types.specs.OplockLists.{OplockState, after_effect, effect_on, told_by, told_among, awaited_among}
 use Rattle.fsa_types.specs.Oplocks.{Effect, Begins, is_same_key}
 use Rattle.fsa_types.specs.Rows.{row_of}
 use Rattle.fsa_types.specs.Sorting.{in_order}
@@ -75,10 +75,6 @@ with_effect v oplock done = with_told_by (with_oplocks v (after_effect done oplo
 -- all oplocks that are chosen broken, one after the other
 abbrev pub with_breaks : Volume → HandleSet → Class → Option ℕ → ℕ → Volume
 with_breaks v on class acting key = fold (λ w oplock. with_effect w oplock (effect_on class oplock)) v (chosen v on acting key)
-
--- the number of the break in progress on a handle
-abbrev pub break_of : Volume → ℕ → ℕ
-break_of v handle = number_of_break v.oplocks handle
 
 -- the breaks that the request waits for, in order
 abbrev pub awaited : Volume → HandleSet → Class → Option ℕ → ℕ → List ℕ

@@ -1,5 +1,5 @@
 -- The text of a line's fields: numbers, masks, texts of units and strings of bytes, each behind a space.
-use Rattle.std.specs.Prelude.{ℕ, ◌+◌, ◌/◌, ◌%◌, nat_lt, List, [], ◌∷◌, if◌then◌else◌}
+use Rattle.std.specs.Prelude.{ℕ, ◌+◌, ◌/◌, ◌%◌, nat_lt, Bool, List, [], ◌∷◌, if◌then◌else◌}
 use Rattle.std.specs.List.{flat_map}
 use Rattle.fsa_model.specs.Numbers.{glyph, spelled}
 use Rattle.fsa_model.specs.Words.{is_plain}
@@ -10,6 +10,10 @@ number_text n = 32 ∷ spelled 10 n
 
 abbrev pub mask_text : ℕ → List ℕ
 mask_text n = 32 ∷ 48 ∷ 120 ∷ spelled 16 n
+
+-- one of two words, as a field
+abbrev pub choice_text : List ℕ → List ℕ → Bool → List ℕ
+choice_text first second choice = 32 ∷ (if choice then first else second)
 
 -- the upper-case hexadecimal digit of a value
 abbrev pub upper_glyph : ℕ → ℕ

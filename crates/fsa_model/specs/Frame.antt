@@ -1,5 +1,6 @@
--- The frame of a try: what one try of a call may change of the volume, how many numbers it may give, how
--- much its reply may hold, and what it leaves where it fails, is held or stays.
+-- The frame of a try: what one try of a call may change of clients, clock, handles, locks and pending calls, how
+-- many numbers it may give, how much its reply may hold, and what it leaves where it fails, is held or stays.
+-- Of files, links, streams, oplocks and watches it says nothing where the try succeeds.
 use Rattle.std.specs.Prelude.{◌≡◌, ◌≤◌, ◌+◌, ℕ, ◌⊎◌, Bool, true, false, nat_le, List, ◌++◌, map, fold, length, slice_set, Option, None, All, IsTrue}
 use Rattle.fsa_types.specs.Reply.{bytes_of_body, units_of_body}
 use Rattle.fsa_types.specs.Request.{what_fits}
@@ -33,9 +34,9 @@ ticks_of (Tick ticks) = ticks
 ticks_of _ = 0
 
 -- a handle may be opened
-abbrev pub is_create : What → Bool
-is_create (Ask (request.Create path wanted share disposition options attributes key)) = true
-is_create _ = false
+abbrev pub asks_create : What → Bool
+asks_create (Ask (request.Create path wanted share disposition options attributes key)) = true
+asks_create _ = false
 
 -- a range may be locked
 abbrev pub is_lock : What → Bool
@@ -114,20 +115,20 @@ pub record GivesFew (what : What) (v w : Volume) : Type 0 where
   pub streams : w.last_stream ≤ v.last_stream + 2
   pub handles : w.last_handle ≤ v.last_handle + 1
   pub locks : w.last_lock ≤ v.last_lock + 1
-  pub handles_of_creates : is_create what ≡ false → w.last_handle ≡ v.last_handle
+  pub handles_of_creates : asks_create what ≡ false → w.last_handle ≡ v.last_handle
   pub locks_of_locks : is_lock what ≡ false → w.last_lock ≡ v.last_lock
 
--- what a try of this call may change
+-- what a try of this call may change, however it comes out
 pub record KeepsFrame (call : Call) (v w : Volume) : Type 0 where
   pub table : w.table ≡ v.table
   pub clients : w.clients ≡ v.clients
-  -- only by a leaving another client has left, who is the call's; only by a tick the clock goes on
+  -- who has left is as before, but for the call's own client where it leaves; and the clock, but for a tick
   pub left : (w.left ≡ v.left) ⊎ ((is_leave call.what ≡ true) × (w.left ≡ slice_set v.left call.client true))
   pub clock : (w.clock ≡ v.clock) ⊎ (w.clock ≡ v.clock + ticks_of call.what)
   -- what is true of each handle that was there, and of each that the call may have opened, is true of each
   -- that is there then
   pub handles : (test : ℕ × Handle → Bool) → All (λ entry. IsTrue (test (entry.0, lasting call.what entry.1))) v.handles
-      → ((handle : Handle) → is_create call.what ≡ true → handle.client ≡ call.client → handle.number ≡ call.number → IsTrue (test (v.last_handle + 1, handle)))
+      → ((handle : Handle) → asks_create call.what ≡ true → handle.client ≡ call.client → handle.number ≡ call.number → IsTrue (test (v.last_handle + 1, handle)))
       → All (λ entry. IsTrue (test (entry.0, lasting call.what entry.1))) w.handles
   -- and so for locks
   pub locks : (test : ℕ × Lock → Bool) → All (λ entry. IsTrue (test entry)) v.locks

@@ -10,13 +10,13 @@ use Rattle.fsa_types.specs.declared.request.What.{What}
 use Rattle.fsa_types.specs.declared.request.What.TheVariants.{Ask}
 use Rattle.fsa_types.specs.declared.request.Request.TheVariants.{SetSecurity}
 use Rattle.fsa_model.specs.Fault.{Kind, BadSyntax, ◌>>=◌, read_as, only_if}
-use Rattle.fsa_model.specs.Numbers.{number_of, spelled}
+use Rattle.fsa_model.specs.Numbers.{written_number, spelled}
 use Rattle.fsa_model.specs.Words.{most_id, most_mask, same, field_at, number_at, mask_of, ended}
 use Rattle.fsa_model.specs.FieldText.{number_text}
 
 -- a SID
 abbrev pub sid_of : List ℕ → Result ℕ Kind
-sid_of word = read_as (number_of 10 most_id word)
+sid_of word = read_as (written_number 10 most_id word)
 
 -- `keep`, or the SID of an owner
 unfoldable pub owner_at : List ℕ → Result (Option ℕ × List ℕ) Kind

@@ -16,10 +16,10 @@ pub mod History
 pub mod InformationLines
 pub mod LineCalls
 pub mod Lines
+pub mod LockLines
 pub mod Locked
 pub mod Locking
 pub mod Lookups
-pub mod NoWaits
 pub mod Numbers
 pub mod Once
 pub mod Open
@@ -30,6 +30,7 @@ pub mod Reports
 pub mod Requests
 pub mod Schedule
 pub mod Script
+pub mod ScriptText
 pub mod Security
 pub mod SetEnd
 pub mod Settle
@@ -43,6 +44,7 @@ pub mod Try
 pub mod Turn
 pub mod Verbs
 pub mod Volume
+pub mod WaitLines
 pub mod Waiting
 pub mod Waits
 pub mod Walk

@@ -1,10 +1,10 @@
--- The calls that the lines of a script make.
+-- The calls that a script makes.
 use Rattle.std.specs.Prelude.{ℕ, ◌<◌, Bool, true, List, [], ◌∷◌, length, nat_le, IsTrue}
 use Rattle.fsa_types.specs.Request.{what_fits}
 use Rattle.fsa_types.specs.declared.request.Call.{Call}
 use Rattle.fsa_types.specs.declared.request.What.{What}
 use Rattle.fsa_types.specs.declared.request.What.TheVariants.{Tick}
-use Rattle.fsa_model.specs.Requests.{marks_nothing}
+use Rattle.fsa_model.specs.Requests.{can_be_asked}
 use Rattle.fsa_model.specs.Setup.{Client}
 
 -- the clock goes on by less than 2 ^ 32
@@ -12,10 +12,10 @@ abbrev pub ticks_fit : What → Bool
 ticks_fit (Tick ticks) = nat_le ticks 4294967295
 ticks_fit _ = true
 
--- a call of one of so many clients, within the bounds of requests, that a line can ask
+-- a call of one of so many clients, within the bounds of requests, that asks what a line can say or leaves
 pub record IsLineCall (clients : ℕ) (call : Call) : Type 0 where
   pub fits : IsTrue (what_fits call.what)
-  pub marks_nothing : IsTrue (marks_nothing call.what)
+  pub can_be_asked : IsTrue (can_be_asked call.what)
   pub ticks : IsTrue (ticks_fit call.what)
   pub client : call.client < clients
 

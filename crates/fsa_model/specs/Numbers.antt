@@ -26,7 +26,7 @@ number_after base most n (byte ∷ bytes) =
     else None
 
 -- the number that these bytes write in this base, `most` at most
-abbrev pub number_of : ℕ → ℕ → List ℕ → Option ℕ
-number_of base most [] = None
-number_of base most (byte ∷ []) = number_after base most 0 (byte ∷ [])
-number_of base most (byte ∷ second ∷ bytes) = if byte == 48 then None else number_after base most 0 (byte ∷ second ∷ bytes)
+abbrev pub written_number : ℕ → ℕ → List ℕ → Option ℕ
+written_number base most [] = None
+written_number base most (byte ∷ []) = number_after base most 0 (byte ∷ [])
+written_number base most (byte ∷ second ∷ bytes) = if byte == 48 then None else number_after base most 0 (byte ∷ second ∷ bytes)

@@ -170,8 +170,8 @@ abbrev pub held : Volume → HandleSet → Class → ℕ → Outcome
 held v on class key = held_by v on class None key
 
 -- it waits for some break of this class
-abbrev pub waits : Volume → HandleSet → Class → ℕ → Bool
-waits v on class key = waits_for v on class None key
+abbrev pub open_waits : Volume → HandleSet → Class → ℕ → Bool
+open_waits v on class key = waits_for v on class None key
 
 -- ---- the last name is missing
 
@@ -260,7 +260,7 @@ create_missing v asked dir name =
 -- the open clashes with a handle: it is held where it waits for breaks, and else refused
 unfoldable pub clashed : Volume → HandleSet → ℕ → Outcome
 clashed v on key =
-    if waits v on Clash key then held v on Clash key else refused (with_breaks v on Clash None key) SharingViolation
+    if open_waits v on Clash key then held v on Clash key else refused (with_breaks v on Clash None key) SharingViolation
 
 -- more than READ_ATTRIBUTES, WRITE_ATTRIBUTES and SYNCHRONIZE is wanted
 abbrev pub wants_more : Asked → Bool
@@ -271,7 +271,7 @@ wants_more asked = has_other (access_of asked) 0x100180
 unfoldable pub open_existing : Volume → Asked → ℕ → Option ℕ → HandleSet → Outcome
 open_existing v asked link stream on =
     if not (wants_more asked) then opened v asked link stream Success action.Opened
-    else if not (waits v on ReadOpen asked.key) then opened (with_breaks v on ReadOpen None asked.key) asked link stream Success action.Opened
+    else if not (open_waits v on ReadOpen asked.key) then opened (with_breaks v on ReadOpen None asked.key) asked link stream Success action.Opened
     else if completes_if_oplocked asked then opened (with_breaks v on ReadOpen None asked.key) asked link stream OplockBreakInProgress action.Opened
     else held v on ReadOpen asked.key
 
@@ -305,7 +305,7 @@ overwrite_action _ = action.Overwritten
 -- it is overwritten and opened, once the breaks that this waits for have ended
 unfoldable pub overwrite_existing : Volume → Asked → ℕ → ℕ → ℕ → Outcome
 overwrite_existing v asked link file stream =
-    if waits v (set.Stream stream) Change asked.key then held v (set.Stream stream) Change asked.key
+    if open_waits v (set.Stream stream) Change asked.key then held v (set.Stream stream) Change asked.key
     else opens
     (with_overwritten (with_open (with_breaks v (set.Stream stream) Change None asked.key) asked link (Some stream)) asked link file stream)
     Success (overwrite_action asked.disposition)

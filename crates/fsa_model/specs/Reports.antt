@@ -52,7 +52,8 @@ pub record PassesChecks (v : Volume) (handle : Handle) (filter : ℕ) : Type 0 w
   pub asked : is_notify_filter filter ≡ true
   pub unmarked : is_link_marked v handle.link ≡ false
 
--- the try then reports where something is due, and else waits; its watch is there
+-- in the volume in which its watch has begun the try reports at once where something is due, and else stays
+-- pending and changes nothing more
 pub record TriesNotify (v : Volume) (id room : ℕ) (outcome : Outcome) : Type 0 where
   pub reports : is_something_due v id ≡ true → (w : Volume) × (reply : Reply) × Reports v id room w reply × (outcome ≡ Done w reply)
   pub waits : is_something_due v id ≡ false → outcome ≡ Stay v interim.Watch

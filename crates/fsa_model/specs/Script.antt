@@ -1,5 +1,5 @@
 -- A script: what its bytes say, or which line is the first at fault, and how.
-use Rattle.std.specs.Prelude.{ℕ, ◌+◌, ◌==◌, ◌&&◌, not, true, false, nat_le, nat_lt, Bool, List, [], ◌∷◌, ◌++◌, Option, Some, None, Result, Ok, Err, if◌then◌else◌, length, filter, position, is_some}
+use Rattle.std.specs.Prelude.{ℕ, ◌+◌, ◌==◌, ◌&&◌, not, true, false, nat_le, Bool, List, [], ◌∷◌, ◌++◌, Option, Some, None, Result, Ok, Err, if◌then◌else◌, length, filter, position, is_some}
 use Rattle.std.specs.List.{slice_split}
 use Rattle.fsa_types.specs.CaseTable.{ascii_pairs, is_at_fault}
 use Rattle.fsa_types.specs.declared.request.Call.{Call}
@@ -54,15 +54,12 @@ pub record Reading : Type 0 where
 abbrev pub nothing_read : Reading
 nothing_read = record { stage = Nothing; script = record { setup = record { table = ascii_pairs; clients = [] }; lines = [] } }
 
--- the most requests of a script
-abbrev pub most_requests : ℕ
-most_requests = 64
-
 -- the place of the client with this name
 abbrev pub place_of : List Client → List ℕ → Option ℕ
 place_of clients name = position (λ client. same name client.name) clients
 
--- the number of a client's next call: one more than it has calls
+-- the number of a client's next call: one more than it has calls. A line can write numbers below 2 ^ 32;
+-- how many calls there are has no bound but the number of lines
 abbrev pub next_number : List Call → ℕ → ℕ
 next_number calls client = length (filter (λ call. call.client == client) calls) + 1
 
@@ -102,7 +99,7 @@ take_request_of reading (Some client) number what = take_call reading client num
 
 unfoldable pub take_request : Reading → List ℕ → ℕ → What → Result Reading Kind
 take_request reading name number what =
-    if not (takes_requests reading.stage && nat_lt (length reading.script.lines) most_requests) then Err BadSyntax
+    if not (takes_requests reading.stage) then Err BadSyntax
     else take_request_of reading (place_of reading.script.setup.clients name) number what
 
 -- a line that says this, after what was read

@@ -6,12 +6,12 @@ use Rattle.fsa_model.specs.Setup.{Script}
 use Rattle.fsa_model.specs.Script.{pieces, script_of}
 
 -- these lines, each with its line feed
-abbrev pub ended_lines : List (List ℕ) → List ℕ
-ended_lines lines = flat_map (λ line. line ++ 10 ∷ []) lines
+abbrev pub with_line_feeds : List (List ℕ) → List ℕ
+with_line_feeds lines = flat_map (λ line. line ++ 10 ∷ []) lines
 
 -- some script begins with these lines
 abbrev pub BeginScript : List (List ℕ) → Type 0
-BeginScript lines = (more : List ℕ) × (script : Script) × (script_of (ended_lines lines ++ more) ≡ Ok script)
+BeginScript lines = (more : List ℕ) × (script : Script) × (script_of (with_line_feeds lines ++ more) ≡ Ok script)
 
 -- some script begins with the lines before the faulty one, and none with the faulty one too, where it
 -- has a line feed; what stands behind the last line feed has none

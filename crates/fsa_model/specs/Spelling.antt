@@ -1,13 +1,14 @@
 -- The text of a line: how a script writes what its lines say.
-use Rattle.std.specs.Prelude.{ℕ, ◌&&◌, true, false, nat_le, Bool, List, [], ◌∷◌, ◌++◌, Some, length, codes}
+use Rattle.std.specs.Prelude.{ℕ, ◌&&◌, true, false, nat_le, Bool, List, [], ◌∷◌, ◌++◌, length, codes}
 use Rattle.std.specs.List.{flat_map, list_all}
 use Rattle.fsa_types.specs.declared.request.What.{What}
-use Rattle.fsa_types.specs.declared.request.What.TheVariants.{Ask, Tick}
-use Rattle.fsa_types.specs.declared.request.Request.TheVariants.{Create, Close, Read, Write, SetSecurity}
+use Rattle.fsa_types.specs.declared.request.What.TheVariants.{Ask, Tick, WaitFor}
+use Rattle.fsa_types.specs.declared.request.Request.TheVariants.{Create, Close, Read, Write, Flush, SetEnd, Lock, Unlock, SetSecurity, Cancel}
 use Rattle.fsa_model.specs.Words.{most_id, most_mask, is_name}
 use Rattle.fsa_model.specs.FieldText.{number_text, mask_text}
 use Rattle.fsa_model.specs.OpenLines.{create_text, is_create}
-use Rattle.fsa_model.specs.ByteLines.{read_text, is_read, write_text, is_write}
+use Rattle.fsa_model.specs.ByteLines.{read_text, is_read, write_text, is_write, set_end_text, is_set_end}
+use Rattle.fsa_model.specs.LockLines.{lock_text, unlock_text, is_range}
 use Rattle.fsa_model.specs.InformationLines.{set_security_text, is_set_security}
 use Rattle.fsa_model.specs.Lines.{Line, Version, DefaultTable, PairTable, Pair, ClientLine, RequestLine}
 use Rattle.fsa_model.specs.Verbs.{verb}
@@ -17,9 +18,15 @@ abbrev pub fields_text : What → List ℕ
 fields_text (Ask (Create path wanted share disposition options attributes key)) = create_text path wanted share disposition options attributes key
 fields_text (Ask (Close handle)) = number_text handle
 fields_text (Ask (Read handle place count)) = read_text handle place count
-fields_text (Ask (Write handle (Some place) bytes)) = write_text handle place bytes
+fields_text (Ask (Write handle start bytes)) = write_text handle start bytes
+fields_text (Ask (Flush handle)) = number_text handle
+fields_text (Ask (SetEnd handle length)) = set_end_text handle length
+fields_text (Ask (Lock handle place count exclusive wait)) = lock_text handle place count exclusive wait
+fields_text (Ask (Unlock handle place count)) = unlock_text handle place count
 fields_text (Ask (SetSecurity handle owner dacl)) = set_security_text handle owner dacl
+fields_text (Ask (Cancel number)) = number_text number
 fields_text (Tick ticks) = number_text ticks
+fields_text (WaitFor number) = number_text number
 fields_text _ = []
 
 -- which calls a script can make at this time
@@ -27,9 +34,15 @@ abbrev pub is_built : What → Bool
 is_built (Ask (Create path wanted share disposition options attributes key)) = is_create path wanted share options attributes key
 is_built (Ask (Close handle)) = nat_le handle most_id
 is_built (Ask (Read handle place count)) = is_read handle place count
-is_built (Ask (Write handle (Some place) bytes)) = is_write handle place bytes
+is_built (Ask (Write handle start bytes)) = is_write handle start bytes
+is_built (Ask (Flush handle)) = nat_le handle most_id
+is_built (Ask (SetEnd handle length)) = is_set_end handle length
+is_built (Ask (Lock handle place count exclusive wait)) = is_range handle place count
+is_built (Ask (Unlock handle place count)) = is_range handle place count
 is_built (Ask (SetSecurity handle owner dacl)) = is_set_security handle owner dacl
+is_built (Ask (Cancel number)) = nat_le number most_id
 is_built (Tick ticks) = nat_le ticks most_id
+is_built (WaitFor number) = nat_le number most_id
 is_built _ = false
 
 -- SIDs, each a field

@@ -23,7 +23,7 @@ use Rattle.fsa_model.specs.Waiting.{try_cancel, try_wait}
 use Rattle.fsa_model.specs.Write.{try_write}
 
 -- one try of a request, from its first check, by the client's call of this number, which is or will be
--- pending under this turn; of a request that no script can make yet nothing is promised
+-- pending under this turn; a request that isn't defined so far is refused with INVALID_DEVICE_REQUEST
 abbrev pub try_request : Volume → ℕ → ℕ → ℕ → Request → Outcome
 try_request v turn client number (Create path wanted share disposition options attributes key) =
     try_create v (record {

@@ -1,6 +1,6 @@
 -- What pending calls wait for, and which of them are ready to be taken up; waiting for a call, and
 -- cancelling one, after [MS-FSA] 'Server Requests Canceling an Operation'.
-use Rattle.std.specs.Prelude.{ℕ, Bool, true, false, ◌==◌, ◌&&◌, ◌||◌, not, nat_lt, List, filter, Option, is_some, slice_get, if◌then◌else◌}
+use Rattle.std.specs.Prelude.{◌≡◌, ℕ, Bool, true, false, ◌==◌, ◌&&◌, ◌||◌, not, nat_lt, All, List, filter, length, Option, is_some, slice_get, if◌then◌else◌}
 use Rattle.std.specs.List.{list_any, list_all, enumerate_from}
 use Rattle.std.specs.Option.{option_map_or}
 pub use Rattle.fsa_types.specs.Pending.{is_held, is_blocked}
@@ -32,6 +32,11 @@ is_breaking number oplock = is_some oplock.target && oplock.number == number
 abbrev pub blocker_lives : Volume → Blocker → Bool
 blocker_lives v (blocker.Break number) = list_any (is_breaking number) v.oplocks
 blocker_lives v (blocker.Lock number) = lives v.locks number
+
+-- these are some, and all of them live
+pub record AreLiving (v : Volume) (blockers : List Blocker) : Type 0 where
+  pub some : (length blockers == 0) ≡ false
+  pub live : All (λ b. blocker_lives v b ≡ true) blockers
 
 -- the client's call of this number has ended; or it is pending
 abbrev pub has_ended : Volume → ℕ → ℕ → Bool

@@ -1,9 +1,9 @@
 -- The fields of a script's line: numbers, masks, texts, bytes and clients' names, each a word behind a space.
-use Rattle.std.specs.Prelude.{ℕ, ◌+◌, ◌-◌, ◌*◌, ◌^◌, ◌==◌, ◌&&◌, ◌||◌, not, nat_le, nat_lt, nat_eq, Bool, List, [], ◌∷◌, Result, Ok, Err, if◌then◌else◌, length, drop, codes}
+use Rattle.std.specs.Prelude.{ℕ, ◌+◌, ◌-◌, ◌*◌, ◌^◌, ◌==◌, ◌&&◌, ◌||◌, not, nat_le, nat_lt, nat_eq, Bool, true, false, List, [], ◌∷◌, Result, Ok, Err, if◌then◌else◌, length, drop, codes}
 use Rattle.std.specs.List.{before_first, position_or_len, list_all}
 use Rattle.std.specs.Cmp.Lexicographic.{pointwise}
 use Rattle.fsa_model.specs.Fault.{Kind, BadSyntax, ◌>>=◌, read_as, only_if}
-use Rattle.fsa_model.specs.Numbers.{digit_of, number_of}
+use Rattle.fsa_model.specs.Numbers.{digit_of, written_number}
 
 -- handles, numbers of calls and SIDs are below 2 ^ 32
 abbrev pub most_id : ℕ
@@ -16,6 +16,10 @@ most_mask = 4294967295
 -- the lengths of reads, writes and buffers go up to here
 abbrev pub most_bytes : ℕ
 most_bytes = 16384
+
+-- places in a stream, and the lengths of locks, are below 2 ^ 64
+abbrev pub most_place : ℕ
+most_place = 18446744073709551615
 
 -- the bytes are these
 abbrev pub same : List ℕ → List ℕ → Bool
@@ -42,20 +46,30 @@ ended rest value = only_if (length rest == 0) value
 unfoldable pub number_at : ℕ → List ℕ → Result (ℕ × List ℕ) Kind
 number_at most bytes = do
   word ← field_at bytes
-  number ← read_as (number_of 10 most word.0)
+  number ← read_as (written_number 10 most word.0)
   Ok (number, word.1)
 
 -- `0x` and a hexadecimal number below 2 ^ 32
 unfoldable pub mask_of : List ℕ → Result ℕ Kind
 mask_of [] = Err BadSyntax
 mask_of (first ∷ []) = Err BadSyntax
-mask_of (first ∷ x ∷ digits) = if first == 48 && x == 120 then read_as (number_of 16 (2 ^ 32 - 1) digits) else Err BadSyntax
+mask_of (first ∷ x ∷ digits) = if first == 48 && x == 120 then read_as (written_number 16 (2 ^ 32 - 1) digits) else Err BadSyntax
 
 unfoldable pub mask_at : List ℕ → Result (ℕ × List ℕ) Kind
 mask_at bytes = do
   word ← field_at bytes
   mask ← mask_of word.0
   Ok (mask, word.1)
+
+-- one of two words: true for the first
+abbrev pub choice_of : List ℕ → List ℕ → List ℕ → Result Bool Kind
+choice_of first second word = if same word first then Ok true else if same word second then Ok false else Err BadSyntax
+
+unfoldable pub choice_at : List ℕ → List ℕ → List ℕ → Result (Bool × List ℕ) Kind
+choice_at first second bytes = do
+  word ← field_at bytes
+  choice ← choice_of first second word.0
+  Ok (choice, word.1)
 
 -- the value of an upper-case hexadecimal digit; 16 where the byte is none
 abbrev pub upper_digit_of : ℕ → ℕ
@@ -102,18 +116,18 @@ text_at bytes = do
   Ok (units, word.1)
 
 -- the bytes that pairs of lower-case hexadecimal digits write
-abbrev pub bytes_of : List ℕ → Result (List ℕ) Kind
-bytes_of [] = Ok []
-bytes_of (digit ∷ []) = Err BadSyntax
-bytes_of (high ∷ low ∷ digits) =
+abbrev pub written_bytes : List ℕ → Result (List ℕ) Kind
+written_bytes [] = Ok []
+written_bytes (digit ∷ []) = Err BadSyntax
+written_bytes (high ∷ low ∷ digits) =
     if nat_lt (digit_of high) 16 && nat_lt (digit_of low) 16
-    then onto (digit_of high * 16 + digit_of low) (bytes_of digits)
+    then onto (digit_of high * 16 + digit_of low) (written_bytes digits)
     else Err BadSyntax
 
 -- `x` and at most 16,384 bytes
 unfoldable pub string_of : List ℕ → Result (List ℕ) Kind
 string_of [] = Err BadSyntax
-string_of (byte ∷ digits) = if byte == 120 && nat_le (length digits) 32768 then bytes_of digits else Err BadSyntax
+string_of (byte ∷ digits) = if byte == 120 && nat_le (length digits) 32768 then written_bytes digits else Err BadSyntax
 
 unfoldable pub string_at : List ℕ → Result (List ℕ × List ℕ) Kind
 string_at bytes = do

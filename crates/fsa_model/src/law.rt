@@ -1,17 +1,19 @@
 //! What holds of every turn of every run: laws that other crates' contracts may rest on. No function here
 //! does anything.
 
-ghost use Rattle.std.specs.Prelude.{◌≡◌, [], ◌∷◌, ◌++◌, suc, ℕ, Bool, List, Some};
+ghost use Rattle.std.specs.Prelude.{◌≡◌, [], ◌∷◌, ◌++◌, suc, ℕ, Bool, List, Some, Ok};
 ghost use Rattle.fsa_types.specs.Rows.{row_of};
 ghost use Rattle.fsa_types.specs.declared.request.Call.{Call};
 ghost use Rattle.fsa_types.specs.declared.request.Request.TheVariants.{Notify};
 ghost use Rattle.fsa_types.specs.declared.request.What.TheVariants.{Ask};
-ghost use Rattle.fsa_model.specs.Engine.{CallsDiffer, EndsOnce, NoneReady, SomeGoesOn, TakesReleased};
+ghost use Rattle.fsa_model.specs.Engine.{CallsDiffer, EndsOnce, GrantsPend, HeldAreBlocked, HoldsByLiving, NoneReady, SomeGoesOn, TakesReleased};
 ghost use Rattle.fsa_model.specs.Frame.{InFrame, PointsFit};
 ghost use Rattle.fsa_model.specs.History.{HistoryEntry, Run, run};
 ghost use Rattle.fsa_model.specs.Lookups.{handle_of};
 ghost use Rattle.fsa_model.specs.Reports.{PassesChecks, TakesReport, TriesNotify, settling_after};
 ghost use Rattle.fsa_model.specs.Schedule.{Scheduled};
+ghost use Rattle.fsa_model.specs.Script.{script_of};
+ghost use Rattle.fsa_model.specs.ScriptText.{SpellsScript};
 ghost use Rattle.fsa_model.specs.Setup.{Script, Setup};
 ghost use Rattle.fsa_model.specs.Turn.{try};
 ghost use Rattle.fsa_model.specs.Volume.{Handle, Pending, Volume};
@@ -38,6 +40,22 @@ pub fn each_call_ends_once()
     ensures once { (setup : Setup) (history : List HistoryEntry) (r : Run) → CallsDiffer history → run setup history ≡ Some r → EndsOnce history r }
 {}
 
+/// What holds a call is some blockers, and they all live in the volume that its try leaves: so it is for each call
+/// that a turn may try, and for each that is taken up while it settles. After a turn each held call still has
+/// a blocker that lives.
+pub fn a_held_call_has_living_blockers()
+    ensures own { (setup : Setup) (history : List HistoryEntry) (r : Run) → CallsDiffer history → run setup history ≡ Some r → HoldsByLiving r.volume }
+    ensures taken { (setup : Setup) (history : List HistoryEntry) (entry : HistoryEntry) (r : Run) (steps : ℕ) → CallsDiffer (history ++ entry ∷ []) → run setup history ≡ Some r
+        → HoldsByLiving (settling_after r.volume entry.call entry.starved steps).volume }
+    ensures blocked { (setup : Setup) (history : List HistoryEntry) (r : Run) → CallsDiffer history → run setup history ≡ Some r → HeldAreBlocked r.volume }
+{}
+
+/// After a turn an oplock of which no break is in progress is granted to a call that is pending: a request for an
+/// oplock, or the answer to a break, that names the oplock's handle.
+pub fn a_granted_oplock_has_its_call_pending()
+    ensures pends { (setup : Setup) (history : List HistoryEntry) (r : Run) → CallsDiffer history → run setup history ≡ Some r → GrantsPend r.volume }
+{}
+
 /// A held call is tried in a turn just where the turn's own call hasn't ended it and the last of what it
 /// waited for ended in that call's own try; it is then tried once, or finds no memory.
 pub fn released_calls_are_tried_once()
@@ -45,9 +63,10 @@ pub fn released_calls_are_tried_once()
         → TakesReleased r.volume entry.call entry.starved }
 {}
 
-/// A try of a call changes only what a call of its kind may, gives few numbers, ends only calls that were
-/// pending, and its reply is short. Where it fails or is held, it changed nothing but breaks that it began, and
-/// how far a directory is enumerated; it stays pending without a blocker only where its kind may.
+/// A try of a call changes of the case table, the clients, who has left, the clock, handles and locks only what a
+/// call of its kind may, gives few numbers, makes no call pending, ends only calls that were pending, and its
+/// reply is short. Where it fails or is held, nothing has changed but what breaks of oplocks change, and how far a
+/// directory is enumerated; it stays pending without a blocker only where its kind may.
 pub fn each_try_keeps_its_frame()
     ensures frame { (v : Volume) (call : Call) (turn : ℕ) → PointsFit v → InFrame call v (try v call turn) }
 {}
@@ -61,4 +80,9 @@ pub fn watches_report_what_is_due()
         → TakesReport (settling_after r.volume entry.call entry.starved steps) pending.1 handle room (settling_after r.volume entry.call entry.starved (suc steps)) }
     ensures asked { (v : Volume) (client handle filter : ℕ) (tree : Bool) (room id : ℕ) (row : Handle) → handle_of v client handle ≡ Some id → row_of v.handles id ≡ Some row → PassesChecks v row filter
         → TriesNotify (with_watch_begun v id filter tree) id room (try_notify v client handle filter tree room) }
+{}
+
+/// What is read as a script is written so: the bytes are the lines of that script, in order, each spelled.
+pub fn a_script_is_what_its_bytes_spell()
+    ensures spelled { (bytes : List ℕ) (script : Script) → script_of bytes ≡ Ok script → SpellsScript bytes script }
 {}

@@ -11,7 +11,7 @@ use Rattle.fsa_types.specs.BoundedList.{Bounded, full}
 use Rattle.fsa_types.specs.declared.request.Ace.{Ace}
 use Rattle.fsa_types.specs.declared.request.DaclChange.{DaclChange}
 use Rattle.fsa_types.specs.declared.request.DaclChange.TheVariants.{Keep, Remove, Put}
-use Rattle.fsa_model.specs.Numbers.{glyph, spelled, number_of}
+use Rattle.fsa_model.specs.Numbers.{glyph, spelled, written_number}
 use Rattle.fsa_model.specs.Words.{same, most_id}
 use Rattle.fsa_model.specs.InformationLines.{most_aces, owner_at, ace_with, ace_of, entry_of, after_entry, aces_of, dacl_of, dacl_at, owner_text, ace_text, dacl_text, is_ace, is_dacl}
 use Rattle.script_read.proofs.SpellLemmas.{both, at_most, same-eq, unless, Lacks, EndsAt, NoSpace, EndsWord, Lacks-append, first_at, before-again, from-again, field_at-again, number_of-spelled, Lacks-spelled, NoSpace-spelled, mask_of-again}
@@ -22,8 +22,8 @@ use Rattle.script_read.proofs.SpellLemmas.{both, at_most, same-eq, unless, Lacks
 not_keep : (sid : ℕ) → sid ≤ most_id → same (spelled 10 sid) (107 ∷ 101 ∷ 101 ∷ 112 ∷ []) ≡ false
 not_keep sid small =
     unless (same (spelled 10 sid) (107 ∷ 101 ∷ 101 ∷ 112 ∷ [])) (λ is.
-    let reads : number_of 10 4294967295 (spelled 10 sid) ≡ Some sid = number_of-spelled 10 4294967295 sid (omega arith) (omega arith) small in
-    let never : None ≡ Some sid = ap (number_of 10 4294967295) (sym (same-eq (spelled 10 sid) _ is)) ∙ reads in
+    let reads : written_number 10 4294967295 (spelled 10 sid) ≡ Some sid = number_of-spelled 10 4294967295 sid (omega arith) (omega arith) small in
+    let never : None ≡ Some sid = ap (written_number 10 4294967295) (sym (same-eq (spelled 10 sid) _ is)) ∙ reads in
     cc)
 
 pub owner_at-again : (owner : Option ℕ) (rest : List ℕ) → option_map_or (λ sid. nat_le sid most_id) owner true ≡ true → EndsWord rest

@@ -6,7 +6,6 @@ use Rattle.fsa_types.specs.declared.request.DaclChange.{DaclChange}
 use Rattle.fsa_types.specs.declared.request.What.TheVariants.{Ask}
 use Rattle.fsa_types.specs.declared.request.Request.TheVariants.{SetSecurity}
 use Rattle.fsa_model.specs.Words.{most_id}
-use Rattle.fsa_model.specs.FieldText.{number_text}
 use Rattle.fsa_model.specs.InformationLines.{owner_text, dacl_text, is_dacl, set_security_fields, set_security_text, is_set_security}
 use Rattle.script_read.proofs.SpellLemmas.{both, at_most, number_at-again}
 use Rattle.script_read.proofs.DaclLemmas.{owner_at-again, EndsWord-owner, dacl_at-last, EndsWord-dacl}

@@ -6,9 +6,10 @@ use Rattle.std.proofs.lemmas.Bool.{cases_Bool, ne_eqb, eqb-true}
 use Rattle.fsa_model.specs.Fault.{Kind, BadCut, Fault}
 use Rattle.fsa_model.specs.Setup.{Script}
 use Rattle.fsa_model.specs.Script.{Reading, nothing_read, takes_version, lines_from, pieces, script_of}
-use Rattle.fsa_model.specs.Soundness.{ended_lines, BeginScript, IsLeast}
+use Rattle.fsa_model.specs.Soundness.{with_line_feeds, BeginScript, IsLeast}
+use Rattle.fsa_model.proofs.ScriptSpelt.{NoFeeds, NoFeeds-pieces}
 use Rattle.script_read.proofs.ScriptLemmas.{some_pieces}
-use Rattle.script_read.proofs.RunLemmas.{run, NoFeeds, NoFeeds-pieces, NoFeeds-take, pieces-ended, lines_from-run, lines_from-stop, fault_at, run-none, goes_on}
+use Rattle.script_read.proofs.RunLemmas.{run, NoFeeds-take, pieces-ended, lines_from-run, lines_from-stop, fault_at, run-none, goes_on}
 
 of_bytes : (bytes : List ℕ) → (length bytes == 0) ≡ false → script_of bytes ≡ lines_from 1 nothing_read (pieces bytes)
 unfolding script_of
@@ -22,7 +23,7 @@ of_no_bytes bytes none = rw none refl
 begins : (lines : List (List ℕ)) (reached : Reading) → NoFeeds lines → run nothing_read lines ≡ Ok reached → BeginScript lines
 begins lines reached plain runs =
     let more = goes_on reached.stage reached.script (run-none nothing_read reached lines runs (λ e. refl)) in
-    let text = ended_lines lines ++ more.0 in
+    let text = with_line_feeds lines ++ more.0 in
     let split : pieces text ≡ lines ++ pieces more.0 = pieces-ended lines more.0 plain in
     let some : (length text == 0) ≡ false = some_bytes lines reached runs more.0 more.3 in (
       more.0,
@@ -34,12 +35,12 @@ begins lines reached plain runs =
     )
   where
     some_bytes : (lines : List (List ℕ)) (reached : Reading) → run nothing_read lines ≡ Ok reached → (more : List ℕ)
-        → (takes_version reached.stage ≡ true → (length more == 0) ≡ false) → (length (ended_lines lines ++ more) == 0) ≡ false
+        → (takes_version reached.stage ≡ true → (length more == 0) ≡ false) → (length (with_line_feeds lines ++ more) == 0) ≡ false
     some_bytes [] reached runs more some =
         let same : nothing_read ≡ reached = cc in
         some (ap (λ r. takes_version r.stage) (sym same))
     some_bytes (line ∷ lines) reached runs more some =
-        ne_eqb _ 0 (λ e. absurd (omega (arith, length-append ((line ++ 10 ∷ []) ++ ended_lines lines) more, length-append (line ++ 10 ∷ []) (ended_lines lines), length-append line (10 ∷ []))))
+        ne_eqb _ 0 (λ e. absurd (omega (arith, length-append ((line ++ 10 ∷ []) ++ with_line_feeds lines) more, length-append (line ++ 10 ∷ []) (with_line_feeds lines), length-append line (10 ∷ []))))
 
 never : (script : Script) (fault : Fault) → Ok script ≡ Err fault → ⊥
 never script fault e = cc
@@ -47,7 +48,7 @@ never script fault e = cc
 -- lines that stop are the front of no script
 stops : (lines : List (List ℕ)) (kind : Kind) → NoFeeds lines → run nothing_read lines ≡ Err kind → BeginScript lines → ⊥
 stops lines kind plain runs begun =
-    let text = ended_lines lines ++ begun.0 in
+    let text = with_line_feeds lines ++ begun.0 in
     let split : pieces text ≡ lines ++ pieces begun.0 = pieces-ended lines begun.0 plain in
     let stop = lines_from-stop 1 nothing_read kind lines (pieces begun.0) (some_pieces begun.0) runs in
     elim (cases_Bool (length text == 0)) [

@@ -5,6 +5,7 @@ mod DaclLemmas
 mod InformationLineLemmas
 mod LeastLemmas
 mod LineLemmas
+mod LockLineLemmas
 mod NameLemmas
 mod OpenLineLemmas
 mod PairLemmas
@@ -13,6 +14,8 @@ mod RunLemmas
 mod ScriptLemmas
 mod SidLemmas
 mod SpellLemmas
+mod SpelledLemmas
 mod TakeLemmas
 mod TextLemmas
 mod VerbLemmas
+mod WaitLineLemmas

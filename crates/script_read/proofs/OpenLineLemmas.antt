@@ -1,5 +1,5 @@
 -- The fields of opens and closes that are written are read again.
-use Rattle.std.proofs.Common.{◌≡◌, ℕ, ◌≤◌, true, ◌&&◌, List, [], ◌∷◌, ◌++◌, refl}
+use Rattle.std.proofs.Common.{◌≡◌, ℕ, ◌≤◌, true, List, [], ◌∷◌, ◌++◌, refl}
 use Rattle.std.specs.Prelude.{Ok, nat_le}
 use Rattle.std.specs.List.{list_all}
 use Rattle.fsa_types.specs.declared.request.What.TheVariants.{Ask}

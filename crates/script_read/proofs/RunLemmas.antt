@@ -1,10 +1,9 @@
 -- Lines that are taken one after the other, and how a script may go on behind them.
 use Rattle.std.proofs.Common.{◌≡◌, ◌∙◌, sym, ap, subst, ℕ, zero, suc, ◌+◌, ◌<◌, ◌≤◌, Bool, true, false, ◌&&◌, not, List, [], ◌∷◌, ◌++◌, Option, Some, None, length, take, inl, inr, ◌⊎◌, refl, arith, if◌then◌else◌}
-use Rattle.std.specs.Prelude.{Result, Ok, Err, ◌==◌, nat_le, nat_lt, is_some}
-use Rattle.std.specs.List.{onto_first, AllByRecursion}
+use Rattle.std.specs.Prelude.{Result, Ok, Err, ◌==◌, nat_le, is_some}
 use Rattle.std.proofs.lemmas.List.{append_assoc, length-append}
 use Rattle.std.proofs.lemmas.List.Elements.{All-from_recursion}
-use Rattle.std.proofs.lemmas.List.Splits.{slice_split_at, slice_split-cons_yes, slice_split-cons_no}
+use Rattle.std.proofs.lemmas.List.Splits.{slice_split_at}
 use Rattle.std.proofs.lemmas.Bool.{cases_Bool, ne_eqb}
 use Rattle.fsa_types.specs.CaseTable.{ascii_pairs, is_at_fault}
 use Rattle.fsa_types.specs.declared.request.What.{What}
@@ -13,7 +12,8 @@ use Rattle.fsa_model.specs.Setup.{Script}
 use Rattle.fsa_model.specs.Words.{field_at, number_at}
 use Rattle.fsa_model.specs.Lines.{Line, Version, DefaultTable, PairTable, Pair, ClientLine, RequestLine, line_of, client_at, sids_at}
 use Rattle.fsa_model.specs.Script.{Stage, Nothing, Begun, Pairs, Table, Clients, Requests, Reading, takes_version, takes_table, takes_pairs, takes_clients, takes_requests, place_of, with_stage, with_table, with_client, with_call, take_line, take_client, take_request, take_request_of, take_call, line_after, end_after, at_line, lines_from, pieces}
-use Rattle.fsa_model.specs.Soundness.{ended_lines}
+use Rattle.fsa_model.specs.Soundness.{with_line_feeds}
+use Rattle.fsa_model.proofs.ScriptSpelt.{NoFeeds}
 use Rattle.script_read.proofs.SpellLemmas.{both}
 
 -- ---- answers
@@ -35,37 +35,18 @@ only_if_ok false v w e = cc
 abbrev is_feed : ℕ → Bool
 is_feed byte = byte == 10
 
-abbrev NoFeed : List ℕ → Type 0
-NoFeed line = AllByRecursion (λ byte. is_feed byte ≡ false) line
-
-abbrev pub NoFeeds : List (List ℕ) → Type 0
-NoFeeds [] = Unit {0}
-NoFeeds (line ∷ lines) = NoFeed line × NoFeeds lines
-
-NoFeeds-onto : (byte : ℕ) (lines : List (List ℕ)) → is_feed byte ≡ false → NoFeeds lines → NoFeeds (onto_first byte lines)
-NoFeeds-onto byte [] other none = ((other, tt), tt)
-NoFeeds-onto byte (line ∷ lines) other none = ((other, none.0), none.1)
-
-pub NoFeeds-pieces : (bytes : List ℕ) → NoFeeds (pieces bytes)
-NoFeeds-pieces [] = (tt, tt)
-NoFeeds-pieces (byte ∷ bytes) =
-    elim (cases_Bool (is_feed byte)) [
-      | inl feed ↦ rw (slice_split-cons_yes is_feed byte bytes feed) (tt, NoFeeds-pieces bytes)
-      | inr other ↦ rw (slice_split-cons_no is_feed byte bytes other) (NoFeeds-onto byte (pieces bytes) other (NoFeeds-pieces bytes))
-    ]
-
 pub NoFeeds-take : (count : ℕ) (lines : List (List ℕ)) → NoFeeds lines → NoFeeds (take count lines)
 NoFeeds-take zero lines none = tt
 NoFeeds-take (suc count) [] none = tt
 NoFeeds-take (suc count) (line ∷ lines) none = (none.0, NoFeeds-take count lines none.1)
 
-pub pieces-ended : (lines : List (List ℕ)) (more : List ℕ) → NoFeeds lines → pieces (ended_lines lines ++ more) ≡ lines ++ pieces more
+pub pieces-ended : (lines : List (List ℕ)) (more : List ℕ) → NoFeeds lines → pieces (with_line_feeds lines ++ more) ≡ lines ++ pieces more
 pieces-ended [] more none = refl
 pieces-ended (line ∷ lines) more none =
-    let regrouped : ((line ++ 10 ∷ []) ++ ended_lines lines) ++ more ≡ line ++ 10 ∷ (ended_lines lines ++ more) =
-    append_assoc (line ++ 10 ∷ []) (ended_lines lines) more ∙ append_assoc line (10 ∷ []) (ended_lines lines ++ more) in
+    let regrouped : ((line ++ 10 ∷ []) ++ with_line_feeds lines) ++ more ≡ line ++ 10 ∷ (with_line_feeds lines ++ more) =
+    append_assoc (line ++ 10 ∷ []) (with_line_feeds lines) more ∙ append_assoc line (10 ∷ []) (with_line_feeds lines ++ more) in
     ap pieces regrouped
-    ∙ slice_split_at is_feed line 10 (ended_lines lines ++ more) (All-from_recursion (λ byte. is_feed byte ≡ false) line none.0) refl
+    ∙ slice_split_at is_feed line 10 (with_line_feeds lines ++ more) (All-from_recursion (λ byte. is_feed byte ≡ false) line none.0) refl
     ∙ ap (λ rest. line ∷ rest) (pieces-ended lines more none.1)
 
 -- ---- runs of lines
@@ -221,7 +202,7 @@ request_stage : (reading next : Reading) (name : List ℕ) (number : ℕ) (what 
 unfolding take_request
 request_stage reading next name number what e =
     request_of-stage reading next (place_of reading.script.setup.clients name) number what
-    (unless_refused (not (takes_requests reading.stage && nat_lt (length reading.script.lines) 64)) BadSyntax
+    (unless_refused (not (takes_requests reading.stage)) BadSyntax
     (take_request_of reading (place_of reading.script.setup.clients name) number what) next e)
 
 client_stage : (reading next : Reading) (name sids : List ℕ) → take_client reading name sids ≡ Ok next → takes_requests next.stage ≡ true

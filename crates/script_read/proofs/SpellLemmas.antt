@@ -11,9 +11,9 @@ use Rattle.std.proofs.lemmas.Bool.{cases_eq, eq-eqb, ne_eqb}
 use Rattle.std.proofs.lemmas.Bool.Decides.{Decides-eqb, nat_tests}
 use Rattle.std.proofs.lemmas.Slice.Eq.{slice_eq-Decides}
 use Rattle.std.proofs.Math.Seq.{take-append_seam, drop-append_seam}
-use Rattle.fsa_model.specs.Numbers.{digit_of, glyph, spelled, number_after, number_of}
-use Rattle.fsa_model.specs.Words.{same, word_of, after_word, field_at, number_at, mask_of, mask_at}
-use Rattle.fsa_model.specs.FieldText.{number_text, mask_text}
+use Rattle.fsa_model.specs.Numbers.{digit_of, glyph, spelled, number_after, written_number}
+use Rattle.fsa_model.specs.Words.{same, word_of, after_word, field_at, number_at, mask_of, mask_at, choice_at}
+use Rattle.fsa_model.specs.FieldText.{number_text, mask_text, choice_text}
 
 -- ---- tests
 
@@ -74,14 +74,14 @@ number_after-digits (suc fuel) base most n two small enough below =
     ]
 
 number_of-digits : (base most n : ℕ) (digits : List ℕ) → 0 < get_or digits 0 0
-    → number_after base most 0 (map glyph digits) ≡ Some n → number_of base most (map glyph digits) ≡ Some n
+    → number_after base most 0 (map glyph digits) ≡ Some n → written_number base most (map glyph digits) ≡ Some n
 number_of-digits base most n [] first reads = absurd (omega arith)
 number_of-digits base most n (digit ∷ []) first reads = reads
 number_of-digits base most n (digit ∷ second ∷ digits) first reads =
     let no_zero : (glyph digit == 48) ≡ false = grind (arith, nat_tests) in
     rw no_zero reads
 
-pub number_of-spelled : (base most n : ℕ) → 2 ≤ base → base ≤ 16 → n ≤ most → number_of base most (spelled base n) ≡ Some n
+pub number_of-spelled : (base most n : ℕ) → 2 ≤ base → base ≤ 16 → n ≤ most → written_number base most (spelled base n) ≡ Some n
 number_of-spelled base most n two small below =
     elim (cases_eq n 0) [
       | inl none ↦
@@ -145,6 +145,19 @@ field_at-again word rest none ends =
     let first : word_of (word ++ rest) ≡ word = word_of-again word rest none ends in
     let second : after_word (word ++ rest) ≡ rest = after_word-again word rest none ends in
     λ i. Ok (first i, second i)
+
+-- ---- one of two words, neither with a space
+
+pub choice_at-again : (first second : List ℕ) (choice : Bool) (rest : List ℕ) → NoSpace first → NoSpace second → same first first ≡ true → same second first ≡ false → same second second ≡ true → EndsWord rest
+    → choice_at first second (choice_text first second choice ++ rest) ≡ Ok (choice, rest)
+unfolding choice_at
+choice_at-again first second true rest one other is not_first is_second ends = rw (field_at-again first rest one ends, is) refl
+choice_at-again first second false rest one other is not_first is_second ends = rw (field_at-again second rest other ends, not_first, is_second) refl
+
+pub choice_at-last : (first second : List ℕ) (choice : Bool) → NoSpace first → NoSpace second → same first first ≡ true → same second first ≡ false → same second second ≡ true
+    → choice_at first second (choice_text first second choice) ≡ Ok (choice, [])
+choice_at-last first second choice one other is not_first is_second =
+    ap (choice_at first second) (sym (append-nil (choice_text first second choice))) ∙ choice_at-again first second choice [] one other is not_first is_second tt
 
 -- ---- numbers and masks as fields
 

@@ -1,6 +1,6 @@
 -- Clients and requests that are taken after what was read.
 use Rattle.std.proofs.Common.{◌≡◌, ◌∙◌, sym, ap, ℕ, ◌+◌, ◌<◌, ◌^◌, true, false, List, [], ◌∷◌, ◌++◌, Some, None, length, map, inl, inr, refl, arith}
-use Rattle.std.specs.Prelude.{Ok, Err, is_some, nat_lt}
+use Rattle.std.specs.Prelude.{Ok, Err, is_some}
 use Rattle.std.specs.List.{position}
 use Rattle.std.proofs.lemmas.List.{length_push, map-append, get_or_append_left, get_or_push}
 use Rattle.std.proofs.lemmas.Bool.{cases_eq}
@@ -32,16 +32,16 @@ unfolding take_client
 take_client-new reading name sids takes absent = rw (takes, absent) refl
 
 pub take_request-unknown : (reading : Reading) (name : List ℕ) (number : ℕ) (what : What) → takes_requests reading.stage ≡ true
-    → nat_lt (length reading.script.lines) 64 ≡ true → place_of reading.script.setup.clients name ≡ None
+    → place_of reading.script.setup.clients name ≡ None
     → take_request reading name number what ≡ Err BadClient
 unfolding take_request
-take_request-unknown reading name number what takes few absent = rw (takes, few, absent) refl
+take_request-unknown reading name number what takes absent = rw (takes, absent) refl
 
 pub take_request-known : (reading : Reading) (name : List ℕ) (client number : ℕ) (what : What) → takes_requests reading.stage ≡ true
-    → nat_lt (length reading.script.lines) 64 ≡ true → place_of reading.script.setup.clients name ≡ Some client
+    → place_of reading.script.setup.clients name ≡ Some client
     → take_request reading name number what ≡ take_call reading client number what
 unfolding take_request
-take_request-known reading name client number what takes few there = rw (takes, few, there) refl
+take_request-known reading name client number what takes there = rw (takes, there) refl
 
 -- one client more
 pub IsKept-client : (r new : ReadReading) (client : GivenClient) → IsKept r → new.names ≡ r.names ++ client.name ∷ []

@@ -7,7 +7,7 @@ use Rattle.std.proofs.lemmas.Bool.{cases_Bool}
 use Rattle.std.proofs.lemmas.Bool.Decides.{nat_tests}
 use Rattle.fsa_model.specs.Fault.{BadSyntax}
 use Rattle.fsa_model.specs.Numbers.{glyph}
-use Rattle.fsa_model.specs.Words.{onto, is_plain, upper_digit_of, units_of, escaped_units, text_of, text_at, bytes_of, string_of, string_at}
+use Rattle.fsa_model.specs.Words.{onto, is_plain, upper_digit_of, units_of, escaped_units, text_of, text_at, written_bytes, string_of, string_at}
 use Rattle.fsa_model.specs.FieldText.{upper_glyph, unit_text, text_text, byte_text, string_text}
 use Rattle.fsa_model.specs.Spelled.{SpellsUnit, SpellsUnits}
 use Rattle.script_read.proofs.SpellLemmas.{both, at_most, digit_of-glyph, NoSpace, EndsWord, Lacks-append, field_at-again}
@@ -135,14 +135,14 @@ text_at-spelled units text rest spells small ends =
 
 -- ---- strings of bytes
 
-bytes_of-byte : (byte : ℕ) (rest : List ℕ) → byte ≤ 255 → bytes_of (byte_text byte ++ rest) ≡ onto byte (bytes_of rest)
+bytes_of-byte : (byte : ℕ) (rest : List ℕ) → byte ≤ 255 → written_bytes (byte_text byte ++ rest) ≡ onto byte (written_bytes rest)
 bytes_of-byte byte rest small =
     let high : byte / 16 < 16 = omega arith in
     let low : byte % 16 < 16 = omega arith in
     let whole : byte / 16 * 16 + byte % 16 ≡ byte = omega arith in
     rw (digit_of-glyph (byte / 16) high, digit_of-glyph (byte % 16) low, below_16 (byte / 16) high, below_16 (byte % 16) low, whole) refl
 
-bytes_of-again : (bytes : List ℕ) → list_all (λ byte. nat_le byte 255) bytes ≡ true → bytes_of (flat_map byte_text bytes) ≡ Ok bytes
+bytes_of-again : (bytes : List ℕ) → list_all (λ byte. nat_le byte 255) bytes ≡ true → written_bytes (flat_map byte_text bytes) ≡ Ok bytes
 bytes_of-again [] small = refl
 bytes_of-again (byte ∷ bytes) small =
     let parts = both (nat_le byte 255) (list_all (λ b. nat_le b 255) bytes) small in

@@ -1,9 +1,9 @@
 -- Verbs and their fields that are written are read again.
-use Rattle.std.proofs.Common.{◌≡◌, ℕ, true, List, ◌∷◌, Option, Some, refl}
+use Rattle.std.proofs.Common.{◌≡◌, ℕ, true, List, refl}
 use Rattle.std.specs.Prelude.{Ok}
 use Rattle.fsa_types.specs.declared.request.What.{What}
-use Rattle.fsa_types.specs.declared.request.What.TheVariants.{Ask, Tick}
-use Rattle.fsa_types.specs.declared.request.Request.TheVariants.{Create, Close, Read, Write, SetSecurity}
+use Rattle.fsa_types.specs.declared.request.What.TheVariants.{Ask, Tick, WaitFor}
+use Rattle.fsa_types.specs.declared.request.Request.TheVariants.{Create, Close, Read, Write, Flush, SetEnd, Lock, Unlock, SetSecurity, Cancel}
 use Rattle.fsa_model.specs.Words.{most_id}
 use Rattle.fsa_model.specs.Verbs.{verb}
 use Rattle.fsa_model.specs.Requests.{what_of}
@@ -11,18 +11,26 @@ use Rattle.fsa_model.specs.Spelling.{fields_text, is_built}
 use Rattle.fsa_model.specs.Spelled.{SpellsFields}
 use Rattle.script_read.proofs.SpellLemmas.{at_most, NoSpace, EndsWord}
 use Rattle.script_read.proofs.OpenLineLemmas.{create_fields-again, create_fields-spelled, close_fields-again}
-use Rattle.script_read.proofs.ByteLineLemmas.{read_fields-again, write_fields-again}
+use Rattle.script_read.proofs.ByteLineLemmas.{read_fields-again, write_fields-again, flush_fields-again, set_end_fields-again}
+use Rattle.script_read.proofs.LockLineLemmas.{lock_fields-again, unlock_fields-again}
 use Rattle.script_read.proofs.InformationLineLemmas.{set_security_fields-again}
 use Rattle.script_read.proofs.ClockLineLemmas.{tick_fields-again}
+use Rattle.script_read.proofs.WaitLineLemmas.{cancel_fields-again, wait_fields-again}
 
 pub what_of-again : (what : What) → is_built what ≡ true → what_of (verb what) (fields_text what) ≡ Ok what
 unfolding what_of
 what_of-again (Ask (Create path wanted share disposition options attributes key)) built = create_fields-again path wanted share disposition options attributes key built
 what_of-again (Ask (Close handle)) built = close_fields-again handle (at_most handle most_id built)
 what_of-again (Ask (Read handle place count)) built = read_fields-again handle place count built
-what_of-again (Ask (Write handle (Some place) bytes)) built = write_fields-again handle place bytes built
+what_of-again (Ask (Write handle start bytes)) built = write_fields-again handle start bytes built
+what_of-again (Ask (Flush handle)) built = flush_fields-again handle (at_most handle most_id built)
+what_of-again (Ask (SetEnd handle length)) built = set_end_fields-again handle length built
+what_of-again (Ask (Lock handle place count exclusive wait)) built = lock_fields-again handle place count exclusive wait built
+what_of-again (Ask (Unlock handle place count)) built = unlock_fields-again handle place count built
 what_of-again (Ask (SetSecurity handle owner dacl)) built = set_security_fields-again handle owner dacl built
+what_of-again (Ask (Cancel number)) built = cancel_fields-again number (at_most number most_id built)
 what_of-again (Tick ticks) built = tick_fields-again ticks (at_most ticks most_id built)
+what_of-again (WaitFor number) built = wait_fields-again number (at_most number most_id built)
 what_of-again _ built = cc
 
 -- so it is with other bytes that write the fields
@@ -32,9 +40,15 @@ what_of-spelled (Ask (Create path wanted share disposition options attributes ke
     rw spells.2 (create_fields-spelled path spells.0 wanted share disposition options attributes key spells.1 built)
 what_of-spelled (Ask (Close handle)) fields is built = rw is (close_fields-again handle (at_most handle most_id built))
 what_of-spelled (Ask (Read handle place count)) fields is built = rw is (read_fields-again handle place count built)
-what_of-spelled (Ask (Write handle (Some place) bytes)) fields is built = rw is (write_fields-again handle place bytes built)
+what_of-spelled (Ask (Write handle start bytes)) fields is built = rw is (write_fields-again handle start bytes built)
+what_of-spelled (Ask (Flush handle)) fields is built = rw is (flush_fields-again handle (at_most handle most_id built))
+what_of-spelled (Ask (SetEnd handle length)) fields is built = rw is (set_end_fields-again handle length built)
+what_of-spelled (Ask (Lock handle place count exclusive wait)) fields is built = rw is (lock_fields-again handle place count exclusive wait built)
+what_of-spelled (Ask (Unlock handle place count)) fields is built = rw is (unlock_fields-again handle place count built)
 what_of-spelled (Ask (SetSecurity handle owner dacl)) fields is built = rw is (set_security_fields-again handle owner dacl built)
+what_of-spelled (Ask (Cancel number)) fields is built = rw is (cancel_fields-again number (at_most number most_id built))
 what_of-spelled (Tick ticks) fields is built = rw is (tick_fields-again ticks (at_most ticks most_id built))
+what_of-spelled (WaitFor number) fields is built = rw is (wait_fields-again number (at_most number most_id built))
 what_of-spelled _ fields is built = cc
 
 pub NoSpace-verb : (what : What) → is_built what ≡ true → NoSpace (verb what)
@@ -43,6 +57,12 @@ NoSpace-verb (Ask (Close handle)) built = (refl, (refl, (refl, (refl, (refl, tt)
 NoSpace-verb (Ask (Read handle place count)) built = (refl, (refl, (refl, (refl, tt))))
 NoSpace-verb (Ask (Write handle place bytes)) built = (refl, (refl, (refl, (refl, (refl, tt)))))
 NoSpace-verb (Ask (SetSecurity handle owner dacl)) built = (refl, (refl, (refl, (refl, (refl, (refl, (refl, (refl, (refl, (refl, (refl, tt)))))))))))
+NoSpace-verb (Ask (Flush handle)) built = (refl, (refl, (refl, (refl, (refl, tt)))))
+NoSpace-verb (Ask (SetEnd handle length)) built = (refl, (refl, (refl, (refl, (refl, (refl, tt))))))
+NoSpace-verb (Ask (Lock handle place count exclusive wait)) built = (refl, (refl, (refl, (refl, tt))))
+NoSpace-verb (Ask (Unlock handle place count)) built = (refl, (refl, (refl, (refl, (refl, (refl, tt))))))
+NoSpace-verb (Ask (Cancel number)) built = (refl, (refl, (refl, (refl, (refl, (refl, tt))))))
+NoSpace-verb (WaitFor number) built = (refl, (refl, (refl, (refl, tt))))
 NoSpace-verb (Tick ticks) built = (refl, (refl, (refl, (refl, tt))))
 NoSpace-verb _ built = cc
 
@@ -50,16 +70,28 @@ pub EndsWord-fields : (what : What) → is_built what ≡ true → EndsWord (fie
 EndsWord-fields (Ask (Create path wanted share disposition options attributes key)) built = refl
 EndsWord-fields (Ask (Close handle)) built = refl
 EndsWord-fields (Ask (Read handle place count)) built = refl
-EndsWord-fields (Ask (Write handle (Some place) bytes)) built = refl
+EndsWord-fields (Ask (Write handle start bytes)) built = refl
+EndsWord-fields (Ask (Flush handle)) built = refl
+EndsWord-fields (Ask (SetEnd handle length)) built = refl
+EndsWord-fields (Ask (Lock handle place count exclusive wait)) built = refl
+EndsWord-fields (Ask (Unlock handle place count)) built = refl
 EndsWord-fields (Ask (SetSecurity handle owner dacl)) built = refl
+EndsWord-fields (Ask (Cancel number)) built = refl
 EndsWord-fields (Tick ticks) built = refl
+EndsWord-fields (WaitFor number) built = refl
 EndsWord-fields _ built = tt
 
 pub EndsWord-spelled : (what : What) (fields : List ℕ) → SpellsFields what fields → is_built what ≡ true → EndsWord fields
 EndsWord-spelled (Ask (Create path wanted share disposition options attributes key)) fields spells built = rw spells.2 refl
 EndsWord-spelled (Ask (Close handle)) fields is built = rw is refl
 EndsWord-spelled (Ask (Read handle place count)) fields is built = rw is refl
-EndsWord-spelled (Ask (Write handle (Some place) bytes)) fields is built = rw is refl
+EndsWord-spelled (Ask (Write handle start bytes)) fields is built = rw is refl
+EndsWord-spelled (Ask (Flush handle)) fields is built = rw is refl
+EndsWord-spelled (Ask (SetEnd handle length)) fields is built = rw is refl
+EndsWord-spelled (Ask (Lock handle place count exclusive wait)) fields is built = rw is refl
+EndsWord-spelled (Ask (Unlock handle place count)) fields is built = rw is refl
 EndsWord-spelled (Ask (SetSecurity handle owner dacl)) fields is built = rw is refl
+EndsWord-spelled (Ask (Cancel number)) fields is built = rw is refl
 EndsWord-spelled (Tick ticks) fields is built = rw is refl
+EndsWord-spelled (WaitFor number) fields is built = rw is refl
 EndsWord-spelled _ fields is built = cc

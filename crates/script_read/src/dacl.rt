@@ -6,7 +6,7 @@ ghost use Rattle.fsa_model.specs.InformationLines.{sid_of, owner_at, ace_with, a
 ghost use Rattle.script_read.specs.ReadsAs.{ReadsAs, Fails};
 
 use crate::fault::{LineFault, SYNTAX};
-use crate::number::number_of;
+use crate::number::written_number;
 use crate::word::{after_first, end_before, field_at, mask_of};
 use fsa_types::{Ace, Dacl, DaclChange, MOST_ENTRIES};
 use std::alloc::Global;
@@ -15,7 +15,7 @@ use std::alloc::Global;
 fn sid_of(word: &[u8]) -> Result<u32, LineFault>
     ensures { ReadsAs (λ sid. sid) result (sid_of word.now) }
 {
-    match number_of(10, u64::from(u32::MAX), word) {
+    match written_number(10, u64::from(u32::MAX), word) {
         Some(sid) => Ok(sid as u32),
         None => Err(SYNTAX),
     }

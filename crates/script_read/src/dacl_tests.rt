@@ -1,90 +1,68 @@
 //! What is read of an owner and an access list, and what is refused.
 
-use crate::{ReadFault, ScriptFault, ScriptKind, read_script};
+use crate::tests::each_request;
+use crate::{ReadFault, ScriptKind, read_script};
 use ScriptKind::Syntax;
 use std::test::Fail;
 
-// The fields behind `setsecurity`, and whether they are taken; else their line is at fault.
-const CASES: &[(&str, bool)] = &[
-    // The handle and the owner.
-    ("1 keep keep", true),
-    ("4294967295 keep keep", true),
-    ("4294967296 keep keep", false),
-    ("01 keep keep", false),
-    ("1 0 keep", true),
-    ("1 4294967295 keep", true),
-    ("1 4294967296 keep", false),
-    ("1 00 keep", false),
-    ("1 +7 keep", false),
-    ("1 null keep", false),
-    ("1 Keep keep", false),
-    ("1 keeps keep", false),
-    ("1  keep", false),
-    // What becomes of the list.
-    ("1 keep null", true),
-    ("1 keep acl", true),
-    ("1 keep Null", false),
-    ("1 keep nulls", false),
-    ("1 keep none", false),
-    ("1 keep ac", false),
-    ("1 keep ACL", false),
-    ("1 keep", false),
-    ("1 keep ", false),
-    ("1 keep keep ", false),
-    ("1 keep keep keep", false),
-    // Its entries.
-    ("1 keep acl,+7:0x1", true),
-    ("1 keep acl,-0:0x0", true),
-    ("1 keep acl,+4294967295:0xffffffff", true),
-    ("1 keep acl,+7:0x1,-7:0x2,+7:0x1", true),
-    ("1 keep acl,+4294967296:0x1", false),
-    ("1 keep acl,+7:0x100000000", false),
-    ("1 keep acl,+07:0x1", false),
-    ("1 keep acl,+7:0x1F", false),
-    ("1 keep acl,+7:0X1", false),
-    ("1 keep acl,+7:0x01", false),
-    ("1 keep acl,+7:0x", false),
-    ("1 keep acl,+7:1", false),
-    ("1 keep acl,+7:", false),
-    ("1 keep acl,+7", false),
-    ("1 keep acl,+7 0x1", false),
-    ("1 keep acl,+70x1", false),
-    ("1 keep acl,+7::0x1", false),
-    ("1 keep acl,+7:0x1:0x1", false),
-    ("1 keep acl,+:0x1", false),
-    ("1 keep acl,7:0x1", false),
-    ("1 keep acl,*7:0x1", false),
-    ("1 keep acl,+-7:0x1", false),
-    // The commas.
-    ("1 keep acl,", false),
-    ("1 keep acl,+7:0x1,", false),
-    ("1 keep acl,+7:0x1,,-7:0x1", false),
-    ("1 keep acl,,+7:0x1", false),
-    ("1 keep acl+7:0x1", false),
-    ("1 keep acl;+7:0x1", false),
-    ("1 keep acl,+7:0x1-7:0x1", false),
-    ("1 keep acl,+7:0x1 ", false),
-];
-
-// A script that sets the security of a file by these fields.
-fn script_of(alloc: std::alloc::Global, fields: &str) -> Result<String, std::alloc::AllocError> {
-    format!(in alloc; "fsa 1\nclient a 7\na 1 setsecurity {fields}\n")
-}
+// Requests that are taken (`+`) and refused (`-`): the handle and the owner, what becomes of the list, its
+// entries, and their commas.
+const LISTS: &str = r#"+ setsecurity 1 keep keep
++ setsecurity 4294967295 keep keep
+- setsecurity 4294967296 keep keep
+- setsecurity 01 keep keep
++ setsecurity 1 0 keep
++ setsecurity 1 4294967295 keep
+- setsecurity 1 4294967296 keep
+- setsecurity 1 00 keep
+- setsecurity 1 +7 keep
+- setsecurity 1 null keep
+- setsecurity 1 Keep keep
+- setsecurity 1 keeps keep
+- setsecurity 1  keep
++ setsecurity 1 keep null
++ setsecurity 1 keep acl
+- setsecurity 1 keep Null
+- setsecurity 1 keep nulls
+- setsecurity 1 keep none
+- setsecurity 1 keep ac
+- setsecurity 1 keep ACL
+- setsecurity 1 keep
+- setsecurity 1 keep keep keep
++ setsecurity 1 keep acl,+7:0x1
++ setsecurity 1 keep acl,-0:0x0
++ setsecurity 1 keep acl,+4294967295:0xffffffff
++ setsecurity 1 keep acl,+7:0x1,-7:0x2,+7:0x1
+- setsecurity 1 keep acl,+4294967296:0x1
+- setsecurity 1 keep acl,+7:0x100000000
+- setsecurity 1 keep acl,+07:0x1
+- setsecurity 1 keep acl,+7:0x1F
+- setsecurity 1 keep acl,+7:0X1
+- setsecurity 1 keep acl,+7:0x01
+- setsecurity 1 keep acl,+7:0x
+- setsecurity 1 keep acl,+7:1
+- setsecurity 1 keep acl,+7:
+- setsecurity 1 keep acl,+7
+- setsecurity 1 keep acl,+7 0x1
+- setsecurity 1 keep acl,+70x1
+- setsecurity 1 keep acl,+7::0x1
+- setsecurity 1 keep acl,+7:0x1:0x1
+- setsecurity 1 keep acl,+:0x1
+- setsecurity 1 keep acl,7:0x1
+- setsecurity 1 keep acl,*7:0x1
+- setsecurity 1 keep acl,+-7:0x1
+- setsecurity 1 keep acl,
+- setsecurity 1 keep acl,+7:0x1,
+- setsecurity 1 keep acl,+7:0x1,,-7:0x1
+- setsecurity 1 keep acl,,+7:0x1
+- setsecurity 1 keep acl+7:0x1
+- setsecurity 1 keep acl;+7:0x1
+- setsecurity 1 keep acl,+7:0x1-7:0x1
+"#;
 
 #[test]
-fn each_access_list(rt: HostRuntime) -> Result<(), Fail> {
-    for case in CASES {
-        let (fields, taken) = *case;
-        let text = script_of(rt.alloc(), fields)?;
-        let found = match read_script(rt.alloc(), text.as_bytes()) {
-            Ok(_) => None,
-            Err(ReadFault::Bad(ScriptFault { line, kind })) => Some((line, kind)),
-            Err(ReadFault::NoMemory) => return Err(Fail::from("no memory")),
-        };
-        let wanted = if taken { None } else { Some((3, Syntax)) };
-        assert_eq!(rt; found, wanted, "{fields}");
-    }
-    Ok(())
+fn access_lists(rt: HostRuntime) -> Result<(), Fail> {
+    each_request(&rt, rt.alloc(), LISTS)
 }
 
 // A script that puts an access list of so many entries.
@@ -94,7 +72,7 @@ fn long_list(alloc: std::alloc::Global, count: u32) -> Result<String, std::alloc
         let entry = format!(in alloc; ",+{sid}:0x1")?;
         fields.push_str(entry.as_str())?;
     }
-    script_of(alloc, fields.as_str())
+    format!(in alloc; "fsa 1\nclient a 7\na 1 setsecurity {fields}\n")
 }
 
 #[test]

@@ -4,6 +4,8 @@ ghost use Rattle.std.specs.Prelude.{◌≡◌, ℕ, List, true, Ok, Err};
 ghost use Rattle.fsa_model.specs.Fault.{Fault};
 ghost use Rattle.fsa_model.specs.Lines.{Line, line_of};
 ghost use Rattle.fsa_model.specs.Script.{script_of};
+ghost use Rattle.fsa_model.specs.ScriptText.{SpellsScript};
+ghost use Rattle.fsa_model.specs.Setup.{Script};
 ghost use Rattle.fsa_model.specs.Soundness.{IsLeast};
 ghost use Rattle.fsa_model.specs.Spelled.{Spells};
 ghost use Rattle.fsa_model.specs.Spelling.{is_line, line_text};
@@ -21,4 +23,11 @@ pub fn one_reading()
 /// none with those lines and it, where it has a line feed.
 pub fn least_fault()
     ensures { (bytes : List ℕ) (fault : Fault) → script_of bytes ≡ Err fault → IsLeast bytes fault }
+{}
+
+/// Just those bytes are read as a script that write it, and none at fault writes any.
+pub fn a_script_is_read_from_what_spells_it()
+    ensures spelled { (bytes : List ℕ) (script : Script) → SpellsScript bytes script → script_of bytes ≡ Ok script }
+    ensures back { (bytes : List ℕ) (script : Script) → script_of bytes ≡ Ok script → SpellsScript bytes script }
+    ensures none { (bytes : List ℕ) (fault : Fault) (script : Script) → script_of bytes ≡ Err fault → ¬ SpellsScript bytes script }
 {}

@@ -14,14 +14,14 @@
 //! `read_script(alloc, bytes)` gives the [`Script`] of such bytes: its `clients`, its `table` and
 //! its `lines`. Of bytes that are no script it answers [`ReadFault::Bad`] with the least faulty
 //! line, counted from 1, and the first kind of its fault: `Cut`, `Syntax`, `Client`, `Number`.
-//! `fsa 1\nclient a 7\na 1 flush 1\n` is refused so at line 3, with `Syntax`.
+//! `fsa 1\nclient a 7\na 1 flush 01\n` is refused so at line 3, with `Syntax`.
 //!
 //! It asks nothing of the bytes. It takes time linear in them, and one allocation for each list that
 //! the script has, beside two lists with room for as many clients and calls as there are lines.
 //!
-//! Caveats. The verbs are `create`, `close`, `read`, `write`, `setsecurity` and `tick`; another one,
-//! or a `create` with DELETE_ON_CLOSE, is `Syntax`. So is a place above 65,535, an access list of
-//! more than 32 entries, and the 65th request.
+//! Caveats. The verbs are `create`, `close`, `read`, `write`, `flush`, `setend`, `lock`, `unlock`,
+//! `setsecurity`, `cancel`, `tick` and `wait`; another one, or a `create` with DELETE_ON_CLOSE, is
+//! `Syntax`. So is an access list of more than 32 entries. The number of requests has no bound here.
 //!
 //! To add a verb: in the definitions of the lines of its group what its fields say and how they are
 //! written, and the verb itself in that group's `.._line`; here a function of the same name and its branch.
@@ -36,6 +36,7 @@ mod fault;
 mod information_lines;
 mod law;
 mod line;
+mod lock_lines;
 mod names;
 mod number;
 mod open_lines;
@@ -49,9 +50,10 @@ mod take;
 #[cfg(test)]
 mod tests;
 mod text;
+mod wait_lines;
 mod word;
 
 pub use fault::{ReadFault, ScriptFault, ScriptKind};
-pub use law::{least_fault, one_reading};
+pub use law::{a_script_is_read_from_what_spells_it, least_fault, one_reading};
 pub use read::read_script;
 pub use script::Script;

@@ -1,7 +1,7 @@
 //! Numbers in decimal and hexadecimal digits.
 
 ghost use Rattle.std.specs.Prelude.{◌≡◌, ◌≤◌, ◌<◌, ◌+◌, ◌*◌, ◌&&◌, nat_lt, nat_le, IfSome, if◌then◌else◌};
-ghost use Rattle.fsa_model.specs.Numbers.{digit_of, number_after, number_of};
+ghost use Rattle.fsa_model.specs.Numbers.{digit_of, number_after, written_number};
 
 // The digit that a byte stands for, 16 where it is none.
 pub fn digit_of(byte: u8) -> u8
@@ -47,8 +47,8 @@ fn number_after(base: u64, most: u64, digits: &[u8]) -> Option<u64>
 
 /// The number, `most` at most, that these bytes write in this base without a leading zero; `None`
 /// exactly where they write none.
-pub fn number_of(base: u64, most: u64, bytes: &[u8]) -> Option<u64>
-    ensures number { result ≡ number_of base most bytes.now }
+pub fn written_number(base: u64, most: u64, bytes: &[u8]) -> Option<u64>
+    ensures number { result ≡ written_number base most bytes.now }
     ensures most { IfSome result (λ n. n ≤ most) }
 {
     match bytes {

@@ -5,7 +5,7 @@ ghost use Rattle.fsa_model.specs.Fault.{Kind};
 ghost use Rattle.fsa_model.specs.Script.{Reading as ReadingModel, nothing_read, line_after, end_after, lines_from, pieces, script_of};
 ghost use Rattle.script_read.specs.ReadsAs.{Fails, FailsScript};
 ghost use Rattle.script_read.specs.ReadingView.{reading_of, IsKept, HasRoom, Takes};
-ghost use Rattle.script_read.specs.ScriptView.{GivesScript, FailsLine};
+ghost use Rattle.script_read.specs.ScriptView.{GivesScript, GivesSpelled, FailsLine};
 
 use crate::fault::{LineFault, ReadFault, ScriptFault, ScriptKind};
 use crate::line::line_of;
@@ -140,7 +140,8 @@ fn read_lines(alloc: Global, lines: u32, bytes: &[u8]) -> Result<Script, ReadFau
 /// bytes.
 #[tactic(auto, unfolding(fsa_model::specs::Script::script_of))]
 pub fn read_script(alloc: Global, bytes: &[u8]) -> Result<Script, ReadFault>
-    ensures { GivesScript result (script_of bytes.now) }
+    ensures gives { GivesScript result (script_of bytes.now) }
+    ensures spelled { GivesSpelled result bytes.now }
 {
     if bytes.is_empty() {
         let kind = ScriptKind::Cut;

@@ -8,7 +8,9 @@ use crate::byte_lines::byte_line;
 use crate::clock_lines::clock_line;
 use crate::fault::{LineFault, SYNTAX};
 use crate::information_lines::information_line;
+use crate::lock_lines::lock_line;
 use crate::open_lines::open_line;
+use crate::wait_lines::wait_line;
 use fsa_types::What;
 use std::alloc::Global;
 
@@ -23,10 +25,16 @@ pub fn what_of(alloc: Global, verb: &[u8], fields: &[u8]) -> Result<What, LineFa
     if let Some(what) = byte_line(alloc, verb, fields)? {
         return Ok(what);
     }
+    if let Some(what) = lock_line(verb, fields)? {
+        return Ok(what);
+    }
     if let Some(what) = information_line(alloc, verb, fields)? {
         return Ok(what);
     }
     if let Some(what) = clock_line(verb, fields)? {
+        return Ok(what);
+    }
+    if let Some(what) = wait_line(verb, fields)? {
         return Ok(what);
     }
     Err(SYNTAX)

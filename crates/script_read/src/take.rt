@@ -15,9 +15,6 @@ use crate::stage::Stage;
 use fsa_types::{Bytes, Call, CallList, Client, ClientList, NoMemory, SidList, What};
 use std::alloc::Global;
 
-// The most requests of a script.
-const MOST_REQUESTS: usize = 64;
-
 impl Reading {
     /// Nothing is read, and there is room for as many clients and calls as there are lines.
     pub fn new(alloc: Global, lines: u32) -> Result<Reading, NoMemory>
@@ -146,7 +143,7 @@ impl Reading {
         requires room { HasRoom self.old }
         ensures { Takes self.old self.new result (take_request (reading_of self.old) name.now number what) }
     {
-        if !self.stage.takes_requests() || self.calls.len() >= MOST_REQUESTS {
+        if !self.stage.takes_requests() {
             return Err(SYNTAX);
         }
         match self.names.place_of(name) {

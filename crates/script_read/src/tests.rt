@@ -1,413 +1,242 @@
 //! What is read and what is refused, byte by byte.
 
 use crate::{ReadFault, ScriptFault, ScriptKind, read_script};
-use ScriptKind::{Client, Cut, Number, Syntax};
+use ScriptKind::Syntax;
+use std::alloc::{AllocError, Global};
+use std::process::Abort;
 use std::test::Fail;
 
-// Each text, and its least faulty line and kind; `None` where it is a script.
-const CASES: &[(&str, Option<(u32, ScriptKind)>)] = &[
-    // Heads.
-    ("fsa 1\nclient a 7\n", None),
-    ("fsa 1\ntable default\nclient a 7\n", None),
-    ("fsa 1\ntable pairs\nclient a 7\n", None),
-    (
-        "fsa 1\ntable pairs\nup 0x61 0x41\nup 0xffff 0x0\nclient a 7\nclient b_9 0 4294967295\n",
-        None,
-    ),
-    (
-        "fsa 1\nclient a 1 2 3 4 5 6 7 8 9 10 11 12 13 14 15 16\n",
-        None,
-    ),
-    (
-        "fsa 1\nclient a 1 2 3 4 5 6 7 8 9 10 11 12 13 14 15 16 17\n",
-        Some((2, Syntax)),
-    ),
-    ("fsa 1\nclient abcdefghij_12345 7\n", None),
-    ("fsa 1\nclient abcdefghij_123456 7\n", Some((2, Syntax))),
-    ("fsa 1\nclient client 7\n", Some((2, Syntax))),
-    (
-        "fsa 1\nclient clients 7\nclient up 7\nclient fsa 7\nup 1 tick 0\nfsa 1 tick 0\n",
-        None,
-    ),
-    ("fsa 1\nclient  7\n", Some((2, Syntax))),
-    ("fsa 1\nclient A 7\n", Some((2, Syntax))),
-    ("fsa 1\nclient a\n", Some((2, Syntax))),
-    ("fsa 1\nclient a \n", Some((2, Syntax))),
-    ("fsa 1\nclient a 7 \n", Some((2, Syntax))),
-    ("fsa 1\nclient a 07\n", Some((2, Syntax))),
-    ("fsa 1\nclient a 4294967296\n", Some((2, Syntax))),
-    ("fsa 1\nclient a +7\n", Some((2, Syntax))),
-    // Each kind at the first line, in the middle and at the last.
-    ("", Some((1, Cut))),
-    ("fsa 1", Some((1, Cut))),
-    ("fsa", Some((1, Cut))),
-    ("fsa 2\nclient a 7\n", Some((1, Syntax))),
-    ("client a 7\n", Some((1, Syntax))),
-    ("\nfsa 1\n", Some((1, Syntax))),
-    ("fsa 1\n", Some((2, Syntax))),
-    ("fsa 1\ntable pairs\n", Some((3, Syntax))),
-    ("fsa 1\ntable default\n", Some((3, Syntax))),
-    ("fsa 1\ntable default\nclient a 7", Some((3, Cut))),
-    ("fsa 1\nclient a 7\na 1 create =\\A 0x", Some((3, Cut))),
-    ("fsa 1\ntable none\nclient a 7\n", Some((2, Syntax))),
-    (
-        "fsa 1\ntable default\ntable default\nclient a 7\n",
-        Some((3, Syntax)),
-    ),
-    ("fsa 1\nclient a 7\ntable default\n", Some((3, Syntax))),
-    ("fsa 1\nup 0x61 0x41\nclient a 7\n", Some((2, Syntax))),
-    (
-        "fsa 1\ntable default\nup 0x61 0x41\nclient a 7\n",
-        Some((3, Syntax)),
-    ),
-    ("fsa 1\nclient a 7\nclient a 8\n", Some((3, Client))),
-    (
-        "fsa 1\nclient a 7\nclient b 8\nclient a 9\na 1 tick 0\n",
-        Some((4, Client)),
-    ),
-    (
-        "fsa 1\nclient a 7\nb 1 tick 0\na 1 tick 0\n",
-        Some((3, Client)),
-    ),
-    (
-        "fsa 1\nclient a 7\na 1 tick 0\nb 1 tick 0\n",
-        Some((4, Client)),
-    ),
-    ("fsa 1\na 1 tick 0\nclient a 7\n", Some((2, Syntax))),
-    (
-        "fsa 1\nclient a 7\na 1 tick 0\nclient b 8\n",
-        Some((4, Syntax)),
-    ),
-    ("fsa 1\nclient a 7\na 2 tick 0\n", Some((3, Number))),
-    ("fsa 1\nclient a 7\na 0 tick 0\n", Some((3, Number))),
-    (
-        "fsa 1\nclient a 7\na 1 tick 0\na 1 tick 0\na 2 tick 0\n",
-        Some((4, Number)),
-    ),
-    (
-        "fsa 1\nclient a 7\nclient b 8\na 1 tick 0\nb 2 tick 0\n",
-        Some((5, Number)),
-    ),
-    ("fsa 1\nclient a 7\nb 2 tick 0\n", Some((3, Client))),
-    ("fsa 1\nclient a 7\nb 2 tack 0\n", Some((3, Syntax))),
-    ("fsa 1\nclient a 7\nb 2 tack 0", Some((3, Cut))),
-    ("fsa 1\nclient a 7\na 1 tick 0\n\n", Some((4, Syntax))),
-    // Pairs.
-    (
-        "fsa 1\ntable pairs\nup 0x10000 0x41\nclient a 7\n",
-        Some((3, Syntax)),
-    ),
-    (
-        "fsa 1\ntable pairs\nup 0x61 0x10000\nclient a 7\n",
-        Some((3, Syntax)),
-    ),
-    (
-        "fsa 1\ntable pairs\nup 0x61 0x61\nclient a 7\n",
-        Some((3, Syntax)),
-    ),
-    (
-        "fsa 1\ntable pairs\nup 0x61 0x41\nup 0x61 0x42\nclient a 7\n",
-        Some((4, Syntax)),
-    ),
-    (
-        "fsa 1\ntable pairs\nup 0x61 0x41\nup 0x41 0x42\nclient a 7\n",
-        Some((4, Syntax)),
-    ),
-    (
-        "fsa 1\ntable pairs\nup 0x61 0x41\nup 0x62 0x61\nclient a 7\n",
-        Some((4, Syntax)),
-    ),
-    (
-        "fsa 1\ntable pairs\nup 0x61 0x41\nup 0x62 0x41\nclient a 7\n",
-        None,
-    ),
-    (
-        "fsa 1\ntable pairs\nup 0xFF 0x41\nclient a 7\n",
-        Some((3, Syntax)),
-    ),
-    (
-        "fsa 1\ntable pairs\nup 0x061 0x41\nclient a 7\n",
-        Some((3, Syntax)),
-    ),
-    (
-        "fsa 1\ntable pairs\nup 61 41\nclient a 7\n",
-        Some((3, Syntax)),
-    ),
-    // Creates: the path.
-    (
-        "fsa 1\nclient a 7\na 1 create =\\d 0x1 0x7 create 0x1 0x0 0\n",
-        None,
-    ),
-    (
-        "fsa 1\nclient a 7\na 1 create = 0x3 0x0 open 0x40 0x0 0\n",
-        None,
-    ),
-    (
-        "fsa 1\nclient a 7\na 1 create =\\ 0x3 0x0 open 0x0 0x0 0\n",
-        None,
-    ),
-    (
-        "fsa 1\nclient a 7\na 1 create =\\f:s 0x3 0x0 open 0x0 0x0 0\n",
-        None,
-    ),
-    (
-        "fsa 1\nclient a 7\na 1 create =\\d\\f.txt:s 0x3 0x0 open 0x0 0x0 0\n",
-        None,
-    ),
-    (
-        "fsa 1\nclient a 7\na 1 create =\\f:s:$DATA 0x3 0x0 open 0x0 0x0 0\n",
-        None,
-    ),
-    (
-        "fsa 1\nclient a 7\na 1 create =d/*?\"<>|=x 0x3 0x0 open 0x0 0x0 0\n",
-        None,
-    ),
-    (
-        "fsa 1\nclient a 7\na 1 create =%0041%003A 0x3 0x0 open 0x0 0x0 0\n",
-        None,
-    ),
-    (
-        "fsa 1\nclient a 7\na 1 create =%0000%0020%0025%D800%FFFF 0x3 0x0 open 0x0 0x0 0\n",
-        None,
-    ),
-    (
-        "fsa 1\nclient a 7\na 1 create =%00AB~! 0x3 0x0 open 0x0 0x0 0\n",
-        None,
-    ),
-    (
-        "fsa 1\nclient a 7\na 1 create =%00aB 0x3 0x0 open 0x0 0x0 0\n",
-        Some((3, Syntax)),
-    ),
-    (
-        "fsa 1\nclient a 7\na 1 create =%00A 0x3 0x0 open 0x0 0x0 0\n",
-        Some((3, Syntax)),
-    ),
-    (
-        "fsa 1\nclient a 7\na 1 create =\\% 0x3 0x0 open 0x0 0x0 0\n",
-        Some((3, Syntax)),
-    ),
-    (
-        "fsa 1\nclient a 7\na 1 create =\\\u{e9} 0x3 0x0 open 0x0 0x0 0\n",
-        Some((3, Syntax)),
-    ),
-    (
-        "fsa 1\nclient a 7\na 1 create =\\\u{7f} 0x3 0x0 open 0x0 0x0 0\n",
-        Some((3, Syntax)),
-    ),
-    (
-        "fsa 1\nclient a 7\na 1 create \\d 0x3 0x0 open 0x0 0x0 0\n",
-        Some((3, Syntax)),
-    ),
-    // Its masks.
-    (
-        "fsa 1\nclient a 7\na 1 create =\\d 0x2 0x0 open 0x0 0x0 0\n",
-        None,
-    ),
-    (
-        "fsa 1\nclient a 7\na 1 create =\\d 0x0 0x8 open 0x0 0x0 0\n",
-        None,
-    ),
-    (
-        "fsa 1\nclient a 7\na 1 create =\\d 0xffffffff 0xffffffff open 0xffffefff 0xffffffff 0\n",
-        None,
-    ),
-    (
-        "fsa 1\nclient a 7\na 1 create =\\d 0x100000000 0x0 open 0x0 0x0 0\n",
-        Some((3, Syntax)),
-    ),
-    (
-        "fsa 1\nclient a 7\na 1 create =\\d 0x1 0x100000000 open 0x0 0x0 0\n",
-        Some((3, Syntax)),
-    ),
-    (
-        "fsa 1\nclient a 7\na 1 create =\\d 0x1 0x0 open 0x100000000 0x0 0\n",
-        Some((3, Syntax)),
-    ),
-    (
-        "fsa 1\nclient a 7\na 1 create =\\d 0x1 0x0 open 0x0 0x100000000 0\n",
-        Some((3, Syntax)),
-    ),
-    (
-        "fsa 1\nclient a 7\na 1 create =\\d 0x1F 0x0 open 0x0 0x0 0\n",
-        Some((3, Syntax)),
-    ),
-    (
-        "fsa 1\nclient a 7\na 1 create =\\d 0X1 0x0 open 0x0 0x0 0\n",
-        Some((3, Syntax)),
-    ),
-    (
-        "fsa 1\nclient a 7\na 1 create =\\d 0x01 0x0 open 0x0 0x0 0\n",
-        Some((3, Syntax)),
-    ),
-    (
-        "fsa 1\nclient a 7\na 1 create =\\d 0x 0x0 open 0x0 0x0 0\n",
-        Some((3, Syntax)),
-    ),
-    (
-        "fsa 1\nclient a 7\na 1 create =\\d 1 0x0 open 0x0 0x0 0\n",
-        Some((3, Syntax)),
-    ),
-    // Its options: all but DELETE_ON_CLOSE.
-    (
-        "fsa 1\nclient a 7\na 1 create =\\d 0x1 0x0 open 0x41 0x0 0\n",
-        None,
-    ),
-    (
-        "fsa 1\nclient a 7\na 1 create =\\d 0x1 0x0 open 0x800 0x0 0\n",
-        None,
-    ),
-    (
-        "fsa 1\nclient a 7\na 1 create =\\d 0x1 0x0 open 0x2000 0x0 0\n",
-        None,
-    ),
-    (
-        "fsa 1\nclient a 7\na 1 create =\\d 0x10001 0x0 open 0x1000 0x0 0\n",
-        Some((3, Syntax)),
-    ),
-    (
-        "fsa 1\nclient a 7\na 1 create =\\d 0x10001 0x0 open 0x1001 0x0 0\n",
-        Some((3, Syntax)),
-    ),
-    (
-        "fsa 1\nclient a 7\na 1 create =\\d 0x10001 0x0 open 0xffffffff 0x0 0\n",
-        Some((3, Syntax)),
-    ),
-    // Its disposition.
-    (
-        "fsa 1\nclient a 7\na 1 create =\\d 0x1 0x0 supersede 0x0 0x0 0\n",
-        None,
-    ),
-    (
-        "fsa 1\nclient a 7\na 1 create =\\d 0x1 0x0 open 0x0 0x0 0\n",
-        None,
-    ),
-    (
-        "fsa 1\nclient a 7\na 1 create =\\d 0x1 0x0 create 0x0 0x0 0\n",
-        None,
-    ),
-    (
-        "fsa 1\nclient a 7\na 1 create =\\d 0x1 0x0 open_if 0x0 0x0 0\n",
-        None,
-    ),
-    (
-        "fsa 1\nclient a 7\na 1 create =\\d 0x1 0x0 overwrite 0x0 0x0 0\n",
-        None,
-    ),
-    (
-        "fsa 1\nclient a 7\na 1 create =\\d 0x1 0x0 overwrite_if 0x0 0x0 0\n",
-        None,
-    ),
-    (
-        "fsa 1\nclient a 7\na 1 create =\\d 0x1 0x0 open_ 0x0 0x0 0\n",
-        Some((3, Syntax)),
-    ),
-    (
-        "fsa 1\nclient a 7\na 1 create =\\d 0x1 0x0 opens 0x0 0x0 0\n",
-        Some((3, Syntax)),
-    ),
-    (
-        "fsa 1\nclient a 7\na 1 create =\\d 0x1 0x0 Open 0x0 0x0 0\n",
-        Some((3, Syntax)),
-    ),
-    (
-        "fsa 1\nclient a 7\na 1 create =\\d 0x1 0x0 create_if 0x0 0x0 0\n",
-        Some((3, Syntax)),
-    ),
-    (
-        "fsa 1\nclient a 7\na 1 create =\\d 0x1 0x0 supersede_if 0x0 0x0 0\n",
-        Some((3, Syntax)),
-    ),
-    (
-        "fsa 1\nclient a 7\na 1 create =\\d 0x1 0x0  0x0 0x0 0\n",
-        Some((3, Syntax)),
-    ),
-    // Its attributes and its key.
-    (
-        "fsa 1\nclient a 7\na 1 create =\\d 0x1 0x0 open 0x0 0x1 0\n",
-        None,
-    ),
-    (
-        "fsa 1\nclient a 7\na 1 create =\\d 0x1 0x0 open 0x0 0x31b7 0\n",
-        None,
-    ),
-    (
-        "fsa 1\nclient a 7\na 1 create =\\d 0x1 0x0 open 0x0 0x0 1\n",
-        None,
-    ),
-    (
-        "fsa 1\nclient a 7\na 1 create =\\d 0x1 0x0 open 0x0 0x0 18446744073709551615\n",
-        None,
-    ),
-    (
-        "fsa 1\nclient a 7\na 1 create =\\d 0x1 0x0 open 0x0 0x0 18446744073709551616\n",
-        Some((3, Syntax)),
-    ),
-    (
-        "fsa 1\nclient a 7\na 1 create =\\d 0x1 0x0 open 0x0 0x0 01\n",
-        Some((3, Syntax)),
-    ),
-    (
-        "fsa 1\nclient a 7\na 1 create =\\d 0x1 0x0 open 0x0 0x0 0x1\n",
-        Some((3, Syntax)),
-    ),
-    (
-        "fsa 1\nclient a 7\na 1 create =\\d 0x1 0x0 open 0x0 0x0\n",
-        Some((3, Syntax)),
-    ),
-    (
-        "fsa 1\nclient a 7\na 1 create =\\d 0x1 0x0 open 0x0 0x0 0 0\n",
-        Some((3, Syntax)),
-    ),
-    (
-        "fsa 1\nclient a 7\na 1 create =\\d 0x1 0x0 open 0x0 0x0 0 \n",
-        Some((3, Syntax)),
-    ),
-    // Other requests.
-    ("fsa 1\nclient a 7\na 1 close 4294967295\n", None),
-    (
-        "fsa 1\nclient a 7\na 1 close 4294967296\n",
-        Some((3, Syntax)),
-    ),
-    ("fsa 1\nclient a 7\na 1 close 0x1\n", Some((3, Syntax))),
-    ("fsa 1\nclient a 7\na 1 tick 4294967295\n", None),
-    (
-        "fsa 1\nclient a 7\na 1 tick 4294967296\n",
-        Some((3, Syntax)),
-    ),
-    ("fsa 1\nclient a 7\na 1 read 1 65535 16384\n", None),
-    ("fsa 1\nclient a 7\na 1 read 1 65536 1\n", Some((3, Syntax))),
-    ("fsa 1\nclient a 7\na 1 read 1 0 16385\n", Some((3, Syntax))),
-    ("fsa 1\nclient a 7\na 1 write 1 65535 x\n", None),
-    ("fsa 1\nclient a 7\na 1 write 1 0 x0aff\n", None),
-    (
-        "fsa 1\nclient a 7\na 1 write 1 0 x0aFF\n",
-        Some((3, Syntax)),
-    ),
-    ("fsa 1\nclient a 7\na 1 write 1 0 x0af\n", Some((3, Syntax))),
-    (
-        "fsa 1\nclient a 7\na 1 write 1 end x00\n",
-        Some((3, Syntax)),
-    ),
-    ("fsa 1\nclient a 7\na 1 flush 1\n", Some((3, Syntax))),
-    ("fsa 1\nclient a 7\na  1 tick 0\n", Some((3, Syntax))),
-    ("fsa 1\nclient a 7\na 1  tick 0\n", Some((3, Syntax))),
-    ("fsa 1\nclient a 7\na 1\ttick 0\n", Some((3, Syntax))),
-    ("fsa 1\r\nclient a 7\n", Some((1, Syntax))),
-    ("fsa 1\nclient a 7\na 1 tick 0\r\n", Some((3, Syntax))),
-];
+// Whole texts: the answer, and the text with `/` for each line feed. Clients, each kind of fault at the first
+// line, in the middle and at the last, pairs, and bytes that no line may have.
+const TEXTS: &str = "\
+script fsa 1/client a 7/\n\
+script fsa 1/table default/client a 7/\n\
+script fsa 1/table pairs/client a 7/\n\
+script fsa 1/table pairs/up 0x61 0x41/up 0xffff 0x0/client a 7/client b_9 0 4294967295/\n\
+script fsa 1/client a 1 2 3 4 5 6 7 8 9 10 11 12 13 14 15 16/\n\
+2Syntax fsa 1/client a 1 2 3 4 5 6 7 8 9 10 11 12 13 14 15 16 17/\n\
+script fsa 1/client abcdefghij_12345 7/\n\
+2Syntax fsa 1/client abcdefghij_123456 7/\n\
+2Syntax fsa 1/client client 7/\n\
+script fsa 1/client clients 7/client up 7/client fsa 7/up 1 tick 0/fsa 1 tick 0/\n\
+2Syntax fsa 1/client  7/\n\
+2Syntax fsa 1/client A 7/\n\
+2Syntax fsa 1/client a/\n\
+2Syntax fsa 1/client a /\n\
+2Syntax fsa 1/client a 7 /\n\
+2Syntax fsa 1/client a 07/\n\
+2Syntax fsa 1/client a 4294967296/\n\
+2Syntax fsa 1/client a +7/\n\
+1Cut \n\
+1Cut fsa 1\n\
+1Cut fsa\n\
+1Syntax fsa 2/client a 7/\n\
+1Syntax client a 7/\n\
+1Syntax /fsa 1/\n\
+2Syntax fsa 1/\n\
+3Syntax fsa 1/table pairs/\n\
+3Syntax fsa 1/table default/\n\
+3Cut fsa 1/table default/client a 7\n\
+3Cut fsa 1/client a 7/a 1 create =\\A 0x\n\
+2Syntax fsa 1/table none/client a 7/\n\
+3Syntax fsa 1/table default/table default/client a 7/\n\
+3Syntax fsa 1/client a 7/table default/\n\
+2Syntax fsa 1/up 0x61 0x41/client a 7/\n\
+3Syntax fsa 1/table default/up 0x61 0x41/client a 7/\n\
+3Client fsa 1/client a 7/client a 8/\n\
+4Client fsa 1/client a 7/client b 8/client a 9/a 1 tick 0/\n\
+3Client fsa 1/client a 7/b 1 tick 0/a 1 tick 0/\n\
+4Client fsa 1/client a 7/a 1 tick 0/b 1 tick 0/\n\
+2Syntax fsa 1/a 1 tick 0/client a 7/\n\
+4Syntax fsa 1/client a 7/a 1 tick 0/client b 8/\n\
+3Number fsa 1/client a 7/a 2 tick 0/\n\
+3Number fsa 1/client a 7/a 0 tick 0/\n\
+4Number fsa 1/client a 7/a 1 tick 0/a 1 tick 0/a 2 tick 0/\n\
+5Number fsa 1/client a 7/client b 8/a 1 tick 0/b 2 tick 0/\n\
+3Client fsa 1/client a 7/b 2 tick 0/\n\
+3Syntax fsa 1/client a 7/b 2 tack 0/\n\
+3Cut fsa 1/client a 7/b 2 tack 0\n\
+4Syntax fsa 1/client a 7/a 1 tick 0//\n\
+3Syntax fsa 1/table pairs/up 0x10000 0x41/client a 7/\n\
+3Syntax fsa 1/table pairs/up 0x61 0x10000/client a 7/\n\
+3Syntax fsa 1/table pairs/up 0x61 0x61/client a 7/\n\
+4Syntax fsa 1/table pairs/up 0x61 0x41/up 0x61 0x42/client a 7/\n\
+4Syntax fsa 1/table pairs/up 0x61 0x41/up 0x41 0x42/client a 7/\n\
+4Syntax fsa 1/table pairs/up 0x61 0x41/up 0x62 0x61/client a 7/\n\
+script fsa 1/table pairs/up 0x61 0x41/up 0x62 0x41/client a 7/\n\
+3Syntax fsa 1/table pairs/up 0xFF 0x41/client a 7/\n\
+3Syntax fsa 1/table pairs/up 0x061 0x41/client a 7/\n\
+3Syntax fsa 1/table pairs/up 61 41/client a 7/\n\
+3Syntax fsa 1/client a 7/a 1 create =\\\u{e9} 0x3 0x0 open 0x0 0x0 0/\n\
+3Syntax fsa 1/client a 7/a 1 create =\\\u{7f} 0x3 0x0 open 0x0 0x0 0/\n\
+3Syntax fsa 1/client a 7/a 1 create =\\d 0x1 0x0 open 0x0 0x0 0 /\n\
+3Syntax fsa 1/client a 7/a  1 tick 0/\n\
+3Syntax fsa 1/client a 7/a 1\ttick 0/\n\
+1Syntax fsa 1\r/client a 7/\n\
+3Syntax fsa 1/client a 7/a 1 tick 0\r/\n\
+3Syntax fsa 1/client a 7/a 1 setsecurity 1 keep /\n\
+3Syntax fsa 1/client a 7/a 1 setsecurity 1 keep keep /\n\
+3Syntax fsa 1/client a 7/a 1 setsecurity 1 keep acl,+7:0x1 /\n\
+3Syntax fsa 1/client a 7/a 1 lock 1 0 1 ex now /\n\
+3Syntax fsa 1/client a 7/a 1 unlock 1 0 /\n\
+";
+
+// Requests that are taken (`+`) and refused (`-`): creates, by their path, masks, options, disposition,
+// attributes and key; and then the others.
+const REQUESTS: &str = r#"+ create =\d 0x1 0x7 create 0x1 0x0 0
++ create = 0x3 0x0 open 0x40 0x0 0
++ create =\ 0x3 0x0 open 0x0 0x0 0
++ create =\f:s 0x3 0x0 open 0x0 0x0 0
++ create =\d\f.txt:s 0x3 0x0 open 0x0 0x0 0
++ create =\f:s:$DATA 0x3 0x0 open 0x0 0x0 0
++ create =d/*?"<>|=x 0x3 0x0 open 0x0 0x0 0
++ create =%0041%003A 0x3 0x0 open 0x0 0x0 0
++ create =%0000%0020%0025%D800%FFFF 0x3 0x0 open 0x0 0x0 0
++ create =%00AB~! 0x3 0x0 open 0x0 0x0 0
+- create =%00aB 0x3 0x0 open 0x0 0x0 0
+- create =%00A 0x3 0x0 open 0x0 0x0 0
+- create =\% 0x3 0x0 open 0x0 0x0 0
+- create \d 0x3 0x0 open 0x0 0x0 0
++ create =\d 0x2 0x0 open 0x0 0x0 0
++ create =\d 0x0 0x8 open 0x0 0x0 0
++ create =\d 0xffffffff 0xffffffff open 0xffffefff 0xffffffff 0
+- create =\d 0x100000000 0x0 open 0x0 0x0 0
+- create =\d 0x1 0x100000000 open 0x0 0x0 0
+- create =\d 0x1 0x0 open 0x100000000 0x0 0
+- create =\d 0x1 0x0 open 0x0 0x100000000 0
+- create =\d 0x1F 0x0 open 0x0 0x0 0
+- create =\d 0X1 0x0 open 0x0 0x0 0
+- create =\d 0x01 0x0 open 0x0 0x0 0
+- create =\d 0x 0x0 open 0x0 0x0 0
+- create =\d 1 0x0 open 0x0 0x0 0
++ create =\d 0x1 0x0 open 0x41 0x0 0
++ create =\d 0x1 0x0 open 0x800 0x0 0
++ create =\d 0x1 0x0 open 0x2000 0x0 0
+- create =\d 0x10001 0x0 open 0x1000 0x0 0
+- create =\d 0x10001 0x0 open 0x1001 0x0 0
+- create =\d 0x10001 0x0 open 0xffffffff 0x0 0
++ create =\d 0x1 0x0 supersede 0x0 0x0 0
++ create =\d 0x1 0x0 open 0x0 0x0 0
++ create =\d 0x1 0x0 create 0x0 0x0 0
++ create =\d 0x1 0x0 open_if 0x0 0x0 0
++ create =\d 0x1 0x0 overwrite 0x0 0x0 0
++ create =\d 0x1 0x0 overwrite_if 0x0 0x0 0
+- create =\d 0x1 0x0 open_ 0x0 0x0 0
+- create =\d 0x1 0x0 opens 0x0 0x0 0
+- create =\d 0x1 0x0 Open 0x0 0x0 0
+- create =\d 0x1 0x0 create_if 0x0 0x0 0
+- create =\d 0x1 0x0 supersede_if 0x0 0x0 0
+- create =\d 0x1 0x0  0x0 0x0 0
++ create =\d 0x1 0x0 open 0x0 0x1 0
++ create =\d 0x1 0x0 open 0x0 0x31b7 0
++ create =\d 0x1 0x0 open 0x0 0x0 1
++ create =\d 0x1 0x0 open 0x0 0x0 18446744073709551615
+- create =\d 0x1 0x0 open 0x0 0x0 18446744073709551616
+- create =\d 0x1 0x0 open 0x0 0x0 01
+- create =\d 0x1 0x0 open 0x0 0x0 0x1
+- create =\d 0x1 0x0 open 0x0 0x0
+- create =\d 0x1 0x0 open 0x0 0x0 0 0
++ close 4294967295
+- close 4294967296
+- close 0x1
++ tick 4294967295
+- tick 4294967296
+- read 1 0 16385
++ write 1 0 x0aff
+- write 1 0 x0aFF
+- write 1 0 x0af
+-  tick 0
++ read 1 18446744073709551615 16384
+- read 1 18446744073709551616 1
+- read 1 01 1
+- read 1 end 1
+- read 1 0
++ write 1 18446744073709551615 x
++ write 1 end x00
+- write 1 18446744073709551616 x
+- write 1 End x
+- write 1 ends x
+- write 1 end
+- write 1 end x00 0
++ flush 4294967295
+- flush 4294967296
+- flush
+- flush 1 0
++ setend 1 18446744073709551615
+- setend 1 18446744073709551616
+- setend 1 end
+- setend 1
++ lock 1 0 10 ex now
++ lock 4294967295 18446744073709551615 18446744073709551615 sh wait
++ lock 1 15 0 sh now
++ lock 1 15 0 ex wait
+- lock 1 18446744073709551616 1 ex now
+- lock 1 0 18446744073709551616 ex now
+- lock 1 0  ex now
+- lock 1 0 ex now
+- lock 1 0 1 ex
+- lock 1 0 1 now
+- lock 1 0 1 now ex
+- lock 1 0 1 EX now
+- lock 1 0 1 exclusive now
+- lock 1 0 1 ex later
+- lock 1 00 1 ex now
+- lock 1 0 1 ex now 0
++ unlock 4294967295 18446744073709551615 18446744073709551615
+- unlock 1 18446744073709551616 1
+- unlock 1 0 18446744073709551616
+- unlock 1 0
+- unlock 1 0 01
+- unlock 1 0 1 ex
++ cancel 4294967295
+- cancel 4294967296
+- cancel 01
+- cancel 1 2
+- cancel
++ wait 4294967295
+- wait 4294967296
+- wait 00
+- wait 1 2
+- wait
+- notify 1 0x1 flat 100
+- leave
+"#;
+
+// What a text is answered: `script`, or its least faulty line and its kind.
+fn answer_to(alloc: Global, text: &str) -> Result<String, AllocError> {
+    match read_script(alloc, text.as_bytes()) {
+        Ok(_) => String::from_str(alloc, "script"),
+        Err(ReadFault::Bad(ScriptFault { line, kind })) => format!(in alloc; "{line}{kind:?}"),
+        Err(ReadFault::NoMemory) => String::from_str(alloc, "no memory"),
+    }
+}
 
 #[test]
-fn each_case(rt: HostRuntime) -> Result<(), Fail> {
-    for case in CASES {
-        let (text, wanted) = *case;
-        let found = match read_script(rt.alloc(), text.as_bytes()) {
-            Ok(_) => None,
-            Err(ReadFault::Bad(ScriptFault { line, kind })) => Some((line, kind)),
-            Err(ReadFault::NoMemory) => return Err(Fail::from("no memory")),
-        };
-        assert_eq!(rt; found, wanted, "{text}");
+fn each_text(rt: HostRuntime) -> Result<(), Fail> {
+    for row in TEXTS.lines() {
+        let (wanted, text) = row.split_once(' ').ok_or("two columns")?;
+        let text = text.replace(rt.alloc(), '/', "\n")?;
+        let answer = answer_to(rt.alloc(), text.as_str())?;
+        assert_eq!(rt; answer.as_str(), wanted, "{row}");
     }
     Ok(())
+}
+
+// Each is the request of a script of one client.
+pub fn each_request(rt: &impl Abort, alloc: Global, rows: &str) -> Result<(), Fail> {
+    for row in rows.lines() {
+        let (mark, request) = row.split_once(' ').ok_or("two columns")?;
+        let text = format!(in alloc; "fsa 1\nclient a 7\na 1 {request}\n")?;
+        let answer = answer_to(alloc, text.as_str())?;
+        let wanted = if mark == "+" { "script" } else { "3Syntax" };
+        assert_eq!(rt; answer.as_str(), wanted, "{row}");
+    }
+    Ok(())
+}
+
+#[test]
+fn requests(rt: HostRuntime) -> Result<(), Fail> {
+    each_request(&rt, rt.alloc(), REQUESTS)
 }
 
 #[test]
@@ -433,6 +262,29 @@ fn what_a_script_says(rt: HostRuntime) -> Result<(), Fail> {
     };
     assert_eq!(rt; client.name.bytes(), b"b".as_slice());
     assert_eq!(rt; client.sids.as_slice(), [9, 10].as_slice());
+    Ok(())
+}
+
+#[test]
+fn what_locks_and_waits_say(rt: HostRuntime) -> Result<(), Fail> {
+    let text = "fsa 1\nclient a 7\n\
+                a 1 read 1 18446744073709551615 0\na 2 write 2 end x\na 3 flush 3\na 4 setend 4 5\n\
+                a 5 lock 5 6 7 ex now\na 6 lock 6 7 8 sh wait\na 7 unlock 7 8 9\na 8 cancel 9\na 9 wait 10\n";
+    let script = read_script(rt.alloc(), text.as_bytes())?;
+    let said = format!(in rt.alloc(); "{:?}", script.lines().as_slice())?;
+    assert_eq!(rt;
+        said.as_str(),
+        "[\
+        Call { client: 0, number: 1, what: Ask(Read { handle: 1, at: 18446744073709551615, count: 0 }) }, \
+        Call { client: 0, number: 2, what: Ask(Write { handle: 2, at: None, bytes: Bytes { bytes: [] } }) }, \
+        Call { client: 0, number: 3, what: Ask(Flush { handle: 3 }) }, \
+        Call { client: 0, number: 4, what: Ask(SetEnd { handle: 4, length: 5 }) }, \
+        Call { client: 0, number: 5, what: Ask(Lock { handle: 5, at: 6, count: 7, exclusive: true, wait: false }) }, \
+        Call { client: 0, number: 6, what: Ask(Lock { handle: 6, at: 7, count: 8, exclusive: false, wait: true }) }, \
+        Call { client: 0, number: 7, what: Ask(Unlock { handle: 7, at: 8, count: 9 }) }, \
+        Call { client: 0, number: 8, what: Ask(Cancel { number: 9 }) }, \
+        Call { client: 0, number: 9, what: WaitFor(10) }]"
+    );
     Ok(())
 }
 
@@ -499,16 +351,11 @@ fn writes_have_16384_bytes_at_most(rt: HostRuntime) -> Result<(), Fail> {
     Ok(())
 }
 
+// The number of requests has no bound: numbers of three digits come too.
 #[test]
 fn long_scripts(rt: HostRuntime) -> Result<(), Fail> {
-    let most = ticks(rt.alloc(), 64)?;
-    let script = read_script(rt.alloc(), most.as_bytes())?;
-    assert_eq!(rt; script.lines().len(), 64);
-    let more = ticks(rt.alloc(), 65)?;
-    let answer = read_script(rt.alloc(), more.as_bytes());
-    let Err(ReadFault::Bad(fault)) = answer else {
-        return Err(Fail::from("65 requests"));
-    };
-    assert_eq!(rt; (fault.line, fault.kind), (67, Syntax));
+    let text = ticks(rt.alloc(), 101)?;
+    let script = read_script(rt.alloc(), text.as_bytes())?;
+    assert_eq!(rt; script.lines().len(), 101);
     Ok(())
 }

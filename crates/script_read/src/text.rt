@@ -2,7 +2,7 @@
 
 ghost use Rattle.std.specs.Prelude.{◌≡◌, ℕ, ◌<◌, ◌≤◌, [], ◌∷◌, Some, None, if◌then◌else◌, IfOk, IfErr, length};
 ghost use Rattle.fsa_model.specs.Numbers.{digit_of};
-ghost use Rattle.fsa_model.specs.Words.{upper_digit_of, are_upper_digits, unit_of_digits, is_plain, onto, units_of, escaped_units, text_of, text_at, bytes_of, string_of, string_at};
+ghost use Rattle.fsa_model.specs.Words.{upper_digit_of, are_upper_digits, unit_of_digits, is_plain, onto, units_of, escaped_units, text_of, text_at, written_bytes, string_of, string_at};
 ghost use Rattle.script_read.specs.ReadsAs.{ReadsAs, Fails};
 
 use crate::fault::{LineFault, SYNTAX};
@@ -120,9 +120,9 @@ pub fn text_at(alloc: Global, bytes: &[u8]) -> Result<(Name, &[u8]), LineFault>
 // The byte that the two digits at the front write, and what follows them.
 fn byte_at(digits: &[u8]) -> Result<(u8, &[u8]), LineFault>
     requires { 0 < length digits.now }
-    ensures byte { IfOk result (λ byte. bytes_of digits.now ≡ onto byte.0 (bytes_of byte.1.now)) }
+    ensures byte { IfOk result (λ byte. written_bytes digits.now ≡ onto byte.0 (written_bytes byte.1.now)) }
     ensures shorter { IfOk result (λ byte. length byte.1.now < length digits.now) }
-    ensures err { IfErr result (λ fault. Fails fault (bytes_of digits.now)) }
+    ensures err { IfErr result (λ fault. Fails fault (written_bytes digits.now)) }
 {
     let [high, low, rest @ ..] = digits else {
         return Err(SYNTAX);
@@ -136,8 +136,8 @@ fn byte_at(digits: &[u8]) -> Result<(u8, &[u8]), LineFault>
 }
 
 // The bytes that these digits write, two a byte.
-fn bytes_of(alloc: Global, digits: &[u8]) -> Result<Vec<u8>, LineFault>
-    ensures { ReadsAs (λ bytes. bytes.items) result (bytes_of digits.now) }
+fn written_bytes(alloc: Global, digits: &[u8]) -> Result<Vec<u8>, LineFault>
+    ensures { ReadsAs (λ bytes. bytes.items) result (written_bytes digits.now) }
 {
     let mut bytes = Vec::with_capacity(alloc, digits.len() / 2)?;
     let mut rest = digits;
@@ -160,7 +160,7 @@ fn string_of(alloc: Global, word: &[u8]) -> Result<Bytes, LineFault>
     if *first != b'x' || digits.len() > 32768 {
         return Err(SYNTAX);
     }
-    let bytes = bytes_of(alloc, digits)?;
+    let bytes = written_bytes(alloc, digits)?;
     Ok(Bytes::from(bytes))
 }
 

@@ -2,11 +2,11 @@
 
 ghost use Rattle.std.specs.Prelude.{◌≡◌, ◌==◌, ◌≤◌, ◌^◌, ◌<◌, ◌+◌, IfOk, OnOk, IfErr, IfSome, false, length, drop, position};
 ghost use Rattle.std.specs.List.{position_or_len, list_all};
-ghost use Rattle.fsa_model.specs.Words.{field_at, number_at, mask_of, mask_at, word_of, after_word, is_name, is_name_byte, most_id};
+ghost use Rattle.fsa_model.specs.Words.{field_at, number_at, mask_of, mask_at, choice_of, choice_at, word_of, after_word, is_name, is_name_byte, most_id};
 ghost use Rattle.script_read.specs.ReadsAs.{ReadsAs};
 
 use crate::fault::{LineFault, SYNTAX, ScriptKind};
-use crate::number::number_of;
+use crate::number::written_number;
 
 // Where the first byte of this value stands.
 fn place_of(mark: u8, bytes: &[u8]) -> Option<usize>
@@ -70,7 +70,7 @@ pub fn number_at(most: u64, bytes: &[u8]) -> Result<(u64, &[u8]), LineFault>
     ensures shorter { IfOk result (λ number. length number.1.now < length bytes.now) }
 {
     let (word, rest) = field_at(bytes)?;
-    match number_of(10, most, word) {
+    match written_number(10, most, word) {
         Some(number) => Ok((number, rest)),
         None => Err(SYNTAX),
     }
@@ -93,7 +93,7 @@ pub fn mask_of(word: &[u8]) -> Result<u32, LineFault>
     let [b'0', b'x', digits @ ..] = word else {
         return Err(SYNTAX);
     };
-    match number_of(16, u64::from(u32::MAX), digits) {
+    match written_number(16, u64::from(u32::MAX), digits) {
         Some(mask) => Ok(mask as u32),
         None => Err(SYNTAX),
     }
@@ -107,6 +107,33 @@ pub fn mask_at(bytes: &[u8]) -> Result<(u32, &[u8]), LineFault>
     let (word, rest) = field_at(bytes)?;
     let mask = mask_of(word)?;
     Ok((mask, rest))
+}
+
+// Which of two words this is: true for the first.
+fn choice_of(first: &[u8], second: &[u8], word: &[u8]) -> Result<bool, LineFault>
+    ensures { ReadsAs (λ choice. choice) result (choice_of first.now second.now word.now) }
+{
+    if word == first {
+        Ok(true)
+    } else if word == second {
+        Ok(false)
+    } else {
+        Err(SYNTAX)
+    }
+}
+
+/// One of two words at the front, true for the first, and what follows it.
+#[tactic(auto, unfolding(fsa_model::specs::Words::choice_at))]
+pub fn choice_at<'a>(
+    first: &[u8],
+    second: &[u8],
+    bytes: &'a [u8],
+) -> Result<(bool, &'a [u8]), LineFault>
+    ensures { ReadsAs (λ choice. (choice.0, choice.1.now)) result (choice_at first.now second.now bytes.now) }
+{
+    let (word, rest) = field_at(bytes)?;
+    let choice = choice_of(first, second, word)?;
+    Ok((choice, rest))
 }
 
 // Whether a byte may stand in a client's name.

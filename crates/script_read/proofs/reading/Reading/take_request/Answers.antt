@@ -1,6 +1,5 @@
-use Rattle.std.proofs.Common.{◌≡◌, ◌∙◌, sym, true, arith, rules, map, length}
-use Rattle.std.specs.Prelude.{Some, None, nat_lt}
-use Rattle.std.proofs.lemmas.Grind.{common_steps}
+use Rattle.std.proofs.Common.{◌≡◌, ◌∙◌, sym, true, rules, map}
+use Rattle.std.specs.Prelude.{Some, None}
 use Rattle.fsa_model.specs.Setup.{client_of}
 use Rattle.fsa_model.specs.Script.{place_of, takes_requests}
 use Rattle.script_read.specs.StageView.{stage_of}
@@ -12,20 +11,18 @@ pub returns-in-Some : goal.returns-in-Some
 returns-in-Some c =
     let old = c.args.self.now in
     let takes : takes_requests (stage_of old.stage) ≡ true = search rules in
-    let few : nat_lt (length old.calls.items) 64 ≡ true = grind (arith, common_steps) in
     let there : place_of (map client_of old.clients.items) c.args.name.now ≡ Some c.in-Some.place =
     place_of-kept old c.args.name.now c.requires.kept ∙ sym c.in-Some.ensures.place in
-    rw (take_request-known (reading_of old) c.args.name.now c.in-Some.place c.args.number c.args.what takes few there) c.take_call.ensures
+    rw (take_request-known (reading_of old) c.args.name.now c.in-Some.place c.args.number c.args.what takes there) c.take_call.ensures
 
 pub returns-in-None : goal.returns-in-None
 returns-in-None c =
     let old = c.args.self.now in
     let takes : takes_requests (stage_of old.stage) ≡ true = search rules in
-    let few : nat_lt (length old.calls.items) 64 ≡ true = grind (arith, common_steps) in
     let absent : place_of (map client_of old.clients.items) c.args.name.now ≡ None =
     place_of-kept old c.args.name.now c.requires.kept ∙ sym c.in-None.ensures.place in
     record {
-      gives = take_request-unknown (reading_of old) c.args.name.now c.args.number c.args.what takes few absent;
+      gives = take_request-unknown (reading_of old) c.args.name.now c.args.number c.args.what takes absent;
       kept = tt;
       room = tt;
     }

@@ -1,10 +1,10 @@
 use Rattle.std.proofs.Common.{◌≡◌, length}
-use Rattle.fsa_model.specs.Words.{bytes_of}
+use Rattle.fsa_model.specs.Words.{written_bytes}
 use Rattle.script_read.proofs.ReadLemmas.{ahead}
-use Rattle.script_read.proofs.text.bytes_of.Given as goal
+use Rattle.script_read.proofs.text.written_bytes.Given as goal
 
 abbrev pub invariant-bytes : goal.invariant-bytes
-invariant-bytes l = ahead l.bytes.items (bytes_of l.rest) ≡ bytes_of l.digits
+invariant-bytes l = ahead l.bytes.items (written_bytes l.rest) ≡ written_bytes l.digits
 
 abbrev pub decreases-bytes : goal.decreases-bytes
 decreases-bytes l = length l.rest
