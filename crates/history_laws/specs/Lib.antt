@@ -1,0 +1,4 @@
+pub mod Cursors
+pub mod Named
+pub mod Starving
+pub mod Whole

@@ -1,0 +1,45 @@
+//! What holds of every history and of its text: laws that other crates' contracts may rest on. No function
+//! here does anything.
+
+ghost use Rattle.std.specs.Prelude.{◌≡◌, ◌<◌, ◌^◌, ℕ, List, Ok, Some, false, length};
+ghost use Rattle.fsa_types.specs.declared.request.Call.{Call};
+ghost use Rattle.fsa_types.specs.declared.request.CallId.{CallId};
+ghost use Rattle.fsa_model.specs.History.{HistoryEntry};
+ghost use Rattle.fsa_model.specs.Schedule.{HasAllCalls, Scheduled, plain};
+ghost use Rattle.fsa_model.specs.Script.{script_of};
+ghost use Rattle.fsa_model.specs.Setup.{Script};
+ghost use Rattle.fsa_model.specs.Text.{shows_no_memory, text};
+ghost use Rattle.fsa_model.specs.Turn.{Turned, try, turn};
+ghost use Rattle.fsa_model.specs.Volume.{Volume};
+ghost use Rattle.history_laws.specs.Named.{IsRead};
+ghost use Rattle.history_laws.specs.Starving.{TriesPlain, starved_of};
+
+/// No try ends a call, its own or another, with the status NoMemory: only a settlement does.
+pub fn tries_end_for_no_want_of_memory()
+    ensures plain { (v : Volume) (call : Call) (turn : ℕ) → TriesPlain v (try v call turn) }
+{}
+
+/// Of the calls that end in a turn besides the answer to its own, just its starved calls end with the status
+/// NoMemory, in their order.
+pub fn starved_calls_end_without_memory()
+    ensures starved { (v : Volume) (call : Call) (starved : List CallId) (turned : Turned) → turn v call starved ≡ Some turned → starved_of turned.out.ended ≡ starved }
+{}
+
+/// A script that was read from bytes, fewer than 2 ^ 63, is as the laws below ask: its clients have names
+/// that differ, and its lines are calls of these, numbered in turn.
+pub fn scripts_are_read()
+    ensures read { (bytes : List ℕ) (script : Script) → length bytes < 2 ^ 63 → script_of bytes ≡ Ok script → IsRead script }
+{}
+
+/// Two histories of one script on one thread, each with all its calls, are the same where their texts are: the
+/// lines of the calls that ended in a turn tell which of them found no memory.
+pub fn two_histories_with_one_text_are_one()
+    ensures only { (script : Script) (history other : List HistoryEntry) → IsRead script → Scheduled script history → HasAllCalls script history
+        → Scheduled script other → HasAllCalls script other → text script other ≡ text script history → other ≡ history }
+{}
+
+/// Where no line of its text shows NO_MEMORY, such a history is the one in which memory is never wanting.
+pub fn text_without_no_memory_is_plain()
+    ensures plain { (script : Script) (history : List HistoryEntry) → IsRead script → Scheduled script history → HasAllCalls script history
+        → shows_no_memory (text script history) ≡ false → history ≡ plain script }
+{}

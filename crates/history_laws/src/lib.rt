@@ -1,0 +1,15 @@
+//! What is proved of histories and their texts: in which order a script's calls are made, that they all are, and
+//! that a text tells its history. It has no product code: the laws are said by functions that do nothing.
+#![tactic(auto)]
+
+mod law;
+mod order;
+
+pub use law::{
+    scripts_are_read, starved_calls_end_without_memory, text_without_no_memory_is_plain,
+    tries_end_for_no_want_of_memory, two_histories_with_one_text_are_one,
+};
+pub use order::{
+    calls_are_made_in_order, each_schedule_goes_on_to_its_end,
+    some_call_is_next_until_all_are_made, the_least_cursor_is_next,
+};
