@@ -1,6 +1,7 @@
 //! Lists in order with the room that they were made with.
 
 ghost use Rattle.std.specs.Prelude.{◌≡◌, ◌==◌, ◌<◌, ◌≤◌, ◌++◌, ◌∷◌, [], length, slice_get, IfOk};
+ghost use Rattle.std.specs.List.{insert};
 ghost use Rattle.std.specs.Option.{option_copied};
 
 use crate::copy::TryCopy;
@@ -81,6 +82,19 @@ impl<T: Drop> BoundedList<T> {
         ensures room { self.new.room ≡ self.old.room }
     {
         let Ok(()) = self.items.push(item) else {
+            unreachable!()
+        };
+    }
+
+    /// Puts an item in at place `i`, before those from there on, or at the end. There has to be room for
+    /// it. It takes no memory.
+    pub fn insert(&mut self, i: usize, item: T)
+        requires place { i ≤ length self.old.items }
+        requires room { length self.old.items < self.old.room }
+        ensures items { self.new.items ≡ insert self.old.items i item }
+        ensures room { self.new.room ≡ self.old.room }
+    {
+        let Ok(()) = self.items.insert(i, item) else {
             unreachable!()
         };
     }

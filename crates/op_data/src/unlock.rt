@@ -3,6 +3,7 @@
 ghost use Rattle.std.specs.Prelude.{◌≡◌, is_some};
 ghost use Rattle.op_data.specs.Calls.{IsDone, IsUnlock, asked_unlock};
 ghost use Rattle.fsa_model.specs.Locking.{try_unlock, unlock_at};
+ghost use Rattle.volume_state.specs.Room.{KeepsEnds};
 ghost use Rattle.volume_state.specs.Tried.{Gives};
 
 use fsa_types::{Call, Request, Status, What};
@@ -14,6 +15,7 @@ use volume_state::{Tried, Volume};
 fn unlock_at(volume: &mut Volume, id: u64, at: u64, count: u64) -> Tried
     ensures gives { Gives (unlock_at volume.old.content id at count) volume.old.content volume.new.content result }
     ensures done { IsDone result }
+    ensures ends { KeepsEnds volume.old volume.new }
     ensures beside { volume.new.beside ≡ volume.old.beside }
     ensures spare { volume.new.spare ≡ volume.old.spare }
 {
@@ -34,6 +36,7 @@ fn unlock_at(volume: &mut Volume, id: u64, at: u64, count: u64) -> Tried
 fn unlock(volume: &mut Volume, client: u32, handle: u32, at: u64, count: u64) -> Tried
     ensures gives { Gives (try_unlock volume.old.content client handle at count) volume.old.content volume.new.content result }
     ensures done { IsDone result }
+    ensures ends { KeepsEnds volume.old volume.new }
     ensures beside { volume.new.beside ≡ volume.old.beside }
     ensures spare { volume.new.spare ≡ volume.old.spare }
 {
@@ -49,6 +52,7 @@ pub fn try_unlock(_alloc: Global, volume: &mut Volume, call: &Call, _turn: u64) 
     requires verb { IsUnlock call.now.what }
     ensures gives { Gives (asked_unlock volume.old.content call.now.client call.now.what) volume.old.content volume.new.content result }
     ensures done { IsDone result }
+    ensures ends { KeepsEnds volume.old volume.new }
     ensures beside { volume.new.beside ≡ volume.old.beside }
     ensures spare { volume.new.spare ≡ volume.old.spare }
 {

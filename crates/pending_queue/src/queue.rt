@@ -72,9 +72,20 @@ impl PendingQueue {
         ensures calls_left { self.old.room_for_calls ≤ self.new.room_for_calls + calls_added self.old.held turn }
         ensures blockers_left { self.old.room_for_blockers ≤ self.new.room_for_blockers + length blockers.items }
     {
+        self.hold_by(turn, blockers.as_slice())
+    }
+
+    /// The same of blockers that are lent.
+    pub fn hold_by(&mut self, turn: u64, blockers: &[Blocker]) -> Result<(), NoMemory>
+        ensures ok { OnOk result (self.new.held ≡ with_held self.old.held turn blockers.now) }
+        ensures err { OnErr result (self.new.held ≡ self.old.held) }
+        ensures succeeds { calls_added self.old.held turn ≤ self.old.room_for_calls → length blockers.now ≤ self.old.room_for_blockers → IsOk result }
+        ensures calls_left { self.old.room_for_calls ≤ self.new.room_for_calls + calls_added self.old.held turn }
+        ensures blockers_left { self.old.room_for_blockers ≤ self.new.room_for_blockers + length blockers.now }
+    {
         self.waited.reserve(blockers.len())?;
         add_turn(&mut self.turns, turn)?;
-        put_blockers(&mut self.waited, turn, blockers.as_slice());
+        put_blockers(&mut self.waited, turn, blockers);
         Ok(())
     }
 

@@ -1,1 +1,3 @@
 pub mod BreakLemmas
+pub mod CallLemmas
+pub mod ReleaseLemmas

@@ -13,42 +13,36 @@ ghost use Rattle.fsa_model.specs.Volume.{Volume};
 ghost use Rattle.object_tables.specs.Series.{HoldsAsMany};
 ghost use Rattle.volume_rows.specs.Effects.{effect_of};
 ghost use Rattle.volume_breaks.specs.Breaks.{with_calls, with_held};
+ghost use Rattle.volume_breaks.specs.Calls.{StayHeld};
 ghost use Rattle.volume_breaks.specs.Oplocks.{state_of};
 
 use crate::oplock_list::Oplocks;
-use crate::spare_list::SpareList;
+use crate::pending_calls::PendingCalls;
 use fsa_types::{Body, Class, EndOf, Level, Reply, Status};
 use object_tables::Series;
-use volume_rows::{BreakEffect, OplockRow, PendingRow, effect, find_pending, is_call};
+use volume_rows::{BreakEffect, OplockRow, PendingRow, effect, find_pending};
 
 /// A call has ended with this reply; where it was pending it is so no more.
 pub fn end_call(
-    pending: &mut SpareList<(u64, PendingRow)>,
+    pending: &mut PendingCalls,
     ended: &mut Series<EndOf>,
     client: u32,
     number: u32,
     reply: Reply,
 )
     requires room { 1 ≤ ended.old.room }
-    ensures pending { pending.new ≡ record pending.old { items = filter (λ entry. not (is_call client number entry.1)) pending.old.items } }
+    ensures pending { pending.new ≡ record pending.old { items = filter (λ entry. not (is_call client number entry.1)) pending.old.items; held = pending.new.held } }
+    ensures held { StayHeld pending.old pending.new }
     ensures ended { ended.new.items ≡ ended.old.items ++ record { client = client; number = number; reply = reply } ∷ [] }
     ensures left { ended.old.room ≤ ended.new.room + 1 }
     ensures ends { HoldsAsMany ended.old ended.new }
 {
-    drop_call(pending, client, number);
+    pending.end(client, number);
     ended.push(EndOf {
         client,
         number,
         reply,
     });
-}
-
-// Takes this call of this client out of those that are pending.
-fn drop_call(pending: &mut SpareList<(u64, PendingRow)>, client: u32, number: u32)
-    ensures pending { pending.new.items ≡ filter (λ entry. not (is_call client number entry.1)) pending.old.items }
-    ensures room { pending.new.room ≡ pending.old.room }
-{
-    pending.retain(|entry| !is_call(&entry.1, client, number));
 }
 
 // The client and the number of the call that is pending under this turn.
@@ -67,7 +61,7 @@ fn pending_call(pending: &[(u64, PendingRow)], turn: Option<u64>) -> Option<(u32
 // The call that is pending under this turn as granted ends, where there is one: it is told the level
 // that may stay, and whether that has to be acknowledged.
 fn tell(
-    pending: &mut SpareList<(u64, PendingRow)>,
+    pending: &mut PendingCalls,
     ended: &mut Series<EndOf>,
     turn: Option<u64>,
     level: Level,
@@ -75,7 +69,8 @@ fn tell(
 )
     requires room { is_some turn ≡ true → 1 ≤ ended.old.room }
     ensures told { (v : Volume) → with_calls v pending.new.items ended.new.items ≡ with_told (with_calls v pending.old.items ended.old.items) turn level ack }
-    ensures room { pending.new.room ≡ pending.old.room }
+    ensures held { StayHeld pending.old pending.new }
+    ensures room { (pending.new.room ≡ pending.old.room) × (pending.new.blockers ≡ pending.old.blockers) }
     ensures left { ended.old.room ≤ ended.new.room + (if is_some turn then 1 else 0) }
     ensures ends { HoldsAsMany ended.old ended.new }
 {
@@ -97,7 +92,7 @@ fn tell(
 // What the effect on an oplock does.
 fn apply(
     oplocks: &mut Oplocks,
-    pending: &mut SpareList<(u64, PendingRow)>,
+    pending: &mut PendingCalls,
     ended: &mut Series<EndOf>,
     oplock: OplockRow,
     done: BreakEffect,
@@ -109,7 +104,8 @@ fn apply(
     ensures done { (v : Volume) → with_held v oplocks.new.rows oplocks.new.last pending.new.items ended.new.items ≡ with_effect (with_held v oplocks.old.rows oplocks.old.last pending.old.items ended.old.items) oplock (effect_of done) }
     ensures others { oplocks.new ≡ record oplocks.old { rows = oplocks.new.rows; last = oplocks.new.last } }
     ensures numbers { oplocks.new.last ≤ oplocks.old.last + 1 }
-    ensures room { pending.new.room ≡ pending.old.room }
+    ensures held { StayHeld pending.old pending.new }
+    ensures room { (pending.new.room ≡ pending.old.room) × (pending.new.blockers ≡ pending.old.blockers) }
     ensures left { ended.old.room ≤ ended.new.room + (if is_told (effect_of done) && is_some oplock.call then 1 else 0) }
     ensures ends { HoldsAsMany ended.old ended.new }
 {
@@ -130,7 +126,7 @@ fn apply(
 // Breaks an oplock, as a request of this class does.
 fn break_one(
     oplocks: &mut Oplocks,
-    pending: &mut SpareList<(u64, PendingRow)>,
+    pending: &mut PendingCalls,
     ended: &mut Series<EndOf>,
     class: Class,
     oplock: OplockRow,
@@ -143,7 +139,8 @@ fn break_one(
     ensures done { (v : Volume) → with_held v oplocks.new.rows oplocks.new.last pending.new.items ended.new.items ≡ with_effect (with_held v oplocks.old.rows oplocks.old.last pending.old.items ended.old.items) oplock (effect_on class oplock) }
     ensures others { oplocks.new ≡ record oplocks.old { rows = oplocks.new.rows; last = oplocks.new.last } }
     ensures numbers { oplocks.new.last ≤ oplocks.old.last + 1 }
-    ensures room { pending.new.room ≡ pending.old.room }
+    ensures held { StayHeld pending.old pending.new }
+    ensures room { (pending.new.room ≡ pending.old.room) × (pending.new.blockers ≡ pending.old.blockers) }
     ensures left { ended.old.room ≤ ended.new.room + (if is_told (effect_on class oplock) && is_some oplock.call then 1 else 0) }
     ensures ends { HoldsAsMany ended.old ended.new }
 {
@@ -155,7 +152,7 @@ fn break_one(
 /// to be copies of those that are there.
 pub fn break_chosen(
     oplocks: &mut Oplocks,
-    pending: &mut SpareList<(u64, PendingRow)>,
+    pending: &mut PendingCalls,
     ended: &mut Series<EndOf>,
     class: Class,
 )
@@ -165,7 +162,8 @@ pub fn break_chosen(
     requires copies { All (IsCopy oplocks.old.rows) oplocks.old.chosen }
     ensures done { (v : Volume) → with_held v oplocks.new.rows oplocks.new.last pending.new.items ended.new.items ≡ fold (λ w oplock. with_effect w oplock (effect_on class oplock)) (with_held v oplocks.old.rows oplocks.old.last pending.old.items ended.old.items) oplocks.old.chosen }
     ensures others { oplocks.new ≡ record oplocks.old { rows = oplocks.new.rows; last = oplocks.new.last } }
-    ensures room { pending.new.room ≡ pending.old.room }
+    ensures held { StayHeld pending.old pending.new }
+    ensures room { (pending.new.room ≡ pending.old.room) × (pending.new.blockers ≡ pending.old.blockers) }
     ensures left { ended.old.room ≤ ended.new.room + length (told_among class oplocks.old.chosen) }
     ensures ends { HoldsAsMany ended.old ended.new }
 {

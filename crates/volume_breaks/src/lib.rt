@@ -10,8 +10,9 @@
 //!
 //! The parts: which oplocks a break breaks, and in what order (`choosing`, over a `Tree` of a volume's
 //! tables); what it does to each, and which calls it tells (`breaking`); for which breaks the request
-//! waits (`awaiting`); the list of the oplocks with what a break puts by (`Oplocks`); and a list whose room
-//! stays as items go (`SpareList`).
+//! waits (`awaiting`); the list of the oplocks with what a break puts by (`Oplocks`); the pending calls with
+//! the queue of those that are held (`PendingCalls`), which is told what ends where a handle goes
+//! (`releasing`); and a list whose room stays as items go (`SpareList`).
 //!
 //! - None of the three takes memory: there is always room for copies of all oplocks, and for the numbers
 //!   of as many breaks. Room for the ends of the calls that are told has to be there.
@@ -24,10 +25,16 @@ mod awaiting;
 mod breaking;
 mod choosing;
 mod oplock_list;
+mod pending_calls;
+mod releasing;
 mod spare_list;
+#[cfg(test)]
+mod tests;
 
 pub use awaiting::push_breaks;
 pub use breaking::{break_chosen, end_call};
 pub use choosing::Tree;
 pub use oplock_list::Oplocks;
+pub use pending_calls::PendingCalls;
+pub use releasing::{release_breaks, release_locks};
 pub use spare_list::SpareList;

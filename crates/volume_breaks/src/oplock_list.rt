@@ -5,6 +5,7 @@ ghost use Rattle.fsa_types.specs.Sorting.{in_order};
 ghost use Rattle.fsa_types.specs.OplockLists.{awaited_among, begun, lowered, without_oplock_of, CanBegin, CanGoOn};
 ghost use Rattle.fsa_model.specs.Breaks.{is_broken_before, is_chosen};
 ghost use Rattle.fsa_model.specs.Volume.{Oplock};
+ghost use Rattle.fsa_model.specs.Waiting.{is_granted_under};
 ghost use Rattle.volume_breaks.specs.Oplocks.{Held};
 ghost use Rattle.std.specs.Vec.{vec_capacity};
 
@@ -82,6 +83,13 @@ impl Oplocks {
         Ok(())
     }
 
+    /// All oplocks, in the order in which they were granted.
+    pub fn as_slice(&self) -> &[OplockRow]
+        ensures { result.now ≡ self.now.rows }
+    {
+        self.rows.as_slice()
+    }
+
     /// How many oplocks there are.
     pub fn len(&self) -> u32
         ensures { result ≡ length self.now.rows }
@@ -123,6 +131,13 @@ impl Oplocks {
         ensures { self.new ≡ record self.old { rows = without_oplock_of handle self.old.rows } }
     {
         drop_of(&mut self.rows, handle);
+    }
+
+    /// Takes the oplock out that is granted to the call that is pending under this turn.
+    pub fn give_up(&mut self, turn: u64)
+        ensures { self.new ≡ record self.old { rows = filter (λ oplock. not (is_granted_under turn oplock)) self.old.rows } }
+    {
+        drop_granted(&mut self.rows, turn);
     }
 
     /// A numbered break begins of the oplock of this handle, to a level that is no more than it has, and
@@ -175,6 +190,25 @@ fn drop_of(rows: &mut Vec<OplockRow>, handle: u64)
     ensures room { vec_capacity rows.new ≡ vec_capacity rows.old }
 {
     rows.retain(|oplock| !is_oplock_of(oplock, handle));
+}
+
+// Whether an oplock is granted to the call that is pending under this turn.
+fn is_granted_under(oplock: &OplockRow, turn: u64) -> bool
+    ensures { result ≡ is_granted_under turn oplock.now }
+{
+    match oplock.call {
+        None => false,
+        Some(call) => call == turn,
+    }
+}
+
+// Takes the oplock out that is granted to the call that is pending under this turn.
+fn drop_granted(rows: &mut Vec<OplockRow>, turn: u64)
+    ensures rows { rows.new.items ≡ filter (λ oplock. not (is_granted_under turn oplock)) rows.old.items }
+    ensures few { length rows.new.items ≤ length rows.old.items }
+    ensures room { vec_capacity rows.new ≡ vec_capacity rows.old }
+{
+    rows.retain(|oplock| !is_granted_under(oplock, turn));
 }
 
 // The oplock as it is once a break of this number to this level has begun, where it is this handle's.

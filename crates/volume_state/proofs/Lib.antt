@@ -6,3 +6,5 @@ pub mod OpenLaws
 pub mod PathLaws
 pub mod PendingLaws
 pub mod StreamLemmas
+pub mod ThereLaws
+pub mod WaitLaws

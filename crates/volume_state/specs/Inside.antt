@@ -1,5 +1,5 @@
--- The content and the spare room of the tables of a volume. What a pending call waits for comes in a
--- list of its own, and an owner's charge is a scan, so there is room for all of these.
+-- The content and the spare room of the tables of a volume. An owner's charge is a scan, so there is room
+-- for all owners.
 use Rattle.std.specs.Prelude.{[], ◌^◌, map}
 use Rattle.fsa_model.specs.Setup.{client_of}
 use Rattle.fsa_model.specs.Volume.{Volume}
@@ -46,7 +46,7 @@ spare_of v = record {
   watches = v.watches.room;
   limits = v.limits.room;
   pending = v.pending.room;
-  blockers = 2 ^ 64;
+  blockers = v.pending.blockers;
   changes = v.changes.room;
   ends = v.ended.room;
   units = v.changes.units;

@@ -9,7 +9,7 @@ ghost use Rattle.fsa_model.specs.Sound.{is_of_living, has_its_stream};
 ghost use Rattle.volume_state.specs.Room.{IsNoLess};
 
 use crate::volume::Volume;
-use volume_breaks::SpareList;
+use volume_breaks::{SpareList, release_breaks, release_locks};
 use volume_rows::{HandleRow, WatchRow, find_handle, is_watch_of};
 
 impl Volume {
@@ -50,12 +50,15 @@ impl Volume {
         self.handles.add(row)
     }
 
-    /// Takes a handle out, with its locks, its oplock and break, and its watch.
+    /// Takes a handle out, with its locks, its oplock and break, and its watch. No call waits for these
+    /// any more.
     pub fn drop_handle(&mut self, handle: u64)
         ensures content { self.new.content ≡ without_handle self.old.content handle }
         ensures beside { self.new.beside ≡ self.old.beside }
         ensures room { IsNoLess self.old.spare self.new.spare }
     {
+        release_locks(&mut self.pending, self.handles.locks(), handle);
+        release_breaks(&mut self.pending, self.oplocks.as_slice(), handle);
         self.handles.remove(handle);
         self.oplocks.drop_of(handle);
         drop_watch(&mut self.watches, handle);

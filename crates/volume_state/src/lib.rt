@@ -18,8 +18,8 @@
 //! `link`, `stream`, `handle`, `pending`, `ended`, each by number, and `child`, `stream_of`,
 //! `handle_of`, `next_handle_of`, `next_pending`, `pending_calls`, `root`, `is_directory`, `dir_link`,
 //! `has_child`, `handles_on`, `clashes`, `locks_of`, `bytes_of`, `clock`, `has_left`, `table`, `sids`,
-//! `oplocks`); the space that streams take, and what an owner is charged for it and may be (`clusters`,
-//! `charge`, `charge_of_file`, `limit`); the room that a note takes (`note_room`, `note_room_in`);
+//! `oplocks`); waits for calls (`waits`, `all_wait`, `next_over`, `list_waits`); the space that streams
+//! take, and what an owner is charged for it and may be (`clusters`, `charge`, `charge_of_file`, `limit`); the room that a note takes (`note_room`, `note_room_in`);
 //! changes of one table (`add_..`, `drop_..`, `mark_..`, `put_bytes`, `set_..`, `end`, `leave`,
 //! `advance`); changes noted (`note`); and the break of oplocks (`begin`, `waited`).
 //!
@@ -37,8 +37,13 @@
 //! call, the handles below a directory and an owner's charge cost that for each row, and a note costs a
 //! look through the links for each directory above. A break costs what `volume_breaks` says.
 //!
-//! Caveats: no call puts an oplock, a watch, a limit or a pending call in yet. The calls that look for
-//! them, break them and take them out are whole all the same, for any that there are.
+//! A call that is held waits for breaks and locks; whatever ends one of these tells the queue of held calls,
+//! in time linear in what they wait for, and `next_held` asks nothing but the queue. `next_over` looks through
+//! the pending calls for each wait among them, and never through the calls that have ended; `list_waits` puts
+//! each wait in its place among the others.
+//!
+//! Caveats: no call puts an oplock, a watch or a limit in yet. The calls that look for them, break them and
+//! take them out are whole all the same, for any that there are.
 #![tactic(auto)]
 
 mod files;
@@ -59,6 +64,7 @@ mod streams;
 mod tests;
 mod tried;
 mod volume;
+mod waits;
 
 pub use fsa_types::{Class, HandleSet};
 pub use room::NoteRoom;

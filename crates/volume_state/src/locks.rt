@@ -10,6 +10,7 @@ ghost use Rattle.volume_state.specs.Room.{stream_of_handle};
 ghost use Rattle.volume_state.specs.Seen.{room_for};
 
 use crate::volume::Volume;
+use fsa_types::Blocker;
 use range_locks::RangeTable;
 
 impl Volume {
@@ -43,13 +44,17 @@ impl Volume {
     }
 
     /// Takes the first lock of this handle on exactly this range out, shared or exclusive, and tells
-    /// whether there was one; else nothing changes. `at` and `count` are in bytes.
+    /// whether there was one; else nothing changes. No call waits for it any more. `at` and `count` are in bytes.
     pub fn drop_lock(&mut self, handle: u64, at: u64, count: u64) -> bool
         ensures content { self.new.content ≡ without_lock self.old.content handle at count }
         ensures beside { self.new.beside ≡ self.old.beside }
         ensures room { self.new.spare ≡ self.old.spare }
         ensures found { result ≡ is_some (number_of (is_lock_on handle at count) self.old.content.locks) }
     {
-        self.handles.remove_lock(handle, at, count)
+        let Some(number) = self.handles.remove_lock(handle, at, count) else {
+            return false;
+        };
+        self.pending.ended(Blocker::Lock(number));
+        true
     }
 }

@@ -6,6 +6,7 @@ ghost use Rattle.fsa_types.specs.declared.reply.Blocker.TheVariants.{Break};
 ghost use Rattle.fsa_types.specs.declared.oplock.Class.{Class};
 ghost use Rattle.fsa_types.specs.declared.oplock.HandleSet.{HandleSet};
 ghost use Rattle.fsa_model.specs.Breaks.{with_breaks, awaited, told};
+ghost use Rattle.fsa_model.specs.Waiting.{with_oplock_given_up};
 ghost use Rattle.std.specs.Prelude.{Option};
 ghost use Rattle.volume_state.specs.Room.{KeepsEnds};
 
@@ -50,6 +51,15 @@ impl Volume {
         self.oplocks.choose(&tree, handles, handle, key);
         break_chosen(&mut self.oplocks, &mut self.pending, &mut self.ended, class);
         self.oplocks.await_breaks(class)
+    }
+
+    /// Takes the oplock out that is granted to the call that is pending under this turn, where there is one.
+    pub fn give_up(&mut self, turn: u64)
+        ensures content { self.new.content ≡ with_oplock_given_up self.old.content turn }
+        ensures beside { self.new.beside ≡ self.old.beside }
+        ensures room { self.new.spare ≡ self.old.spare }
+    {
+        self.oplocks.give_up(turn);
     }
 
     /// Puts the breaks that the last `begin` waits for into an empty list, in order. The list has to

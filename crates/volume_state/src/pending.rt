@@ -1,16 +1,18 @@
 //! Pending calls.
 
-ghost use Rattle.std.specs.Prelude.{ℕ, ◌≡◌, ◌≤◌, ◌<◌, ◌+◌, ◌^◌, IsTrue, IsSome, IfSome, IfNone, true, false, length, nat_lt, option_map, slice_get};
+ghost use Rattle.std.specs.Prelude.{ℕ, ◌≡◌, ◌≤◌, ◌<◌, ◌+◌, ◌^◌, ◌==◌, All, IsTrue, IsSome, IfSome, IfNone, true, false, length, nat_lt, option_map, slice_get};
 ghost use Rattle.std.specs.List.{list_any};
-ghost use Rattle.std.specs.Option.{option_copied};
+ghost use Rattle.std.specs.Option.{option_copied, ForSome};
 ghost use Rattle.fsa_types.specs.Rows.{lives, row_of};
-ghost use Rattle.fsa_model.specs.Edits.{with_end};
-ghost use Rattle.fsa_model.specs.Lookups.{next_pending};
+ghost use Rattle.fsa_types.specs.Pending.{is_held, next_let_go};
+ghost use Rattle.fsa_model.specs.Edits.{is_call, with_blockers, with_end, with_pending};
+ghost use Rattle.fsa_model.specs.Lookups.{has_row, next_pending, number_of};
 ghost use Rattle.fsa_model.specs.Sound.{ArePending};
+ghost use Rattle.fsa_model.specs.Waiting.{blocker_lives};
 ghost use Rattle.volume_state.specs.Room.{KeepsEnds};
 
 use crate::volume::Volume;
-use fsa_types::{Call, EndOf, Reply};
+use fsa_types::{BlockerList, Call, EndOf, Reply};
 use volume_breaks::end_call;
 use volume_rows::{find_next_pending, find_pending};
 
@@ -42,6 +44,55 @@ impl Volume {
         ensures sound { ArePending self.now.content.clients self.now.content.pending }
     {
         find_next_pending(self.pending.as_slice(), after)
+    }
+
+    /// The turn under which this call of this client is pending; `None` exactly where it isn't.
+    pub fn pending_turn(&self, client: u32, number: u32) -> Option<u64>
+        ensures { result ≡ number_of (is_call client number) self.now.content.pending }
+    {
+        self.pending.turn_of(client, number)
+    }
+
+    /// The least turn of a held call none of whose blockers is still there; `None` exactly where there is
+    /// none.
+    pub fn next_held(&self) -> Option<u64>
+        ensures { result ≡ option_map (λ entry. entry.0) (next_let_go (blocker_lives self.now.content) self.now.content.pending) }
+    {
+        self.pending.next_held()
+    }
+
+    /// A call is pending under this turn, and held by these blockers where there are any, each of which
+    /// has to be there. No call may be pending under the turn, or with this client and number.
+    pub fn pend(&mut self, turn: u64, call: Call, blockers: BlockerList)
+        requires room { 1 ≤ self.old.spare.pending }
+        requires places { length blockers.items ≤ self.old.spare.blockers }
+        requires living { All (λ blocker. IsTrue (blocker_lives self.old.content blocker)) blockers.items }
+        requires new_turn { lives self.old.content.pending turn ≡ false }
+        requires new_call { has_row (is_call call.client call.number) self.old.content.pending ≡ false }
+        requires client { call.client < length self.old.content.clients }
+        ensures content { self.new.content ≡ with_pending self.old.content turn call blockers.items }
+        ensures beside { self.new.beside ≡ self.old.beside }
+        ensures others { self.new.spare ≡ record self.old.spare { pending = self.new.spare.pending; blockers = self.new.spare.blockers } }
+        ensures left { self.old.spare.pending ≤ self.new.spare.pending + 1 }
+        ensures places_left { self.old.spare.blockers ≤ self.new.spare.blockers + length blockers.items }
+    {
+        self.pending.pend(turn, call, blockers);
+    }
+
+    /// The call that is held under this turn is held by these blockers instead. There has to be one of
+    /// them at least, and each of them has to be there.
+    pub fn hold_anew(&mut self, turn: u64, blockers: BlockerList)
+        requires places { length blockers.items ≤ self.old.spare.blockers }
+        requires some { (length blockers.items == 0) ≡ false }
+        requires living { All (λ blocker. IsTrue (blocker_lives self.old.content blocker)) blockers.items }
+        requires there { lives self.old.content.pending turn ≡ true }
+        requires held { ForSome (row_of self.old.content.pending turn) (λ row. IsTrue (is_held row)) }
+        ensures content { self.new.content ≡ with_blockers self.old.content turn blockers.items }
+        ensures beside { self.new.beside ≡ self.old.beside }
+        ensures others { self.new.spare ≡ record self.old.spare { blockers = self.new.spare.blockers } }
+        ensures places_left { self.old.spare.blockers ≤ self.new.spare.blockers + length blockers.items }
+    {
+        self.pending.hold_anew(turn, blockers);
     }
 
     /// How the call ended that is at this place in the order of ends, counted from 0; `None` exactly

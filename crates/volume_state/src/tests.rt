@@ -1,7 +1,7 @@
 //! Each call that takes memory, with ample memory; what is noted, from each ancestor; and locks that go
-//! with their handle.
+//! with their handle; and one call that is pending, and ends.
 
-ghost use Rattle.std.specs.Prelude.{ℕ, ◌≡◌, ◌≤◌, ◌<◌, ◌+◌, ◌-◌, ◌^◌, ◌==◌, ◌&&◌, IsTrue, IfOk, OnOk, All, None, true, false, length};
+ghost use Rattle.std.specs.Prelude.{ℕ, ◌≡◌, ◌≤◌, ◌<◌, ◌+◌, ◌-◌, ◌^◌, ◌==◌, ◌&&◌, [], IsTrue, IfOk, OnOk, All, None, true, false, length};
 ghost use Rattle.fsa_types.specs.Rows.{lives};
 ghost use Rattle.fsa_model.specs.Lookups.{child_of, is_directory, has_row};
 ghost use Rattle.fsa_model.specs.Sound.{LeadsUp};
@@ -9,7 +9,10 @@ ghost use Rattle.volume_state.specs.Steps.{directory};
 
 use crate::steps::{lock_ranges, make_file};
 use crate::volume::Volume;
-use fsa_types::{Bytes, Client, ClientList, Name, NoMemory, Setup, SidList, UpcaseTable};
+use fsa_types::{
+    BlockerList, Body, Bytes, Call, Client, ClientList, Name, NoMemory, Reply, Setup, SidList,
+    Status, UpcaseTable, What,
+};
 use std::alloc::Global;
 use std::test::Fail;
 use volume_rows::{FileRow, Need};
@@ -50,6 +53,7 @@ fn fresh_volume(alloc: Global) -> Result<Volume, NoMemory>
     ensures numbers { IfOk result (λ v. (v.content.last_file < 2 ^ 32 - 8) × (v.content.last_link < 2 ^ 32 - 8) × (v.content.last_stream < 2 ^ 32 - 8) × (v.content.last_handle < 2 ^ 32 - 8)) }
     ensures client { IfOk result (λ v. 0 < length v.content.clients) }
     ensures locks { IfOk result (λ v. v.content.last_lock < 2 ^ 32) }
+    ensures pending { IfOk result (λ v. v.content.pending ≡ []) }
 {
     let setup = setup(alloc)?;
     Volume::new(alloc, setup)
@@ -370,5 +374,38 @@ fn locks_go_with_their_handle(rt: HostRuntime) -> Result<(), Fail> {
     let mut volume = fresh_volume(rt.alloc())?;
     let gone = close_with_locks(rt.alloc(), &mut volume)?;
     assert!(rt; gone);
+    Ok(())
+}
+
+// Makes a call pending that nothing blocks, and ends it; whether it is found under its turn until then.
+fn pend_and_end(alloc: Global, volume: &mut Volume) -> Result<bool, NoMemory>
+    requires client { 0 < length volume.old.content.clients }
+    requires none { volume.old.content.pending ≡ [] }
+{
+    volume.reserve(&Need {
+        pending: 1,
+        ends: 1,
+        ..Need::nothing()
+    })?;
+    let call = Call {
+        client: 0,
+        number: 2,
+        what: What::WaitFor(1),
+    };
+    volume.pend(3, call, BlockerList::with_room(alloc, 0)?);
+    let found = volume.pending_turn(0, 2) == Some(3) && volume.next_held().is_none();
+    let reply = Reply {
+        status: Status::Cancelled,
+        body: Body::Nothing,
+    };
+    volume.end(0, 2, reply);
+    Ok(found && volume.pending_turn(0, 2).is_none())
+}
+
+#[test]
+fn a_call_is_pending_until_it_ends(rt: HostRuntime) -> Result<(), Fail> {
+    let mut volume = fresh_volume(rt.alloc())?;
+    let ended = pend_and_end(rt.alloc(), &mut volume)?;
+    assert!(rt; ended);
     Ok(())
 }

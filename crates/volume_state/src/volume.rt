@@ -13,13 +13,14 @@ use fsa_types::{Client, ClientList, EndOf, NoMemory, Setup, UpcaseTable};
 use object_tables::{Series, Table};
 use std::alloc::{AllocError, Global};
 use std::marker::Model;
-use volume_breaks::{Oplocks, SpareList};
-use volume_rows::{Changes, FileRow, Need, PendingRow, StreamRow, WatchRow};
+use volume_breaks::{Oplocks, PendingCalls, SpareList};
+use volume_rows::{Changes, FileRow, Need, StreamRow, WatchRow};
 use volume_tables::{HandleTable, LinkTable};
 
 /// A volume: its case table and clients, its files, links, streams and handles, the locks, oplocks and
 /// watches of handles, its changes, the calls that are pending and those that have ended, and the limits of
-/// owners. It is always sound.
+/// owners. It is always sound, and its queue holds the calls that wait for breaks and locks, each with those
+/// that are still there.
 pub struct Volume {
     pub(crate) alloc: Global,
     pub(crate) table: UpcaseTable,
@@ -33,7 +34,7 @@ pub struct Volume {
     pub(crate) left: Vec<bool>,
     pub(crate) clock: u64,
     pub(crate) oplocks: Oplocks,
-    pub(crate) pending: SpareList<(u64, PendingRow)>,
+    pub(crate) pending: PendingCalls,
     pub(crate) watches: SpareList<WatchRow>,
     pub(crate) limits: SpareList<(u32, u64)>,
 }
@@ -44,11 +45,13 @@ impl Model for Volume {
 
     ghost Value = { Seen };
 
+    ghost use Rattle.volume_breaks.specs.Calls.{AreHeld};
+    ghost use Rattle.volume_state.specs.Held.{is_there};
     ghost use Rattle.volume_state.specs.Inside.{content_of, beside_of, spare_of};
 
     ghost view = { λ v. record { content = content_of v; beside = beside_of v; spare = spare_of v } };
 
-    ghost invariant = { λ v. IsSound (content_of v) };
+    ghost invariant = { λ v. IsSound (content_of v) × AreHeld (is_there v.oplocks.rows v.handles.locks) v.pending };
 }
 
 // One drop of the whole, so that a function that holds a volume has one step for it at each of its ends.
@@ -102,7 +105,7 @@ impl Volume {
             left,
             clock: 0,
             oplocks: Oplocks::new(alloc),
-            pending: SpareList::new(alloc),
+            pending: PendingCalls::new(alloc),
             watches: SpareList::new(alloc),
             limits: SpareList::new(alloc),
         })
@@ -126,7 +129,8 @@ impl Volume {
         let (units, dirs) = (need.units as usize, need.dirs as usize);
         self.changes.reserve(need.changes as usize, units, dirs)?;
         self.oplocks.reserve(need.oplocks)?;
-        self.pending.reserve(need.pending as usize)?;
+        let (calls, blockers) = (need.pending as usize, need.blockers as usize);
+        self.pending.reserve(calls, blockers)?;
         self.watches.reserve(need.watches as usize)?;
         self.limits.reserve(need.limits as usize)?;
         Ok(())

@@ -1,6 +1,6 @@
 //! The handles of a volume with the byte-range locks that they hold.
 
-ghost use Rattle.std.specs.Prelude.{ℕ, ◌≡◌, ◌≤◌, ◌<◌, ◌+◌, ◌^◌, ◌++◌, ◌∷◌, [], ◌==◌, not, false, Some, is_some, IsSome, IfSome, IfNone, OnOk, filter};
+ghost use Rattle.std.specs.Prelude.{ℕ, ◌≡◌, ◌≤◌, ◌<◌, ◌+◌, ◌^◌, ◌++◌, ◌∷◌, [], ◌==◌, not, false, Some, IsSome, IfSome, IfNone, OnOk, filter};
 ghost use Rattle.std.specs.Option.{option_copied, option_map_or, ForSome};
 ghost use Rattle.fsa_types.specs.Rows.{row_of, without_row, IsNumbered};
 ghost use Rattle.fsa_model.specs.Edits.{is_lock_on};
@@ -182,19 +182,26 @@ impl HandleTable {
         id
     }
 
-    /// Takes the first lock of this handle on exactly this range out, and tells whether there was one.
-    /// It takes no memory, and leaves the room for locks as it was.
-    pub fn remove_lock(&mut self, handle: u64, at: u64, count: u64) -> bool
+    /// All locks with their numbers, in the order in which they were granted.
+    pub fn locks(&self) -> &[(u64, LockRow)]
+        ensures rows { result.now ≡ self.now.locks }
+    {
+        self.locks.as_slice()
+    }
+
+    /// Takes the first lock of this handle on exactly this range out, and gives its number; `None`
+    /// exactly where there is none. It takes no memory, and leaves the room for locks as it was.
+    pub fn remove_lock(&mut self, handle: u64, at: u64, count: u64) -> Option<u64>
         ensures locks { self.new ≡ record self.old { locks = option_map_or (λ number. without_row self.old.locks number) (number_of (is_lock_on handle at count) self.old.locks) self.old.locks } }
-        ensures found { result ≡ is_some (number_of (is_lock_on handle at count) self.old.locks) }
+        ensures number { result ≡ number_of (is_lock_on handle at count) self.old.locks }
     {
         let Some(id) = find_lock(self.locks.as_slice(), handle, at, count) else {
-            return false;
+            return None;
         };
         let _ = self.locks.remove(id);
         let stream = stream_of(&self.table, handle);
         remove_range(&mut self.ranges, stream, handle, at, count);
-        true
+        Some(id)
     }
 }
 

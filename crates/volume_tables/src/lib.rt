@@ -32,3 +32,4 @@ mod tests;
 
 pub use handle_table::HandleTable;
 pub use link_table::LinkTable;
+pub use lock_row::LockRow;

@@ -63,7 +63,8 @@ fn lock_and_unlock(handles: &mut HandleTable, handle: u64) -> Result<bool, NoMem
     let granted = locks.conflict(Want::Read, other, 9, 1) == Some(exclusive)
         && locks.conflict(Want::Write, other, 24, 1) == Some(shared)
         && locks.conflict(Want::Read, other, 10, 15).is_none();
-    let gone = !handles.remove_lock(handle, 0, 9) && handles.remove_lock(handle, 0, 10);
+    let gone = handles.remove_lock(handle, 0, 9).is_none()
+        && handles.remove_lock(handle, 0, 10).is_some();
     let left = handles.locks_of(STREAM);
     Ok(granted && gone && left.len() == 1 && handles.locks_of(STREAM + 1).is_empty())
 }

@@ -59,7 +59,8 @@ loop-place-preserved c =
           subst (λ (held : OplockState). IsCopy held.oplocks (get_or chosen k d)) (sym c.break_one.ensures.oplocks)
           (IsCopy-effect (effect_on c.args.class c.chosen_at-oplock.result) c.chosen_at-oplock.result.handle (state_of c.loop-place.oplocks) (get_or chosen k d) (c.loop-place.invariant.copies k d within));
       numbers = (let one = c.break_one.ensures.numbers in let before = c.loop-place.invariant.numbers in omega arith);
-      room = c.break_one.ensures.room ∙ c.loop-place.invariant.room;
+      held = λ alive were. c.break_one.ensures.held alive (c.loop-place.invariant.held alive were);
+      room = (c.break_one.ensures.room.0 ∙ c.loop-place.invariant.room.0, c.break_one.ensures.room.1 ∙ c.loop-place.invariant.room.1);
       left =
           (let counted = count-more tells chosen c.loop-place.place c.chosen_at-oplock.result within read in
           let one = c.break_one.ensures.left in

@@ -7,20 +7,22 @@ use Rattle.volume_state.proofs.OpenLaws.{is_directory-push, next-not_root, next-
 use Rattle.volume_state.proofs.volume.Volume.add_file.Goals as goal
 
 pub invariant_of-self : goal.invariant_of-self
-invariant_of-self c =
-    rw (c.in-Ok.ensures.rows, c.in-Ok.ensures.last)
-    (IsSound-with_file (content_of c.self.inside) c.args.file c.self.invariant (rw (← c.self.view_is) at c.requires.ids_left) c.requires.point)
+invariant_of-self c = (
+  (rw (c.in-Ok.ensures.rows, c.in-Ok.ensures.last)
+      (IsSound-with_file (content_of c.self.inside) c.args.file c.self.invariant.0 (rw (← c.self.view_is) at c.requires.ids_left) c.requires.point)),
+  c.self.invariant.1,
+)
 
 pub returns-clause-not_root : goal.returns-clause-not_root
-returns-clause-not_root c = rw c.in-Ok.ensures.id (next-not_root (content_of c.self.inside) c.self.invariant)
+returns-clause-not_root c = rw c.in-Ok.ensures.id (next-not_root (content_of c.self.inside) c.self.invariant.0)
 
 pub returns-clause-directory : goal.returns-clause-directory
-returns-clause-directory c = rw (c.in-Ok.ensures.id, c.in-Ok.ensures.rows) (is_directory-push c.self.inside.files.rows c.self.inside.files.last c.args.file c.self.invariant.files_numbered.given)
+returns-clause-directory c = rw (c.in-Ok.ensures.id, c.in-Ok.ensures.rows) (is_directory-push c.self.inside.files.rows c.self.inside.files.last c.args.file c.self.invariant.0.files_numbered.given)
 
 pub returns-clause-unlinked : goal.returns-clause-unlinked
-returns-clause-unlinked c = rw c.in-Ok.ensures.id (next-unlinked (content_of c.self.inside) c.self.invariant)
+returns-clause-unlinked c = rw c.in-Ok.ensures.id (next-unlinked (content_of c.self.inside) c.self.invariant.0)
 
 pub returns-clause-no_stream : goal.returns-clause-no_stream
 returns-clause-no_stream c =
     rw c.in-Ok.ensures.id (λ name. number-none (is_stream_named c.self.inside.table (c.self.inside.files.last + 1) name) (content_of c.self.inside).streams
-    (λ k d within. and_left _ _ (next-no_stream (content_of c.self.inside) c.self.invariant k d within)))
+    (λ k d within. and_left _ _ (next-no_stream (content_of c.self.inside) c.self.invariant.0 k d within)))

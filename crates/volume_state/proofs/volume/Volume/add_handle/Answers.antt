@@ -3,8 +3,10 @@ use Rattle.volume_state.specs.Inside.{content_of}
 use Rattle.volume_state.proofs.volume.Volume.add_handle.Goals as goal
 
 pub invariant_of-self : goal.invariant_of-self
-invariant_of-self c =
-    rw c.add.ensures.rows
-    (IsSound-with_handle (content_of c.self.inside) c.args.row c.self.invariant
-    (rw (← c.self.view_is) at c.requires.ids_left) (rw (← c.self.view_is) at c.requires.living) (rw (← c.self.view_is) at c.requires.stream)
-    (rw (← c.self.view_is) at c.requires.new) (rw (← c.self.view_is) at c.requires.client))
+invariant_of-self c = (
+  (rw c.add.ensures.rows
+      (IsSound-with_handle (content_of c.self.inside) c.args.row c.self.invariant.0
+      (rw (← c.self.view_is) at c.requires.ids_left) (rw (← c.self.view_is) at c.requires.living) (rw (← c.self.view_is) at c.requires.stream)
+      (rw (← c.self.view_is) at c.requires.new) (rw (← c.self.view_is) at c.requires.client))),
+  rw c.add.ensures.rows c.self.invariant.1,
+)

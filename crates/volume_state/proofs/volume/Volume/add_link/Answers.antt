@@ -10,23 +10,25 @@ use Rattle.volume_state.proofs.OpenLaws.{any-last}
 use Rattle.volume_state.proofs.volume.Volume.add_link.Goals as goal
 
 pub invariant_of-self : goal.invariant_of-self
-invariant_of-self c =
-    rw (c.add.ensures.rows, c.add.ensures.last)
-    (IsSound-with_link (content_of c.self.inside) c.args.parent c.args.name c.args.file c.self.invariant
-    (rw (← c.self.view_is) at c.requires.ids_left) (rw (← c.self.view_is) at c.requires.parent) (rw (← c.self.view_is) at c.requires.leads)
-    (rw (← c.self.view_is) at c.requires.unmarked) (rw (← c.self.view_is) at c.requires.file) c.requires.not_root
-    (rw (← c.self.view_is) at c.requires.one_link) (rw (← c.self.view_is) at c.requires.new))
+invariant_of-self c = (
+  (rw (c.add.ensures.rows, c.add.ensures.last)
+      (IsSound-with_link (content_of c.self.inside) c.args.parent c.args.name c.args.file c.self.invariant.0
+      (rw (← c.self.view_is) at c.requires.ids_left) (rw (← c.self.view_is) at c.requires.parent) (rw (← c.self.view_is) at c.requires.leads)
+      (rw (← c.self.view_is) at c.requires.unmarked) (rw (← c.self.view_is) at c.requires.file) c.requires.not_root
+      (rw (← c.self.view_is) at c.requires.one_link) (rw (← c.self.view_is) at c.requires.new))),
+  c.self.invariant.1,
+)
 
 pub returns-clause-row : goal.returns-clause-row
-returns-clause-row c = rw (c.add.ensures.id, c.add.ensures.rows) (row_of-push c.self.inside.links.rows c.self.inside.links.last _ c.self.invariant.links_numbered.given)
+returns-clause-row c = rw (c.add.ensures.id, c.add.ensures.rows) (row_of-push c.self.inside.links.rows c.self.inside.links.last _ c.self.invariant.0.links_numbered.given)
 
 pub returns-clause-units : goal.returns-clause-units
 returns-clause-units c =
-    rw (← c.self.view_is, c.add.ensures.id, c.add.ensures.rows) (λ stream. units_noted-new (content_of c.self.inside) c.args.parent c.args.name c.args.file stream c.self.invariant (rw (← c.self.view_is) at c.requires.leads) c.requires.not_root)
+    rw (← c.self.view_is, c.add.ensures.id, c.add.ensures.rows) (λ stream. units_noted-new (content_of c.self.inside) c.args.parent c.args.name c.args.file stream c.self.invariant.0 (rw (← c.self.view_is) at c.requires.leads) c.requires.not_root)
 
 pub returns-clause-dirs : goal.returns-clause-dirs
 returns-clause-dirs c =
-    rw (← c.self.view_is, c.add.ensures.id, c.add.ensures.rows) (λ stream. dirs_noted-new (content_of c.self.inside) c.args.parent c.args.name c.args.file stream c.self.invariant (rw (← c.self.view_is) at c.requires.leads) c.requires.not_root)
+    rw (← c.self.view_is, c.add.ensures.id, c.add.ensures.rows) (λ stream. dirs_noted-new (content_of c.self.inside) c.args.parent c.args.name c.args.file stream c.self.invariant.0 (rw (← c.self.view_is) at c.requires.leads) c.requires.not_root)
 
 pub returns-clause-directory : goal.returns-clause-directory
 returns-clause-directory c =

@@ -7,11 +7,13 @@ use Rattle.volume_state.proofs.StreamLemmas.{row_of-before, rooms-same}
 use Rattle.volume_state.proofs.volume.Volume.add_stream.Goals as goal
 
 pub invariant_of-self : goal.invariant_of-self
-invariant_of-self c =
-    rw (c.in-Ok.ensures.rows, c.in-Ok.ensures.last, map-append, c.new-bytes.ensures.items)
-    (IsSound-with_stream (content_of c.self.inside) c.args.file c.args.name c.self.invariant
-    (rw (← c.self.view_is) at c.requires.ids_left) (rw (← c.self.view_is) at c.requires.file)
-    (rw (← c.self.view_is) at c.requires.no_directory) (rw (← c.self.view_is) at c.requires.new))
+invariant_of-self c = (
+  (rw (c.in-Ok.ensures.rows, c.in-Ok.ensures.last, map-append, c.new-bytes.ensures.items)
+      (IsSound-with_stream (content_of c.self.inside) c.args.file c.args.name c.self.invariant.0
+      (rw (← c.self.view_is) at c.requires.ids_left) (rw (← c.self.view_is) at c.requires.file)
+      (rw (← c.self.view_is) at c.requires.no_directory) (rw (← c.self.view_is) at c.requires.new))),
+  c.self.invariant.1,
+)
 
 pub returns-clause-named : goal.returns-clause-named
 returns-clause-named c =
@@ -19,7 +21,7 @@ returns-clause-named c =
 
 pub returns-clause-units : goal.returns-clause-units
 returns-clause-units c =
-    rw (← c.self.view_is, c.in-Ok.ensures.id, c.in-Ok.ensures.rows, map-append, c.new-bytes.ensures.items) (λ link. units_noted-stream (content_of c.self.inside) c.args.file c.args.name link c.self.invariant)
+    rw (← c.self.view_is, c.in-Ok.ensures.id, c.in-Ok.ensures.rows, map-append, c.new-bytes.ensures.items) (λ link. units_noted-stream (content_of c.self.inside) c.args.file c.args.name link c.self.invariant.0)
 
 pub returns-clause-dirs : goal.returns-clause-dirs
 returns-clause-dirs c =

@@ -6,9 +6,11 @@ use Rattle.fsa_model.specs.Sound.{IsSound}
 use Rattle.fsa_model.specs.Volume.{Oplock, Volume}
 use Rattle.fsa_model.proofs.BreakLaws.{IsSound-with_breaks, chosen-few, with_breaks-few, with_breaks-numbers}
 use Rattle.volume_breaks.specs.Breaks.{with_held}
+use Rattle.volume_state.specs.Held.{is_there}
 use Rattle.volume_state.specs.Inside.{content_of}
 use Rattle.volume_breaks.specs.Oplocks.{Held}
 use Rattle.volume_state.specs.Seen.{Seen}
+use Rattle.volume_state.proofs.ThereLaws.{held-with_breaks}
 use Rattle.volume_state.proofs.volume.Volume.begin.Goals as goal
 
 pub break_chosen-requires-clause-room : goal.break_chosen-requires-clause-room
@@ -23,13 +25,13 @@ break_chosen-requires-clause-numbers c =
 pub break_chosen-requires-clause-sound : goal.break_chosen-requires-clause-sound
 break_chosen-requires-clause-sound c =
     let v : Volume = content_of c.self.inside in
-    let are = chosen-are (is_broken_before v) (is_chosen v c.args.handles c.args.handle c.args.key) v.oplocks v.last_break c.self.invariant.oplocks in
+    let are = chosen-are (is_broken_before v) (is_chosen v c.args.handles c.args.handle c.args.key) v.oplocks v.last_break c.self.invariant.0.oplocks in
     rw c.choose.ensures are.0
 
 pub break_chosen-requires-clause-copies : goal.break_chosen-requires-clause-copies
 break_chosen-requires-clause-copies c =
     let v : Volume = content_of c.self.inside in
-    let are = chosen-are (is_broken_before v) (is_chosen v c.args.handles c.args.handle c.args.key) v.oplocks v.last_break c.self.invariant.oplocks in
+    let are = chosen-are (is_broken_before v) (is_chosen v c.args.handles c.args.handle c.args.key) v.oplocks v.last_break c.self.invariant.0.oplocks in
     rw c.choose.ensures are.1
 
 pub invariant_of-self : goal.invariant_of-self
@@ -38,7 +40,12 @@ invariant_of-self c =
     let broken : with_held v c.break_chosen.new.oplocks.rows c.break_chosen.new.oplocks.last c.break_chosen.new.pending.items c.break_chosen.new.ended.items
     ≡ with_breaks v c.args.handles c.args.class c.args.handle c.args.key = rw c.choose.ensures at (c.break_chosen.ensures.done v) in
     let numbers = rw (← c.self.view_is) at c.requires.numbers in
-    rw c.await_breaks.ensures.waited (subst IsSound (sym broken) (IsSound-with_breaks v c.args.handles c.args.class c.args.handle c.args.key (omega arith) c.self.invariant))
+    let after : c.break_chosen.new.oplocks.rows ≡ (with_breaks v c.args.handles c.args.class c.args.handle c.args.key).oplocks = ap (λ (w : Volume). w.oplocks) broken in (
+      rw c.await_breaks.ensures.waited (subst IsSound (sym broken) (IsSound-with_breaks v c.args.handles c.args.class c.args.handle c.args.key (omega arith) c.self.invariant.0)),
+      rw (c.await_breaks.ensures.waited, after) (
+          c.break_chosen.ensures.held (is_there (with_breaks v c.args.handles c.args.class c.args.handle c.args.key).oplocks v.locks)
+          (held-with_breaks v c.args.handles c.args.class c.args.handle c.args.key c.self.inside.pending c.self.invariant.0.oplocks c.self.invariant.0.blockers_given c.self.invariant.1)),
+    )
 
 pub returns-clause-content : goal.returns-clause-content
 returns-clause-content c =
@@ -79,7 +86,7 @@ pub returns-clause-others : goal.returns-clause-others
 returns-clause-others c =
     let room : c.await_breaks.new.self.room ≡ c.self.inside.oplocks.room
     = ap (λ (held : Held). held.room) c.await_breaks.ensures.waited ∙ ap (λ (held : Held). held.room) c.break_chosen.ensures.others ∙ ap (λ (held : Held). held.room) c.choose.ensures in
-    rw (← c.self.view_is, room, c.break_chosen.ensures.room)
+    rw (← c.self.view_is, room, c.break_chosen.ensures.room.0, c.break_chosen.ensures.room.1)
 
 pub returns-clause-left : goal.returns-clause-left
 returns-clause-left c = rw (← c.self.view_is) (rw c.choose.ensures at c.break_chosen.ensures.left)

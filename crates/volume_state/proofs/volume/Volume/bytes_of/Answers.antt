@@ -15,5 +15,5 @@ returns-clause-bytes c = rw (← c.self.view_is, row_of-map (λ kept. kept.strea
 
 pub returns-clause-few : goal.returns-clause-few
 returns-clause-few c =
-    let few = found-all (λ (stream : Stream). length stream.bytes ≤ 2 ^ 26) (streams_in c.self.inside.streams.rows) c.args.stream c.self.invariant.streams_fit in
+    let few = found-all (λ (stream : Stream). length stream.bytes ≤ 2 ^ 26) (streams_in c.self.inside.streams.rows) c.args.stream c.self.invariant.0.streams_fit in
     rw c.bytes.ensures (rw (row_of-map (λ kept. kept.stream) c.self.inside.streams.rows c.args.stream, ← c.in-Some.ensures) at few)

@@ -5,7 +5,7 @@ use Rattle.volume_state.proofs.volume.Volume.charge_of_file.Goals as goal
 
 pub sum_of_file-requires : goal.sum_of_file-requires
 sum_of_file-requires c = record {
-  fits = rw c.as_slice.ensures.rows (charges-fit c.self.inside.streams.rows c.self.inside.streams.last c.as_slice.ensures.numbered c.self.invariant.bounded.streams c.self.invariant.streams_fit);
+  fits = rw c.as_slice.ensures.rows (charges-fit c.self.inside.streams.rows c.self.inside.streams.last c.as_slice.ensures.numbered c.self.invariant.0.bounded.streams c.self.invariant.0.streams_fit);
 }
 
 pub returns : goal.returns

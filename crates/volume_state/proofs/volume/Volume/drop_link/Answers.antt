@@ -16,9 +16,11 @@ use Rattle.volume_state.proofs.volume.Volume.drop_link.Goals as goal
 
 -- nothing is taken out
 pub invariant_of-self : goal.invariant_of-self
-invariant_of-self c =
-    let none = sym c.in_default.ensures.row in
-    rw (c.in_default.ensures.rows, c.in_default.ensures.last, without_row-none c.self.inside.links.rows c.args.link none) c.self.invariant
+invariant_of-self c = (
+  (let none = sym c.in_default.ensures.row in
+      rw (c.in_default.ensures.rows, c.in_default.ensures.last, without_row-none c.self.inside.links.rows c.args.link none) c.self.invariant.0),
+  c.self.invariant.1,
+)
 
 pub returns-in_default-clause-content : goal.returns-in_default-clause-content
 returns-in_default-clause-content c =
@@ -45,33 +47,37 @@ returns-then-not-has_link-clause-content c =
     (sym (without_link-last (content_of c.self.inside) c.args.link row found linked))
 
 pub invariant_of-self-then-not-has_link : goal.invariant_of-self-then-not-has_link
-invariant_of-self-then-not-has_link c =
-    let row : Link = record { parent = c.row.inside.parent; name = c.row.inside.name; file = c.row.inside.file; deleted = c.row.inside.deleted } in
-    let found : row_of c.self.inside.links.rows c.args.link ≡ Some row = sym (rw (← c.row.view_is) at c.in-Some.ensures.row) in
-    let linked : has_row (λ l. l.file == c.row.inside.file) (without_row c.self.inside.links.rows c.args.link) ≡ false
-    = rw (← c.in-Some.ensures.rows, ← c.as_slice.ensures.rows) (sym c.has_link.ensures ∙ c.if-not-has_link.true) in
-    rw (
-      c.in-Some.ensures.rows,
-      c.in-Some.ensures.last,
-      c.remove-then-not-has_link.ensures.rows,
-      c.remove-then-not-has_link.ensures.last,
-      c.drop_streams_of.ensures.rows,
-      c.drop_streams_of.ensures.last,
-      map-filter_seen (λ kept. kept.stream) (λ e. not (e.1.file == c.row.inside.file)) c.self.inside.streams.rows,
-    )
-    (subst IsSound (without_link-last (content_of c.self.inside) c.args.link row found linked)
-    (IsSound-without_link (content_of c.self.inside) c.args.link c.self.invariant (rw (← c.self.view_is) at c.requires.empty) (rw (← c.self.view_is) at c.requires.unopened)))
+invariant_of-self-then-not-has_link c = (
+  (let row : Link = record { parent = c.row.inside.parent; name = c.row.inside.name; file = c.row.inside.file; deleted = c.row.inside.deleted } in
+      let found : row_of c.self.inside.links.rows c.args.link ≡ Some row = sym (rw (← c.row.view_is) at c.in-Some.ensures.row) in
+      let linked : has_row (λ l. l.file == c.row.inside.file) (without_row c.self.inside.links.rows c.args.link) ≡ false
+      = rw (← c.in-Some.ensures.rows, ← c.as_slice.ensures.rows) (sym c.has_link.ensures ∙ c.if-not-has_link.true) in
+      rw (
+        c.in-Some.ensures.rows,
+        c.in-Some.ensures.last,
+        c.remove-then-not-has_link.ensures.rows,
+        c.remove-then-not-has_link.ensures.last,
+        c.drop_streams_of.ensures.rows,
+        c.drop_streams_of.ensures.last,
+        map-filter_seen (λ kept. kept.stream) (λ e. not (e.1.file == c.row.inside.file)) c.self.inside.streams.rows,
+      )
+      (subst IsSound (without_link-last (content_of c.self.inside) c.args.link row found linked)
+      (IsSound-without_link (content_of c.self.inside) c.args.link c.self.invariant.0 (rw (← c.self.view_is) at c.requires.empty) (rw (← c.self.view_is) at c.requires.unopened)))),
+  c.self.invariant.1,
+)
 
 -- another link
 pub invariant_of-self-else-not-has_link : goal.invariant_of-self-else-not-has_link
-invariant_of-self-else-not-has_link c =
-    let row : Link = record { parent = c.row.inside.parent; name = c.row.inside.name; file = c.row.inside.file; deleted = c.row.inside.deleted } in
-    let found : row_of c.self.inside.links.rows c.args.link ≡ Some row = sym (rw (← c.row.view_is) at c.in-Some.ensures.row) in
-    let linked : has_row (λ l. l.file == c.row.inside.file) (without_row c.self.inside.links.rows c.args.link) ≡ true
-    = rw (← c.in-Some.ensures.rows, ← c.as_slice.ensures.rows) (sym c.has_link.ensures ∙ c.if-not-has_link.false) in
-    rw (c.in-Some.ensures.rows, c.in-Some.ensures.last)
-    (subst IsSound (without_link-other (content_of c.self.inside) c.args.link row found linked)
-    (IsSound-without_link (content_of c.self.inside) c.args.link c.self.invariant (rw (← c.self.view_is) at c.requires.empty) (rw (← c.self.view_is) at c.requires.unopened)))
+invariant_of-self-else-not-has_link c = (
+  (let row : Link = record { parent = c.row.inside.parent; name = c.row.inside.name; file = c.row.inside.file; deleted = c.row.inside.deleted } in
+      let found : row_of c.self.inside.links.rows c.args.link ≡ Some row = sym (rw (← c.row.view_is) at c.in-Some.ensures.row) in
+      let linked : has_row (λ l. l.file == c.row.inside.file) (without_row c.self.inside.links.rows c.args.link) ≡ true
+      = rw (← c.in-Some.ensures.rows, ← c.as_slice.ensures.rows) (sym c.has_link.ensures ∙ c.if-not-has_link.false) in
+      rw (c.in-Some.ensures.rows, c.in-Some.ensures.last)
+      (subst IsSound (without_link-other (content_of c.self.inside) c.args.link row found linked)
+      (IsSound-without_link (content_of c.self.inside) c.args.link c.self.invariant.0 (rw (← c.self.view_is) at c.requires.empty) (rw (← c.self.view_is) at c.requires.unopened)))),
+  c.self.invariant.1,
+)
 
 pub returns-clause-content : goal.returns-clause-content
 returns-clause-content c =
@@ -85,30 +91,30 @@ returns-clause-content c =
 pub returns-then-not-has_link-clause-bytes_kept : goal.returns-then-not-has_link-clause-bytes_kept
 returns-then-not-has_link-clause-bytes_kept c =
     rw (← c.self.view_is) (λ stream living. rooms-same c.self.inside.streams.rows c.drop_streams_of.new.streams.rows stream
-    (rw c.drop_streams_of.ensures.rows (row_of-filter (λ entry. not (entry.1.stream.file == c.row.inside.file)) c.self.inside.streams.rows stream (AreRising-seen (λ kept. kept.stream) c.self.inside.streams.rows c.self.invariant.streams_numbered.rising)
+    (rw c.drop_streams_of.ensures.rows (row_of-filter (λ entry. not (entry.1.stream.file == c.row.inside.file)) c.self.inside.streams.rows stream (AreRising-seen (λ kept. kept.stream) c.self.inside.streams.rows c.self.invariant.0.streams_numbered.rising)
     (rw (← c.drop_streams_of.ensures.rows) (sym (lives-map (λ kept. kept.stream) c.drop_streams_of.new.streams.rows stream) ∙ living)))))
 
 -- what a note takes
 pub returns-in_default-clause-units : goal.returns-in_default-clause-units
 returns-in_default-clause-units c =
-    units_noted-without_link c.args.self.now.content c.args.link (subst (λ (s : Seen). IsSound s.content) c.self.view_is c.self.invariant) _ (returns-in_default-clause-content c)
+    units_noted-without_link c.args.self.now.content c.args.link (subst (λ (s : Seen). IsSound s.content) c.self.view_is c.self.invariant.0) _ (returns-in_default-clause-content c)
 
 pub returns-in_default-clause-dirs : goal.returns-in_default-clause-dirs
 returns-in_default-clause-dirs c =
-    dirs_noted-without_link c.args.self.now.content c.args.link (subst (λ (s : Seen). IsSound s.content) c.self.view_is c.self.invariant) _ (returns-in_default-clause-content c)
+    dirs_noted-without_link c.args.self.now.content c.args.link (subst (λ (s : Seen). IsSound s.content) c.self.view_is c.self.invariant.0) _ (returns-in_default-clause-content c)
 
 pub returns-then-not-has_link-clause-units : goal.returns-then-not-has_link-clause-units
 returns-then-not-has_link-clause-units c =
-    units_noted-without_link c.args.self.now.content c.args.link (subst (λ (s : Seen). IsSound s.content) c.self.view_is c.self.invariant) _ (returns-then-not-has_link-clause-content c)
+    units_noted-without_link c.args.self.now.content c.args.link (subst (λ (s : Seen). IsSound s.content) c.self.view_is c.self.invariant.0) _ (returns-then-not-has_link-clause-content c)
 
 pub returns-then-not-has_link-clause-dirs : goal.returns-then-not-has_link-clause-dirs
 returns-then-not-has_link-clause-dirs c =
-    dirs_noted-without_link c.args.self.now.content c.args.link (subst (λ (s : Seen). IsSound s.content) c.self.view_is c.self.invariant) _ (returns-then-not-has_link-clause-content c)
+    dirs_noted-without_link c.args.self.now.content c.args.link (subst (λ (s : Seen). IsSound s.content) c.self.view_is c.self.invariant.0) _ (returns-then-not-has_link-clause-content c)
 
 pub returns-clause-units : goal.returns-clause-units
 returns-clause-units c =
-    units_noted-without_link c.args.self.now.content c.args.link (subst (λ (s : Seen). IsSound s.content) c.self.view_is c.self.invariant) _ (returns-clause-content c)
+    units_noted-without_link c.args.self.now.content c.args.link (subst (λ (s : Seen). IsSound s.content) c.self.view_is c.self.invariant.0) _ (returns-clause-content c)
 
 pub returns-clause-dirs : goal.returns-clause-dirs
 returns-clause-dirs c =
-    dirs_noted-without_link c.args.self.now.content c.args.link (subst (λ (s : Seen). IsSound s.content) c.self.view_is c.self.invariant) _ (returns-clause-content c)
+    dirs_noted-without_link c.args.self.now.content c.args.link (subst (λ (s : Seen). IsSound s.content) c.self.view_is c.self.invariant.0) _ (returns-clause-content c)

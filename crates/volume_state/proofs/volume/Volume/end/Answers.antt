@@ -1,7 +1,10 @@
 use Rattle.fsa_model.proofs.BreakLaws.{IsSound-with_end}
+use Rattle.volume_state.specs.Held.{is_there}
 use Rattle.volume_state.specs.Inside.{content_of}
 use Rattle.volume_state.proofs.volume.Volume.end.Goals as goal
 
 pub invariant_of-self : goal.invariant_of-self
-invariant_of-self c =
-    rw (c.end_call.ensures.pending, c.end_call.ensures.ended) (IsSound-with_end (content_of c.self.inside) c.args.client c.args.number c.args.reply c.self.invariant)
+invariant_of-self c = (
+  rw (c.end_call.ensures.pending, c.end_call.ensures.ended) (IsSound-with_end (content_of c.self.inside) c.args.client c.args.number c.args.reply c.self.invariant.0),
+  c.end_call.ensures.held (is_there c.self.inside.oplocks.rows c.self.inside.handles.locks) c.self.invariant.1,
+)

@@ -11,4 +11,4 @@ returns-clause-lives c = rw (← c.self.view_is) (lent-lives c.self.inside.files
 pub returns-clause-directory : goal.returns-clause-directory
 returns-clause-directory c =
     let P : File → Type 0 = λ row. is_directory c.self.inside.files.rows c.args.id ≡ row.directory in
-    rw (← c.self.view_is) (lent-row P c.get.result _ c.get.ensures (only-row (λ file. file.directory) c.self.inside.files.rows c.args.id c.self.invariant.files_numbered.rising))
+    rw (← c.self.view_is) (lent-row P c.get.result _ c.get.ensures (only-row (λ file. file.directory) c.self.inside.files.rows c.args.id c.self.invariant.0.files_numbered.rising))

@@ -10,12 +10,12 @@ use Rattle.volume_state.proofs.volume.Volume.handle.Goals as goal
 pub returns-clause-living : goal.returns-clause-living
 returns-clause-living c =
     let P : Handle → Type 0 = λ row. is_of_living (content_of c.self.inside).links (content_of c.self.inside).streams row ≡ true in
-    rw (← c.self.view_is) (lent-row P c.get.result _ c.get.ensures (found-all P c.self.inside.handles.rows c.args.id c.self.invariant.opens.are_of_living))
+    rw (← c.self.view_is) (lent-row P c.get.result _ c.get.ensures (found-all P c.self.inside.handles.rows c.args.id c.self.invariant.0.opens.are_of_living))
 
 pub returns-clause-client : goal.returns-clause-client
 returns-clause-client c =
     let P : Handle → Type 0 = λ row. row.client < length (content_of c.self.inside).clients in
-    rw (← c.self.view_is) (lent-row P c.get.result _ c.get.ensures (found-all P c.self.inside.handles.rows c.args.id c.self.invariant.opens.have_clients))
+    rw (← c.self.view_is) (lent-row P c.get.result _ c.get.ensures (found-all P c.self.inside.handles.rows c.args.id c.self.invariant.0.opens.have_clients))
 
 pub returns-clause-lives : goal.returns-clause-lives
 returns-clause-lives c = rw (← c.self.view_is) (lent-lives c.self.inside.handles.rows c.args.id c.get.result c.get.ensures)
@@ -23,4 +23,4 @@ returns-clause-lives c = rw (← c.self.view_is) (lent-lives c.self.inside.handl
 pub returns-clause-stream : goal.returns-clause-stream
 returns-clause-stream c =
     let P : Handle → Type 0 = λ row. has_its_stream c.self.inside.files.rows c.self.inside.links.rows row ≡ true in
-    rw (← c.self.view_is) (lent-row P c.get.result _ c.get.ensures (found-all P c.self.inside.handles.rows c.args.id c.self.invariant.opens.have_streams))
+    rw (← c.self.view_is) (lent-row P c.get.result _ c.get.ensures (found-all P c.self.inside.handles.rows c.args.id c.self.invariant.0.opens.have_streams))

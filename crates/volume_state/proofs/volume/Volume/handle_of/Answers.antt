@@ -9,4 +9,4 @@ returns-clause-lives c = rw (← c.self.view_is, c.find_handle.ensures, c.as_sli
 pub returns-clause-opened : goal.returns-clause-opened
 returns-clause-opened c =
     rw (← c.self.view_is, c.find_handle.ensures, c.as_slice.ensures.rows)
-    (number-passes (is_opened_by c.args.client c.args.number) (is_opened_by c.args.client c.args.number) c.self.inside.handles.rows c.self.inside.handles.last c.self.invariant.handles_numbered (λ row passes. passes))
+    (number-passes (is_opened_by c.args.client c.args.number) (is_opened_by c.args.client c.args.number) c.self.inside.handles.rows c.self.inside.handles.last c.self.invariant.0.handles_numbered (λ row passes. passes))

@@ -10,7 +10,7 @@ overflow_cast-result c =
     let few : length c.self.inside.handles.rows ≤ c.self.inside.handles.last + 1
     = length-numbered c.self.inside.handles.rows c.self.inside.handles.last c.as_slice-handles.ensures.numbered in
     let same : length c.as_slice-handles.result.now ≡ length c.self.inside.handles.rows = ap length c.as_slice-handles.ensures.rows in
-    let bound = c.self.invariant.bounded.handles in
+    let bound = c.self.invariant.0.bounded.handles in
     let test : ℕ × Handle → Bool = λ entry. is_one_of c.as_slice-links.result.now c.args.on entry.1 in
     let count : c.count_on.result ≡ length (filter test c.as_slice-handles.result.now) = c.count_on.ensures in
     let kept : length (filter test c.as_slice-handles.result.now) ≤ length c.as_slice-handles.result.now = length-filter_le test c.as_slice-handles.result.now in

@@ -4,9 +4,11 @@ use Rattle.volume_state.proofs.MarkLaws.{units_noted-link_marked, dirs_noted-lin
 use Rattle.volume_state.proofs.volume.Volume.mark_link.Goals as goal
 
 pub invariant_of-self : goal.invariant_of-self
-invariant_of-self c =
-    rw (c.mark.ensures.rows, c.mark.ensures.last)
-    (IsSound-with_link_marked (content_of c.self.inside) c.args.link c.args.deleted c.self.invariant (rw (← c.self.view_is) at c.requires.empty))
+invariant_of-self c = (
+  (rw (c.mark.ensures.rows, c.mark.ensures.last)
+      (IsSound-with_link_marked (content_of c.self.inside) c.args.link c.args.deleted c.self.invariant.0 (rw (← c.self.view_is) at c.requires.empty))),
+  c.self.invariant.1,
+)
 
 pub returns-clause-units : goal.returns-clause-units
 returns-clause-units c = rw (← c.self.view_is, c.mark.ensures.rows) (λ other stream. units_noted-link_marked (content_of c.self.inside) c.args.link c.args.deleted other stream)

@@ -8,11 +8,13 @@ use Rattle.volume_state.proofs.MarkLaws.{units_noted-stream_marked, dirs_noted-s
 use Rattle.volume_state.proofs.volume.Volume.mark_stream.Goals as goal
 
 pub invariant_of-self : goal.invariant_of-self
-invariant_of-self c =
-    let change : Kept → Kept = λ row. record row { stream = record row.stream { deleted = c.args.deleted } } in
-    let seen : Stream → Stream = λ row. record row { deleted = c.args.deleted } in
-    rw (c.mark_stream.ensures.rows, c.mark_stream.ensures.last, map-change (λ kept. kept.stream) change seen c.self.inside.streams.rows c.args.stream (λ row. refl))
-    (IsSound-stream_changed (content_of c.self.inside) seen c.args.stream c.self.invariant (λ row. refl) (λ row. refl) (λ row fits. fits))
+invariant_of-self c = (
+  (let change : Kept → Kept = λ row. record row { stream = record row.stream { deleted = c.args.deleted } } in
+      let seen : Stream → Stream = λ row. record row { deleted = c.args.deleted } in
+      rw (c.mark_stream.ensures.rows, c.mark_stream.ensures.last, map-change (λ kept. kept.stream) change seen c.self.inside.streams.rows c.args.stream (λ row. refl))
+      (IsSound-stream_changed (content_of c.self.inside) seen c.args.stream c.self.invariant.0 (λ row. refl) (λ row. refl) (λ row fits. fits))),
+  c.self.invariant.1,
+)
 
 pub returns-clause-content : goal.returns-clause-content
 returns-clause-content c =

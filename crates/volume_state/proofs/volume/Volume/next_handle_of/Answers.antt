@@ -18,7 +18,7 @@ returns-clause-after c =
     let rows = c.self.inside.handles.rows in
     let is_next : Handle → Bool = λ handle. is_after c.args.client c.args.after handle && not (has_row (λ other. is_after c.args.client c.args.after other && nat_lt other.number handle.number) rows) in
     rw (← c.self.view_is, c.find_next.ensures, c.as_slice.ensures.rows)
-    (number-passes is_next (is_after c.args.client c.args.after) rows c.self.inside.handles.last c.self.invariant.handles_numbered (λ row passes. (and_parts _ _ passes).0))
+    (number-passes is_next (is_after c.args.client c.args.after) rows c.self.inside.handles.last c.self.invariant.0.handles_numbered (λ row passes. (and_parts _ _ passes).0))
 
 pub returns-clause-none : goal.returns-clause-none
 returns-clause-none c =
@@ -27,7 +27,7 @@ returns-clause-none c =
     rw (← c.self.view_is, c.find_next.ensures, c.as_slice.ensures.rows) (number-unfound is_next rows _ (λ none. no-least (λ (entry : ℕ × Handle). is_after c.args.client c.args.after entry.1) (λ entry. entry.1.number) rows none))
 
 pub returns-clause-numbers : goal.returns-clause-numbers
-returns-clause-numbers c = rw (← c.self.view_is) c.self.invariant.handles_numbered
+returns-clause-numbers c = rw (← c.self.view_is) c.self.invariant.0.handles_numbered
 
 pub returns-clause-differ : goal.returns-clause-differ
-returns-clause-differ c = rw (← c.self.view_is) c.self.invariant.opens.differ
+returns-clause-differ c = rw (← c.self.view_is) c.self.invariant.0.opens.differ

@@ -18,4 +18,4 @@ returns-clause-client c =
     rw (← c.self.view_is)
     (lent-row (λ (call : Call). call.client < length (content_of c.self.inside).clients) c.find_pending.result (option_map (λ (row : Pending). row.call) (row_of rows c.args.turn)) (rw c.as_slice.ensures at c.find_pending.ensures)
     (IfSome-map (λ (call : Call). call.client < length (content_of c.self.inside).clients) (λ (row : Pending). row.call) (row_of rows c.args.turn)
-    (found-all (λ (row : Pending). row.call.client < length (content_of c.self.inside).clients) rows c.args.turn c.self.invariant.pending.have_clients)))
+    (found-all (λ (row : Pending). row.call.client < length (content_of c.self.inside).clients) rows c.args.turn c.self.invariant.0.pending.have_clients)))

@@ -15,10 +15,12 @@ put_in-requires c =
     (room-down (λ room. (room.from ≤ c.args.at) × (c.args.at + length c.args.bytes.now ≤ room.to)) c.self.inside.streams.rows c.args.stream (rw (← c.self.view_is) at c.requires.room))
 
 pub invariant_of-self : goal.invariant_of-self
-invariant_of-self c =
-    rw (c.put_in.ensures.rows, c.put_in.ensures.last)
-    (IsSound-stream_changed (content_of c.self.inside) (λ row. record row { bytes = put row.bytes c.args.at c.args.bytes.now }) c.args.stream c.self.invariant
-    (λ row. refl) (λ row. refl) (λ row fits. length-put_le row.bytes c.args.at c.args.bytes.now _ fits c.requires.fits))
+invariant_of-self c = (
+  (rw (c.put_in.ensures.rows, c.put_in.ensures.last)
+      (IsSound-stream_changed (content_of c.self.inside) (λ row. record row { bytes = put row.bytes c.args.at c.args.bytes.now }) c.args.stream c.self.invariant.0
+      (λ row. refl) (λ row. refl) (λ row fits. length-put_le row.bytes c.args.at c.args.bytes.now _ fits c.requires.fits))),
+  c.self.invariant.1,
+)
 
 pub returns-clause-bytes : goal.returns-clause-bytes
 returns-clause-bytes c =

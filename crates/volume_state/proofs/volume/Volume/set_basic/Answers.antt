@@ -4,8 +4,10 @@ use Rattle.volume_state.specs.Inside.{content_of}
 use Rattle.volume_state.proofs.volume.Volume.set_basic.Goals as goal
 
 pub invariant_of-self : goal.invariant_of-self
-invariant_of-self c =
-    rw (c.set_basic.ensures.rows, c.set_basic.ensures.last)
-    (IsSound-file_changed (content_of c.self.inside)
-    (λ row. record row { creation = c.args.creation; access = c.args.access; write = c.args.write; change = c.args.change; attributes = c.args.attributes })
-    c.args.file c.self.invariant (λ row. refl) (λ row fits. fits))
+invariant_of-self c = (
+  (rw (c.set_basic.ensures.rows, c.set_basic.ensures.last)
+      (IsSound-file_changed (content_of c.self.inside)
+      (λ row. record row { creation = c.args.creation; access = c.args.access; write = c.args.write; change = c.args.change; attributes = c.args.attributes })
+      c.args.file c.self.invariant.0 (λ row. refl) (λ row fits. fits))),
+  c.self.invariant.1,
+)

@@ -5,6 +5,8 @@ use Rattle.volume_state.specs.Inside.{content_of}
 use Rattle.volume_state.proofs.volume.Volume.set_dacl.Goals as goal
 
 pub invariant_of-self : goal.invariant_of-self
-invariant_of-self c =
-    rw (c.set_dacl.ensures.rows, c.set_dacl.ensures.last)
-    (IsSound-file_changed (content_of c.self.inside) (λ row. record row { dacl = option_map (λ list. list.items) c.args.dacl }) c.args.file c.self.invariant (λ row. refl) (λ row fits. fits))
+invariant_of-self c = (
+  (rw (c.set_dacl.ensures.rows, c.set_dacl.ensures.last)
+      (IsSound-file_changed (content_of c.self.inside) (λ row. record row { dacl = option_map (λ list. list.items) c.args.dacl }) c.args.file c.self.invariant.0 (λ row. refl) (λ row fits. fits))),
+  c.self.invariant.1,
+)

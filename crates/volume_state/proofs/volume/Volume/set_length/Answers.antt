@@ -21,10 +21,12 @@ set_length_in-requires c =
     ]
 
 pub invariant_of-self : goal.invariant_of-self
-invariant_of-self c =
-    rw (c.set_length_in.ensures.rows, c.set_length_in.ensures.last)
-    (IsSound-stream_changed (content_of c.self.inside) (λ row. record row { bytes = cut row.bytes c.args.bytes }) c.args.stream c.self.invariant
-    (λ row. refl) (λ row. refl) (λ row fits. rw (length-cut row.bytes c.args.bytes) c.requires.fits))
+invariant_of-self c = (
+  (rw (c.set_length_in.ensures.rows, c.set_length_in.ensures.last)
+      (IsSound-stream_changed (content_of c.self.inside) (λ row. record row { bytes = cut row.bytes c.args.bytes }) c.args.stream c.self.invariant.0
+      (λ row. refl) (λ row. refl) (λ row fits. rw (length-cut row.bytes c.args.bytes) c.requires.fits))),
+  c.self.invariant.1,
+)
 
 pub returns-clause-bytes : goal.returns-clause-bytes
 returns-clause-bytes c =

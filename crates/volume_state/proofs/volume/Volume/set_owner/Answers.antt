@@ -4,6 +4,8 @@ use Rattle.volume_state.specs.Inside.{content_of}
 use Rattle.volume_state.proofs.volume.Volume.set_owner.Goals as goal
 
 pub invariant_of-self : goal.invariant_of-self
-invariant_of-self c =
-    rw (c.set_owner.ensures.rows, c.set_owner.ensures.last)
-    (IsSound-file_changed (content_of c.self.inside) (λ row. record row { owner = c.args.owner }) c.args.file c.self.invariant (λ row. refl) (λ row fits. fits))
+invariant_of-self c = (
+  (rw (c.set_owner.ensures.rows, c.set_owner.ensures.last)
+      (IsSound-file_changed (content_of c.self.inside) (λ row. record row { owner = c.args.owner }) c.args.file c.self.invariant.0 (λ row. refl) (λ row fits. fits))),
+  c.self.invariant.1,
+)

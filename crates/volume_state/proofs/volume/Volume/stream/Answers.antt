@@ -20,10 +20,10 @@ returns-in-Some-clause-info c =
 
 pub returns-in-Some-clause-file : goal.returns-in-Some-clause-file
 returns-in-Some-clause-file c =
-    let living = found-all (λ (stream : Stream). lives c.self.inside.files.rows stream.file ≡ true) (streams_in c.self.inside.streams.rows) c.args.id c.self.invariant.tree.stream_files_live in
+    let living = found-all (λ (stream : Stream). lives c.self.inside.files.rows stream.file ≡ true) (streams_in c.self.inside.streams.rows) c.args.id c.self.invariant.0.tree.stream_files_live in
     rw (← c.self.view_is, c.info.ensures) (rw (row_of-map (λ kept. kept.stream) c.self.inside.streams.rows c.args.id, ← c.in-Some.ensures) at living)
 
 pub returns-in-Some-clause-few : goal.returns-in-Some-clause-few
 returns-in-Some-clause-few c =
-    let few = found-all (λ (stream : Stream). length stream.bytes ≤ 2 ^ 26) (streams_in c.self.inside.streams.rows) c.args.id c.self.invariant.streams_fit in
+    let few = found-all (λ (stream : Stream). length stream.bytes ≤ 2 ^ 26) (streams_in c.self.inside.streams.rows) c.args.id c.self.invariant.0.streams_fit in
     rw c.info.ensures (rw (row_of-map (λ kept. kept.stream) c.self.inside.streams.rows c.args.id, ← c.in-Some.ensures) at few)

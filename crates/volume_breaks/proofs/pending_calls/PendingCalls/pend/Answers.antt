@@ -1,0 +1,27 @@
+use Rattle.std.proofs.Common.{arith, ◌≡◌}
+use Rattle.pending_queue.specs.PendingQueue.{held_among}
+use Rattle.volume_breaks.proofs.CallLemmas.{AreCalls-push, held-push}
+use Rattle.volume_breaks.proofs.pending_calls.PendingCalls.pend.Goals as goal
+
+pub invariant_of-self : goal.invariant_of-self
+invariant_of-self c = (
+  rw c.in-Ok.ensures.items (
+      AreCalls-push c.self.inside.rows.items c.args.turn (record { call = c.args.call; blockers = c.args.blockers.items }) c.self.invariant.0
+      (rw (← c.self.view_is) at c.requires.new_turn) (rw (← c.self.view_is) at c.requires.new_call)),
+  (let places = c.self.invariant.1 in
+      let room = rw (← c.self.view_is) at c.requires.room in
+      let blockers = rw (← c.self.view_is) at c.requires.places in
+      let waiting = rw c.as_slice.ensures at c.hold.ensures.places in
+      record {
+        rows_fit = omega (arith, places.rows_fit, c.in-Ok.ensures.len, c.in-Ok.ensures.capacity, room);
+        calls_fit = omega (arith, places.calls_fit, c.hold.ensures.room, room);
+        blockers_fit = omega (arith, places.blockers_fit, waiting, c.len.ensures, blockers);
+      }),
+)
+
+pub returns-clause-held : goal.returns-clause-held
+returns-clause-held c = λ alive were living.
+    let rows = c.self.inside.rows.items in
+    let held : c.self.inside.queue.held ≡ held_among alive rows = rw (← c.self.view_is) at were in
+    rw (c.hold.ensures.held, c.as_slice.ensures, held, c.in-Ok.ensures.items)
+    (held-push alive rows c.args.turn c.args.call c.args.blockers.items (rw (← c.self.view_is) at c.requires.new_turn) living)

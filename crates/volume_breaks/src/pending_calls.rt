@@ -1,0 +1,234 @@
+//! The pending calls of a volume, with the queue of those that are held.
+
+ghost use Rattle.std.specs.Prelude.{Bool, ◌≡◌, ◌≤◌, ◌+◌, ◌++◌, ◌∷◌, [], ◌==◌, not, false, filter, length, position, All, AllPairs, IsTrue, OnOk, if◌then◌else◌};
+ghost use Rattle.std.specs.Option.{option_map_or};
+ghost use Rattle.std.specs.Vec.{vec_capacity, vec_len};
+ghost use Rattle.fsa_types.specs.Rows.{lives, with_row_changed, without_row};
+ghost use Rattle.fsa_types.specs.declared.reply.Blocker.{Blocker};
+ghost use Rattle.fsa_model.specs.Edits.{is_call};
+ghost use Rattle.fsa_model.specs.Lookups.{has_row, number_of};
+ghost use Rattle.pending_queue.specs.PendingQueue.{next_ready, with_ended, with_held};
+ghost use Rattle.volume_breaks.specs.Calls.{AreHeld, StayHeld, is_held_under};
+
+use fsa_types::{Blocker, BlockerList, Call, NoMemory};
+use pending_queue::PendingQueue;
+use std::alloc::Global;
+use std::marker::Model;
+use volume_rows::{PendingRow, is_call};
+
+/// The calls that haven't ended, each under its turn, in the order in which they came, with the queue
+/// of those that are held. No two have one client and number, or one turn. The room that was taken
+/// stays as it is where calls and blockers go.
+#[derive(Drop)]
+pub struct PendingCalls {
+    rows: Vec<(u64, PendingRow)>,
+    queue: PendingQueue,
+    // For how many more calls there is room.
+    room: usize,
+    // For how many more blockers there is room.
+    blockers: usize,
+}
+
+impl Model for PendingCalls {
+    ghost use Rattle.std.specs.Prelude.{◌+◌, ◌≤◌};
+    ghost use Rattle.std.specs.Vec.{vec_capacity, vec_len};
+    ghost use Rattle.volume_breaks.specs.Calls.{Calls, AreCalls, HasPlaces};
+
+    ghost Value = { Calls };
+
+    ghost view = { λ p. record { items = p.rows.items; held = p.queue.held; room = p.room; blockers = p.blockers } };
+
+    ghost invariant = { λ p. AreCalls p.rows.items × HasPlaces (vec_len p.rows + p.room) (vec_capacity p.rows) p.room p.queue.room_for_calls p.blockers p.queue.room_for_blockers };
+}
+
+impl PendingCalls {
+    /// None. It takes no memory.
+    pub fn new(alloc: Global) -> PendingCalls
+        ensures items { result.items ≡ [] }
+        ensures held { result.held ≡ [] }
+    {
+        PendingCalls {
+            rows: Vec::new(alloc),
+            queue: PendingQueue::new(alloc),
+            room: 0,
+            blockers: 0,
+        }
+    }
+
+    /// Takes room for so many more calls, and for so many more blockers in all. `NoMemory` where there
+    /// is none.
+    pub fn reserve(&mut self, calls: usize, blockers: usize) -> Result<(), NoMemory>
+        ensures items { self.new ≡ record self.old { room = self.new.room; blockers = self.new.blockers } }
+        ensures room { OnOk result (calls ≤ self.new.room) }
+        ensures blockers { OnOk result (blockers ≤ self.new.blockers) }
+        ensures kept { self.old.room ≤ self.new.room }
+        ensures blockers_kept { self.old.blockers ≤ self.new.blockers }
+    {
+        self.reserve_calls(calls)?;
+        if blockers > self.blockers {
+            self.queue.reserve(0, blockers)?;
+            self.blockers = blockers;
+        }
+        Ok(())
+    }
+
+    // Takes room for so many more calls.
+    fn reserve_calls(&mut self, calls: usize) -> Result<(), NoMemory>
+        ensures items { self.new ≡ record self.old { room = self.new.room } }
+        ensures room { OnOk result (calls ≤ self.new.room) }
+        ensures kept { self.old.room ≤ self.new.room }
+    {
+        if calls > self.room {
+            self.rows.reserve(calls)?;
+            self.queue.reserve(calls, 0)?;
+            self.room = calls;
+        }
+        Ok(())
+    }
+
+    /// All pending calls, each under its turn, in the order in which they came.
+    pub fn as_slice(&self) -> &[(u64, PendingRow)]
+        ensures { result.now ≡ self.now.items }
+    {
+        self.rows.as_slice()
+    }
+
+    /// The turn under which this call of this client is pending; `None` exactly where it isn't.
+    pub fn turn_of(&self, client: u32, number: u32) -> Option<u64>
+        ensures { result ≡ number_of (is_call client number) self.now.items }
+    {
+        turn_of(&self.rows, client, number)
+    }
+
+    /// A call is pending under this turn, and held by these blockers where there are any. Room has to be
+    /// there, and no call may be pending under the turn, or with this client and number.
+    pub fn pend(&mut self, turn: u64, call: Call, blockers: BlockerList)
+        requires room { 1 ≤ self.old.room }
+        requires places { length blockers.items ≤ self.old.blockers }
+        requires new_turn { lives self.old.items turn ≡ false }
+        requires new_call { has_row (is_call call.client call.number) self.old.items ≡ false }
+        ensures items { self.new.items ≡ self.old.items ++ (turn, record { call = call; blockers = blockers.items }) ∷ [] }
+        ensures held { (alive : Blocker → Bool) → AreHeld alive self.old → All (λ blocker. IsTrue (alive blocker)) blockers.items → AreHeld alive self.new }
+        ensures left { self.old.room ≤ self.new.room + 1 }
+        ensures places_left { self.old.blockers ≤ self.new.blockers + length blockers.items }
+    {
+        hold(&mut self.queue, turn, blockers.as_slice());
+        self.room -= 1;
+        self.blockers -= blockers.len();
+        let Ok(()) = self.rows.push((turn, PendingRow { call, blockers })) else {
+            unreachable!()
+        };
+    }
+
+    /// The call that is held under this turn is held by these blockers instead, of which there has to be
+    /// one. Room has to be there.
+    pub fn hold_anew(&mut self, turn: u64, blockers: BlockerList)
+        requires places { length blockers.items ≤ self.old.blockers }
+        requires some { (length blockers.items == 0) ≡ false }
+        requires held { IsTrue (lives self.old.held turn) }
+        requires under { IsTrue (is_held_under self.old.items turn) }
+        ensures items { self.new ≡ record self.old { items = with_row_changed (λ row. record row { blockers = blockers.items }) self.old.items turn; held = self.new.held; blockers = self.new.blockers } }
+        ensures held { (alive : Blocker → Bool) → AreHeld alive self.old → All (λ blocker. IsTrue (alive blocker)) blockers.items → AreHeld alive self.new }
+        ensures places_left { self.old.blockers ≤ self.new.blockers + length blockers.items }
+    {
+        let Ok(()) = self.queue.hold_by(turn, blockers.as_slice()) else {
+            unreachable!()
+        };
+        self.blockers -= blockers.len();
+        set_blockers(&mut self.rows, turn, blockers);
+    }
+
+    /// This call of this client has ended: it is pending no more, where it was.
+    pub fn end(&mut self, client: u32, number: u32)
+        ensures items { self.new ≡ record self.old { items = filter (λ entry. not (is_call client number entry.1)) self.old.items; held = self.new.held } }
+        ensures held { StayHeld self.old self.new }
+    {
+        release(&mut self.queue, turn_of(&self.rows, client, number));
+        drop_call(&mut self.rows, client, number);
+    }
+
+    /// A break or a lock has ended: no call waits for it any more.
+    pub fn ended(&mut self, blocker: Blocker)
+        ensures { self.new ≡ record self.old { held = with_ended self.old.held blocker } }
+    {
+        self.queue.ended(blocker);
+    }
+
+    /// The least turn of a held call none of whose blockers lives; `None` exactly where there is none.
+    pub fn next_held(&self) -> Option<u64>
+        ensures { result ≡ next_ready self.now.held }
+    {
+        self.queue.next_ready()
+    }
+}
+
+// Holds a call by these blockers, where there are any. There has to be room.
+fn hold(queue: &mut PendingQueue, turn: u64, blockers: &[Blocker])
+    requires room { 1 ≤ queue.old.room_for_calls }
+    requires places { length blockers.now ≤ queue.old.room_for_blockers }
+    ensures held { queue.new.held ≡ (if length blockers.now == 0 then queue.old.held else with_held queue.old.held turn blockers.now) }
+    ensures room { queue.old.room_for_calls ≤ queue.new.room_for_calls + 1 }
+    ensures places { queue.old.room_for_blockers ≤ queue.new.room_for_blockers + length blockers.now }
+{
+    if blockers.is_empty() {
+        return;
+    }
+    let Ok(()) = queue.hold_by(turn, blockers) else {
+        unreachable!()
+    };
+}
+
+// Holds the call of this turn no more, where there is one.
+fn release(queue: &mut PendingQueue, turn: Option<u64>)
+    ensures held { queue.new.held ≡ option_map_or (λ number. without_row queue.old.held number) turn queue.old.held }
+    ensures room { queue.old.room_for_calls ≤ queue.new.room_for_calls }
+    ensures places { queue.old.room_for_blockers ≤ queue.new.room_for_blockers }
+{
+    if let Some(turn) = turn {
+        queue.remove(turn);
+    }
+}
+
+// The turn under which this call of this client is pending.
+fn turn_of(rows: &[(u64, PendingRow)], client: u32, number: u32) -> Option<u64>
+    ensures { result ≡ number_of (is_call client number) rows.now }
+{
+    rows.iter()
+        .find(|entry| is_call(&entry.1, client, number))
+        .map(|entry| entry.0)
+}
+
+// Takes this call of this client out of those that are pending.
+fn drop_call(rows: &mut Vec<(u64, PendingRow)>, client: u32, number: u32)
+    ensures items { rows.new.items ≡ filter (λ entry. not (is_call client number entry.1)) rows.old.items }
+    ensures few { vec_len rows.new ≤ vec_len rows.old }
+    ensures room { vec_capacity rows.new ≡ vec_capacity rows.old }
+{
+    rows.retain(|entry| !is_call(&entry.1, client, number));
+}
+
+// The place of the row of this turn.
+fn place_of(rows: &[(u64, PendingRow)], turn: u64) -> Option<usize>
+    ensures { result ≡ position (λ entry. entry.0 == turn) rows.now }
+{
+    rows.iter().position(|entry| entry.0 == turn)
+}
+
+// Puts these blockers in place of those of the row of this turn.
+fn set_blockers(rows: &mut Vec<(u64, PendingRow)>, turn: u64, blockers: BlockerList)
+    requires differ { AllPairs (λ a b. (a.0 == b.0) ≡ false) rows.old.items }
+    ensures items { rows.new.items ≡ with_row_changed (λ row. record row { blockers = blockers.items }) rows.old.items turn }
+    ensures len { vec_len rows.new ≡ vec_len rows.old }
+    ensures room { vec_capacity rows.new ≡ vec_capacity rows.old }
+{
+    if let Some(place) = place_of(rows, turn) {
+        set_in_row(&mut rows[place], blockers);
+    }
+}
+
+// Puts these blockers in place of those of a row.
+fn set_in_row(entry: &mut (u64, PendingRow), blockers: BlockerList)
+    ensures { entry.new ≡ (entry.old.0, record entry.old.1 { blockers = blockers.items }) }
+{
+    entry.1.blockers = blockers;
+}
