@@ -1,0 +1,428 @@
+-- What a volume is between tries stays so over each try and each end.
+use Rattle.std.proofs.Common.{◌≡◌, ℕ, ◌+◌, ◌*◌, ◌≤◌, Bool, true, false, not, List, [], ◌∷◌, ◌++◌, length, refl, ap, sym, subst, ◌∙◌, arith, append-nil, inl, inr, IsTrue, All, length-append, lt-ltb, ltb-true, leb-true}
+use Rattle.std.specs.Prelude.{◌==◌, ◌&&◌, nat_lt, map, filter}
+use Rattle.std.proofs.lemmas.Bool.{cases_Bool, and_parts, eq-eqb}
+use Rattle.std.proofs.lemmas.List.Elements.{All-nil, All-cons, All-head, All-tail}
+use Rattle.fsa_types.specs.Request.{what_fits}
+use Rattle.fsa_types.specs.declared.reply.Blocker.{Blocker}
+use Rattle.fsa_types.specs.declared.reply.EndOf.{EndOf}
+use Rattle.fsa_types.specs.declared.reply.Reply.{Reply}
+use Rattle.fsa_types.specs.declared.request.Call.{Call}
+use Rattle.fsa_types.specs.declared.request.Request.TheVariants.{Oplock as OplockOf, Ack, Notify, QueryDir}
+use Rattle.fsa_types.specs.declared.request.What.{What}
+use Rattle.fsa_types.specs.declared.request.What.TheVariants.{Ask, Tick, WaitFor}
+use Rattle.fsa_model.specs.Edits.{is_call, with_blockers, with_end, with_pending}
+use Rattle.fsa_model.specs.Frame.{FitsReply, FramedTo, InFrame, KeepsFrame, OnlyBreaks, PointsFit, StaysTo, lasting, ticks_of, unenumerated}
+use Rattle.fsa_model.specs.LineCalls.{IsLineCall, ticks_fit}
+use Rattle.fsa_model.specs.Once.{IsOnce, how_many, is_end, times}
+use Rattle.fsa_model.specs.Outcome.{Outcome, Done, Stay, Hold}
+use Rattle.fsa_model.specs.Requests.{can_be_asked}
+use Rattle.fsa_model.specs.Try.{try}
+use Rattle.fsa_model.specs.Setup.{Setup}
+use Rattle.fsa_model.specs.Sound.{PointFits}
+use Rattle.fsa_model.specs.Volume.{File, Handle, Oplock, Pending, Volume, fresh, root}
+use Rattle.fsa_model.specs.Waiting.{has_ended}
+use Rattle.fsa_model.proofs.CountLaws.{how_many-append, how_many-filter_le, how_many-map, how_many-same, how_many-some, some-how_many}
+use Rattle.fsa_model.proofs.FrameLaws.{AddsNothing, AddsNothing-only_breaks}
+use Rattle.fsa_model.proofs.OnceLaws.{Extends, Extends-length, IsOnce-kept, is_same-refl}
+use Rattle.fsa_model.proofs.RowLaws.{change_at}
+use Rattle.fsa_model.proofs.TryFrame.{try-frame}
+use Rattle.fsa_model.proofs.TryLaws.{AreLiving, FewNumbers, KeepsNumbers, SameNumbers}
+use Rattle.fsa_model.proofs.TurnLaws.{TriedTo, try-keeps}
+use Rattle.fsa_model.proofs.WaitLaws.{HasOneOplockEach, is_of, unbroken}
+use Rattle.fsa_machine.specs.Serves.{GivesUpTo, SameBase, Serves, awaits_made, is_line_call}
+
+-- ---- lists
+
+-- what holds of each item still holds when it says less
+pub All-each : {A : Type 0} (P Q : A → Type 0) → ((item : A) → P item → Q item) → (items : List A) → All P items → All Q items
+All-each P Q each [] all = All-nil Q
+All-each P Q each (item ∷ items) all = All-cons Q item items (each item (All-head P item items all)) (All-each P Q each items (All-tail P item items all))
+
+pub none-fails : {A : Type 0} (test : A → Bool) (items : List A) → All (λ item. IsTrue (test item)) items → how_many (λ item. not (test item)) items ≡ 0
+none-fails test [] all = refl
+none-fails test (item ∷ items) all =
+    let here : IsTrue (test item) = All-head (λ i. IsTrue (test i)) item items all in
+    let rest = none-fails test items (All-tail (λ i. IsTrue (test i)) item items all) in
+    let is : test item ≡ true = here in
+    rw is (omega arith)
+
+all-pass : {A : Type 0} (test : A → Bool) (items : List A) → how_many (λ item. not (test item)) items ≡ 0 → All (λ item. IsTrue (test item)) items
+all-pass test [] none = All-nil (λ i. IsTrue (test i))
+all-pass test (item ∷ items) none = elim (cases_Bool (test item)) [
+  | inl is ↦ (let rest : 0 + how_many (λ i. not (test i)) items ≡ 0 = rw is at none in All-cons (λ i. IsTrue (test i)) item items is (all-pass test items (omega arith)))
+  | inr isnt ↦ (let impossible : 1 + how_many (λ i. not (test i)) items ≡ 0 = rw isnt at none in absurd (omega arith))
+]
+
+-- where no more rows fail than before
+all-kept : {A : Type 0} (test : A → Bool) (before after : List A) → how_many (λ item. not (test item)) after ≤ how_many (λ item. not (test item)) before
+    → All (λ item. IsTrue (test item)) before → All (λ item. IsTrue (test item)) after
+all-kept test before after fewer all = all-pass test after (let none = none-fails test before all in omega arith)
+
+all-append : {A : Type 0} (test : A → Bool) (items : List A) (last : A) → All (λ item. IsTrue (test item)) items → IsTrue (test last) → All (λ item. IsTrue (test item)) (items ++ last ∷ [])
+all-append test items last all is =
+    all-pass test (items ++ last ∷ []) (let none = none-fails test items all in let more = how_many-append (λ i. not (test i)) items (last ∷ []) in
+    let passes : test last ≡ true = is in
+    let here : how_many (λ i. not (test i)) (items ++ last ∷ []) ≡ how_many (λ i. not (test i)) items + (0 + 0) = rw passes at more in omega arith)
+
+-- ---- ends and numbers
+
+ended-later : (v w : Volume) (client number : ℕ) → Extends v.ended w.ended → IsTrue (has_ended v client number) → IsTrue (has_ended w client number)
+ended-later v w client number extends is =
+    some-how_many (is_end client number) w.ended
+    (let some = how_many-some (is_end client number) v.ended is in
+    let more = how_many-append (is_end client number) v.ended extends.more in
+    let all : how_many (is_end client number) w.ended ≡ how_many (is_end client number) (v.ended ++ extends.more) = ap (λ (ended : List EndOf). how_many (is_end client number) ended) extends.is in omega arith)
+
+-- the call that has just ended has ended
+own-ended : (v : Volume) (client number : ℕ) (reply : Reply) → IsTrue (has_ended (with_end v client number reply) client number)
+own-ended v client number reply =
+    some-how_many (is_end client number) (v.ended ++ last ∷ [])
+    (let more = how_many-append (is_end client number) v.ended (last ∷ []) in
+    let own : is_end client number last ≡ true = is_same-refl client number in
+    let all : how_many (is_end client number) (v.ended ++ last ∷ []) ≡ how_many (is_end client number) v.ended + (1 + 0) = rw own at more in omega arith)
+  where
+    last : EndOf
+    last = record { client = client; number = number; reply = reply }
+
+Extends-end : (v : Volume) (client number : ℕ) (reply : Reply) → Extends v.ended (with_end v client number reply).ended
+Extends-end v client number reply = record { more = record { client = client; number = number; reply = reply } ∷ []; is = refl }
+
+pub GivesUpTo-more : (v : Volume) (few many : ℕ) → few ≤ many → GivesUpTo v few → GivesUpTo v many
+GivesUpTo-more v few many more gives =
+    let files : v.last_file ≤ few = gives.files in
+    let links : v.last_link ≤ few = gives.links in
+    let streams : v.last_stream ≤ few * 2 = gives.streams in
+    let handles : v.last_handle ≤ few = gives.handles in
+    let locks : v.last_lock ≤ few = gives.locks in
+    let breaks : v.last_break ≤ few = gives.breaks in
+    let oplocks : length v.oplocks ≤ few = gives.oplocks in
+    let clock : v.clock ≤ few * 4294967296 = gives.clock in
+    record { files = omega arith; links = omega arith; streams = omega arith; handles = omega arith; locks = omega arith; breaks = omega arith; oplocks = omega arith; clock = omega arith }
+
+-- ---- no oplock comes
+
+none-of : (oplocks : List Oplock) → ((handle : ℕ) → how_many (is_of handle) oplocks ≤ 0) → oplocks ≡ []
+none-of [] none = refl
+none-of (oplock ∷ oplocks) none = absurd (let here : is_of oplock.handle oplock ≡ true = eq-eqb oplock.handle oplock.handle refl in
+    let few : how_many (is_of oplock.handle) (oplock ∷ oplocks) ≤ 0 = none oplock.handle in
+    let some : 1 + how_many (is_of oplock.handle) oplocks ≤ 0 = rw here at few in omega arith)
+
+record NoOplocks (v : Volume) : Type 0 where
+  oplocks : v.oplocks ≡ []
+  breaks : v.last_break ≡ 0
+
+NoOplocks-kept : (v w : Volume) → NoOplocks v → KeepsNumbers v w → NoOplocks w
+NoOplocks-kept v w none kept = record {
+  oplocks = none-of w.oplocks (λ handle. (let fewer = kept.keeps.oplocks handle in
+      let before : how_many (is_of handle) v.oplocks ≡ 0 = ap (λ (oplocks : List Oplock). how_many (is_of handle) oplocks) none.oplocks in omega arith));
+  breaks = (let fewer = kept.breaks in let before : unbroken v ≡ 0 = rw none.oplocks refl in let last = none.breaks in omega arith);
+}
+
+pub one-each : (v : Volume) → v.oplocks ≡ [] → HasOneOplockEach v
+one-each v none handle = (let before : how_many (is_of handle) v.oplocks ≡ 0 = ap (λ (oplocks : List Oplock). how_many (is_of handle) oplocks) none in omega arith)
+
+-- ---- a call that a line can ask
+
+pub line-asked : (clients : ℕ) (call : Call) → IsTrue (is_line_call clients call) → IsLineCall clients call
+line-asked clients call is =
+    let first = and_parts (what_fits call.what) (can_be_asked call.what && (ticks_fit call.what && nat_lt call.client clients)) is in
+    let second = and_parts (can_be_asked call.what) (ticks_fit call.what && nat_lt call.client clients) first.1 in
+    let third = and_parts (ticks_fit call.what) (nat_lt call.client clients) second.1 in
+    record { fits = first.0; can_be_asked = second.0; ticks = third.0; client = ltb-true call.client clients third.1 }
+
+pub asked-line : (clients : ℕ) (call : Call) → IsLineCall clients call → IsTrue (is_line_call clients call)
+asked-line clients call asked =
+    let fits : what_fits call.what ≡ true = asked.fits in
+    let marks : can_be_asked call.what ≡ true = asked.can_be_asked in
+    let ticks : ticks_fit call.what ≡ true = asked.ticks in
+    let client : nat_lt call.client clients ≡ true = lt-ltb call.client clients asked.client in
+    rw (fits, marks, ticks, client) refl
+
+-- ---- a try
+
+pub SameBase-same : (v : Volume) → SameBase v v
+SameBase-same v = record { table = refl; clients = refl }
+
+pub SameBase-next : {u v w : Volume} → SameBase u v → SameBase v w → SameBase u w
+SameBase-next first second = record { table = second.table ∙ first.table; clients = second.clients ∙ first.clients }
+
+-- what a try leaves that ends its call: few numbers more, and handles as before, but for one that is the call's
+pub record Ends (call : Call) (v w : Volume) : Type 0 where
+  pub base : SameBase v w
+  pub points : PointsFit w
+  pub pending : (test : ℕ × Pending → Bool) → how_many test w.pending ≤ how_many test v.pending
+  pub ended : Extends v.ended w.ended
+  pub handles : (test : Handle → Bool) → All (λ entry. IsTrue (test (unenumerated entry.1))) v.handles
+      → ((handle : Handle) → handle.client ≡ call.client → handle.number ≡ call.number → IsTrue (test (unenumerated handle))) → All (λ entry. IsTrue (test (unenumerated entry.1))) w.handles
+  pub gives : GivesUpTo w (length v.ended + 2)
+  pub no_oplocks : w.oplocks ≡ []
+  pub no_breaks : w.last_break ≡ 0
+
+-- what a try leaves that is held: a volume like the one before
+pub record Holds (v w : Volume) (blockers : List Blocker) : Type 0 where
+  pub base : SameBase v w
+  pub serves : Serves w
+  pub times : (client number : ℕ) → times client number w ≡ times client number v
+  pub living : AreLiving w blockers
+
+-- how a try comes out
+abbrev pub Comes : Call → Volume → Outcome → Type 0
+Comes call v (Done w reply) = Ends call v w × FitsReply call.what reply
+Comes call v (Stay w interim) = (w ≡ v) × IsTrue (awaits_made v call.client call.what)
+Comes call v (Hold w blockers interim) = Holds v w blockers
+
+pub record ComesTo (call : Call) (v : Volume) (outcome : Outcome) : Type 0 where
+  pub so : Comes call v outcome
+
+-- what lasts of a handle is all but its enumeration
+unenumerated-lasting : (what : What) (handle : Handle) → unenumerated (lasting what handle) ≡ unenumerated handle
+unenumerated-lasting (Ask (QueryDir of kind expression restart room)) handle = refl
+unenumerated-lasting _ handle = refl
+
+handles-frame : (call : Call) (v w : Volume) → KeepsFrame call v w → (test : Handle → Bool) → All (λ entry. IsTrue (test (unenumerated entry.1))) v.handles
+    → ((handle : Handle) → handle.client ≡ call.client → handle.number ≡ call.number → IsTrue (test (unenumerated handle))) → All (λ entry. IsTrue (test (unenumerated entry.1))) w.handles
+handles-frame call v w frame test all own =
+    All-each (λ (entry : ℕ × Handle). IsTrue (test (unenumerated (lasting call.what entry.1)))) (λ (entry : ℕ × Handle). IsTrue (test (unenumerated entry.1)))
+    (λ entry is. subst (λ (handle : Handle). IsTrue (test handle)) (unenumerated-lasting call.what entry.1) is) w.handles
+    (frame.handles (λ entry. test (unenumerated entry.1))
+    (All-each (λ (entry : ℕ × Handle). IsTrue (test (unenumerated entry.1))) (λ (entry : ℕ × Handle). IsTrue (test (unenumerated (lasting call.what entry.1))))
+    (λ entry is. subst (λ (handle : Handle). IsTrue (test handle)) (sym (unenumerated-lasting call.what entry.1)) is) v.handles all)
+    (λ handle creates client number. own handle client number))
+
+few-ticks : (what : What) → IsTrue (ticks_fit what) → ticks_of what ≤ 4294967295
+few-ticks (Tick ticks) fit = leb-true ticks 4294967295 fit
+few-ticks _ fit = omega arith
+
+ends-done : (v w : Volume) (call : Call) (reply : Reply) → Serves v → IsTrue (is_line_call (length v.clients) call) → FramedTo call v (Done w reply) → KeepsNumbers v w × FewNumbers v w → Ends call v w × FitsReply call.what reply
+ends-done v w call reply serves asked frame kept =
+    let line : IsLineCall (length v.clients) call = line-asked (length v.clients) call asked in
+    let none : NoOplocks w = NoOplocks-kept v w (record { oplocks = serves.no_oplocks; breaks = serves.no_breaks }) kept.0 in
+    let up : GivesUpTo v (length v.ended + 1) = serves.gives in (
+      record {
+        base = record { table = frame.0.table; clients = frame.0.clients };
+        points = frame.0.points line.fits serves.points;
+        pending = kept.0.keeps.pending;
+        ended = kept.0.keeps.ended;
+        handles = λ test all own. handles-frame call v w frame.0 test all own;
+        gives = record {
+          files = let few = kept.1.files in let most = up.files in omega arith;
+          links = let few = kept.1.links in let most = up.links in omega arith;
+          streams = let few = kept.1.streams in let most = up.streams in omega arith;
+          handles = let few = kept.1.handles in let most = up.handles in omega arith;
+          locks = let few = kept.1.locks in let most = up.locks in omega arith;
+          breaks = let last = none.breaks in omega arith;
+          oplocks = let no_oplock = ap (λ (oplocks : List Oplock). length oplocks) none.oplocks in omega arith;
+          clock = let most = up.clock in elim frame.0.clock [
+            | inl same ↦ omega arith
+            | inr on ↦ (let ticks = few-ticks call.what line.ticks in omega arith)
+          ];
+        };
+        no_oplocks = none.oplocks;
+        no_breaks = none.breaks;
+      },
+      frame.1.0,
+    )
+
+awaits-later : (v w : Volume) (client : ℕ) (what : What) → ((c n : ℕ) → times c n v ≤ times c n w) → IsTrue (awaits_made v client what) → IsTrue (awaits_made w client what)
+awaits-later v w client (WaitFor earlier) more is = (let some = ltb-true 0 (times client earlier v) is in let longer = more client earlier in lt-ltb 0 (times client earlier w) (omega arith))
+awaits-later v w client _ more is = refl
+
+stays : (v w : Volume) (client : ℕ) (what : What) → StaysTo v client what w → IsTrue (can_be_asked what) → (w ≡ v) × IsTrue (awaits_made v client what)
+stays v w client (WaitFor earlier) so asked =
+    (so.1, (let some = how_many-some (λ (entry : ℕ × Pending). is_call client earlier entry.1) v.pending so.0 in lt-ltb 0 (times client earlier v) (omega arith)))
+stays v w client (Ask (OplockOf handle level)) so asked = (let impossible : false ≡ true = asked in cc)
+stays v w client (Ask (Ack handle level)) so asked = (let impossible : false ≡ true = asked in cc)
+stays v w client (Ask (Notify handle filter whole room)) so asked = (let impossible : false ≡ true = asked in cc)
+stays v w client _ so asked = absurd so
+
+holds : (v w : Volume) (call : Call) (blockers : List Blocker) → Serves v → OnlyBreaks v w → KeepsNumbers v w → SameNumbers v w → AreLiving w blockers → Holds v w blockers
+holds v w call blockers serves only kept same living =
+    let nothing : AddsNothing v w = AddsNothing-only_breaks only in
+    let none : NoOplocks w = NoOplocks-kept v w (record { oplocks = serves.no_oplocks; breaks = serves.no_breaks }) kept in
+    let alike : (c n : ℕ) → times c n w ≡ times c n v = kept.keeps.times serves.once in
+    let longer = Extends-length kept.keeps.ended in
+    let up : GivesUpTo v (length v.ended + 1) = serves.gives in
+    record {
+      base = record { table = nothing.table; clients = nothing.clients };
+      times = alike;
+      living = living;
+      serves = record {
+        points = nothing.points serves.points;
+        once = IsOnce-kept v w alike serves.once;
+        asked = rw nothing.clients (all-kept (λ (entry : ℕ × Pending). is_line_call (length v.clients) entry.1.call) v.pending w.pending (kept.keeps.pending (λ entry. not (is_line_call (length v.clients) entry.1.call))) serves.asked);
+        numbered = all-kept (λ (entry : ℕ × Pending). nat_lt 0 entry.1.call.number) v.pending w.pending (kept.keeps.pending (λ entry. not (nat_lt 0 entry.1.call.number))) serves.numbered;
+        waited = All-each (λ (entry : ℕ × Pending). IsTrue (awaits_made v entry.1.call.client entry.1.call.what)) (λ (entry : ℕ × Pending). IsTrue (awaits_made w entry.1.call.client entry.1.call.what))
+            (λ entry is. awaits-later v w entry.1.call.client entry.1.call.what (λ c n. (let equal = alike c n in omega arith)) is) w.pending
+            (all-kept (λ (entry : ℕ × Pending). awaits_made v entry.1.call.client entry.1.call.what) v.pending w.pending (kept.keeps.pending (λ entry. not (awaits_made v entry.1.call.client entry.1.call.what))) serves.waited);
+        handles = nothing.handles (λ entry. has_ended w entry.1.client entry.1.number)
+            (All-each (λ (entry : ℕ × Handle). IsTrue (has_ended v entry.1.client entry.1.number)) (λ (entry : ℕ × Handle). IsTrue (has_ended w entry.1.client entry.1.number))
+            (λ entry is. ended-later v w entry.1.client entry.1.number kept.keeps.ended is) v.handles serves.handles);
+        opened = nothing.handles (λ entry. nat_lt 0 entry.1.number) serves.opened;
+        gives = record {
+          files = let equal = same.files in let most = up.files in omega arith;
+          links = let equal = same.links in let most = up.links in omega arith;
+          streams = let equal = same.streams in let most = up.streams in omega arith;
+          handles = let equal = same.handles in let most = up.handles in omega arith;
+          locks = let equal = same.locks in let most = up.locks in omega arith;
+          breaks = let last = none.breaks in omega arith;
+          oplocks = let no_oplock = ap (λ (oplocks : List Oplock). length oplocks) none.oplocks in omega arith;
+          clock = let equal = nothing.clock in let most = up.clock in omega arith;
+        };
+        no_oplocks = none.oplocks;
+        no_breaks = none.breaks;
+      };
+    }
+
+comes : (v : Volume) (call : Call) (turn : ℕ) (outcome : Outcome) → Serves v → IsTrue (is_line_call (length v.clients) call) → FramedTo call v outcome → TriedTo v turn call.what outcome → Comes call v outcome
+comes v call turn (Done w reply) serves asked frame tried = ends-done v w call reply serves asked frame tried
+comes v call turn (Stay w interim) serves asked frame tried = stays v w call.client call.what frame.1 (IsLineCall.can_be_asked (line-asked (length v.clients) call asked))
+comes v call turn (Hold w blockers interim) serves asked frame tried = holds v w call blockers serves frame.1 tried.0 tried.1.0 tried.1.1.0
+
+-- so comes a try of what a line can ask
+pub try-comes : (v : Volume) (call : Call) (turn : ℕ) → Serves v → IsTrue (is_line_call (length v.clients) call) → ComesTo call v (try v call turn)
+try-comes v call turn serves asked = record {
+  so = comes v call turn (try v call turn) serves asked (InFrame.so (try-frame v call turn serves.points)) (try-keeps v call turn (one-each v serves.no_oplocks));
+}
+
+-- ---- what becomes of the call
+
+-- it ends
+record Lasts (v w : Volume) : Type 0 where
+  base : SameBase v w
+  points : PointsFit w
+  pending : (test : ℕ × Pending → Bool) → how_many test w.pending ≤ how_many test v.pending
+  ended : Extends v.ended w.ended
+  gives : GivesUpTo w (length v.ended + 2)
+  no_oplocks : w.oplocks ≡ []
+  no_breaks : w.last_break ≡ 0
+
+end-serves : (v w : Volume) (client number : ℕ) (reply : Reply) → Serves v → Lasts v w → IsOnce (with_end w client number reply)
+    → ((c n : ℕ) → times c n v ≤ times c n (with_end w client number reply))
+    → All (λ entry. IsTrue (has_ended (with_end w client number reply) entry.1.client entry.1.number)) w.handles → All (λ entry. IsTrue (nat_lt 0 entry.1.number)) w.handles
+    → Serves (with_end w client number reply)
+end-serves v w client number reply serves lasts once more handles opened =
+    let longer = Extends-length lasts.ended in
+    let one = length-append w.ended (record { client = client; number = number; reply = reply } ∷ []) in
+    record {
+      points = lasts.points;
+      once = once;
+      asked = rw lasts.base.clients (all-kept (λ (entry : ℕ × Pending). is_line_call (length v.clients) entry.1.call) v.pending after (fewer (λ entry. not (is_line_call (length v.clients) entry.1.call))) serves.asked);
+      numbered = all-kept (λ (entry : ℕ × Pending). nat_lt 0 entry.1.call.number) v.pending after (fewer (λ entry. not (nat_lt 0 entry.1.call.number))) serves.numbered;
+      waited = All-each (λ (entry : ℕ × Pending). IsTrue (awaits_made v entry.1.call.client entry.1.call.what)) (λ (entry : ℕ × Pending). IsTrue (awaits_made (with_end w client number reply) entry.1.call.client entry.1.call.what))
+          (λ entry is. awaits-later v (with_end w client number reply) entry.1.call.client entry.1.call.what more is) after
+          (all-kept (λ (entry : ℕ × Pending). awaits_made v entry.1.call.client entry.1.call.what) v.pending after (fewer (λ entry. not (awaits_made v entry.1.call.client entry.1.call.what))) serves.waited);
+      handles = handles;
+      opened = opened;
+      gives = (let most : GivesUpTo w (length w.ended + 1 + 1) = GivesUpTo-more w (length v.ended + 2) (length w.ended + 1 + 1) (omega arith) lasts.gives in
+          let all : GivesUpTo w (length (with_end w client number reply).ended + 1) = rw one most in
+          record { files = all.files; links = all.links; streams = all.streams; handles = all.handles; locks = all.locks; breaks = all.breaks; oplocks = all.oplocks; clock = all.clock });
+      no_oplocks = lasts.no_oplocks;
+      no_breaks = lasts.no_breaks;
+    }
+  where
+    after : List (ℕ × Pending)
+    after = (with_end w client number reply).pending
+
+    fewer : (test : ℕ × Pending → Bool) → how_many test after ≤ how_many test v.pending
+    fewer test = (let kept = how_many-filter_le test (λ (entry : ℕ × Pending). not (is_call client number entry.1)) w.pending in let few = lasts.pending test in omega arith)
+
+-- a call that its try ends
+pub Serves-ends : (v w : Volume) (call : Call) (reply : Reply) → Serves v → IsTrue (nat_lt 0 call.number) → Ends call v w → IsOnce (with_end w call.client call.number reply)
+    → ((c n : ℕ) → times c n v ≤ times c n (with_end w call.client call.number reply)) → Serves (with_end w call.client call.number reply)
+Serves-ends v w call reply serves numbered ends once more =
+    end-serves v w call.client call.number reply serves
+    (record { base = ends.base; points = ends.points; pending = ends.pending; ended = ends.ended; gives = ends.gives; no_oplocks = ends.no_oplocks; no_breaks = ends.no_breaks }) once more
+    (ends.handles (λ handle. has_ended after handle.client handle.number)
+    (All-each (λ (entry : ℕ × Handle). IsTrue (has_ended v entry.1.client entry.1.number)) (λ (entry : ℕ × Handle). IsTrue (has_ended after entry.1.client entry.1.number))
+    (λ entry is. ended-later w after entry.1.client entry.1.number (Extends-end w call.client call.number reply) (ended-later v w entry.1.client entry.1.number ends.ended is)) v.handles serves.handles)
+    (λ handle client number. rw (client, number) (own-ended w call.client call.number reply)))
+    (ends.handles (λ handle. nat_lt 0 handle.number) serves.opened (λ handle client number. rw number numbered))
+  where
+    after : Volume
+    after = with_end w call.client call.number reply
+
+-- a pending call that ends without a try
+pub Serves-over : (v : Volume) (client number : ℕ) (reply : Reply) → Serves v → IsOnce (with_end v client number reply)
+    → ((c n : ℕ) → times c n v ≤ times c n (with_end v client number reply)) → Serves (with_end v client number reply)
+Serves-over v client number reply serves once more =
+    end-serves v v client number reply serves
+    (record {
+      base = SameBase-same v;
+      points = serves.points;
+      pending = λ test. omega arith;
+      ended = record { more = []; is = sym (append-nil v.ended) };
+      gives = GivesUpTo-more v (length v.ended + 1) (length v.ended + 2) (omega arith) serves.gives;
+      no_oplocks = serves.no_oplocks;
+      no_breaks = serves.no_breaks;
+    }) once more
+    (All-each (λ (entry : ℕ × Handle). IsTrue (has_ended v entry.1.client entry.1.number)) (λ (entry : ℕ × Handle). IsTrue (has_ended (with_end v client number reply) entry.1.client entry.1.number))
+    (λ entry is. ended-later v (with_end v client number reply) entry.1.client entry.1.number (Extends-end v client number reply) is) v.handles serves.handles)
+    serves.opened
+
+-- a call that becomes pending
+pub Serves-pends : (v : Volume) (call : Call) (turn : ℕ) (blockers : List Blocker) → Serves v → IsTrue (is_line_call (length v.clients) call) → IsTrue (nat_lt 0 call.number)
+    → IsTrue (awaits_made v call.client call.what) → IsOnce (with_pending v turn call blockers) → Serves (with_pending v turn call blockers)
+Serves-pends v call turn blockers serves asked numbered waited once = record {
+  points = serves.points;
+  once = once;
+  asked = all-append (λ (entry : ℕ × Pending). is_line_call (length v.clients) entry.1.call) v.pending (turn, record { call = call; blockers = blockers }) serves.asked asked;
+  numbered = all-append (λ (entry : ℕ × Pending). nat_lt 0 entry.1.call.number) v.pending (turn, record { call = call; blockers = blockers }) serves.numbered numbered;
+  waited = All-each (λ (entry : ℕ × Pending). IsTrue (awaits_made v entry.1.call.client entry.1.call.what)) (λ (entry : ℕ × Pending). IsTrue (awaits_made (with_pending v turn call blockers) entry.1.call.client entry.1.call.what))
+      (λ entry is. awaits-later v (with_pending v turn call blockers) entry.1.call.client entry.1.call.what
+      (λ c n. (let more : how_many (λ (e : ℕ × Pending). is_call c n e.1) (with_pending v turn call blockers).pending ≡ how_many (λ (e : ℕ × Pending). is_call c n e.1) v.pending + how_many (λ (e : ℕ × Pending). is_call c n e.1) ((turn, record { call = call; blockers = blockers }) ∷ [])
+      = how_many-append (λ (e : ℕ × Pending). is_call c n e.1) v.pending ((turn, record { call = call; blockers = blockers }) ∷ []) in omega arith)) is) (with_pending v turn call blockers).pending
+      (all-append (λ (entry : ℕ × Pending). awaits_made v entry.1.call.client entry.1.call.what) v.pending (turn, record { call = call; blockers = blockers }) serves.waited waited);
+  handles = serves.handles;
+  opened = serves.opened;
+  gives = record { files = serves.gives.files; links = serves.gives.links; streams = serves.gives.streams; handles = serves.gives.handles; locks = serves.gives.locks; breaks = serves.gives.breaks; oplocks = serves.gives.oplocks; clock = serves.gives.clock };
+  no_oplocks = serves.no_oplocks;
+  no_breaks = serves.no_breaks;
+}
+
+-- and one that is held anew
+pub Serves-blockers : (v : Volume) (turn : ℕ) (blockers : List Blocker) → Serves v → Serves (with_blockers v turn blockers)
+Serves-blockers v turn blockers serves = record {
+  points = serves.points;
+  once = IsOnce-kept v (with_blockers v turn blockers) same serves.once;
+  asked = all-changed (λ call. is_line_call (length v.clients) call) v.pending serves.asked;
+  numbered = all-changed (λ call. nat_lt 0 call.number) v.pending serves.numbered;
+  waited = all-changed (λ call. awaits_made (with_blockers v turn blockers) call.client call.what) v.pending
+      (All-each (λ (entry : ℕ × Pending). IsTrue (awaits_made v entry.1.call.client entry.1.call.what)) (λ (entry : ℕ × Pending). IsTrue (awaits_made (with_blockers v turn blockers) entry.1.call.client entry.1.call.what))
+      (λ entry is. awaits-later v (with_blockers v turn blockers) entry.1.call.client entry.1.call.what (λ c n. (let equal = same c n in omega arith)) is) v.pending serves.waited);
+  handles = serves.handles;
+  opened = serves.opened;
+  gives = record { files = serves.gives.files; links = serves.gives.links; streams = serves.gives.streams; handles = serves.gives.handles; locks = serves.gives.locks; breaks = serves.gives.breaks; oplocks = serves.gives.oplocks; clock = serves.gives.clock };
+  no_oplocks = serves.no_oplocks;
+  no_breaks = serves.no_breaks;
+}
+  where
+    call-same : (entry : ℕ × Pending) → (change_at (λ row. record row { blockers = blockers }) turn entry).1.call ≡ entry.1.call
+    call-same entry = elim (cases_Bool (entry.0 == turn)) [ inl is ↦ rw is refl | inr isnt ↦ rw isnt refl ]
+
+    same : (c n : ℕ) → times c n (with_blockers v turn blockers) ≡ times c n v
+    same c n = (let mapped = how_many-map (λ (e : ℕ × Pending). is_call c n e.1) (change_at (λ row. record row { blockers = blockers }) turn) v.pending in
+        let alike = how_many-same (λ (e : ℕ × Pending). is_call c n (change_at (λ row. record row { blockers = blockers }) turn e).1) (λ e. is_call c n e.1) v.pending (λ e. ap (λ (call : Call). call.client == c && call.number == n) (call-same e)) in omega arith)
+
+    all-changed : (test : Call → Bool) (rows : List (ℕ × Pending)) → All (λ entry. IsTrue (test entry.1.call)) rows → All (λ (entry : ℕ × Pending). IsTrue (test entry.1.call)) (map (change_at (λ row. record row { blockers = blockers }) turn) rows)
+    all-changed test [] all = All-nil (λ (entry : ℕ × Pending). IsTrue (test entry.1.call))
+    all-changed test (row ∷ rows) all =
+        All-cons (λ (entry : ℕ × Pending). IsTrue (test entry.1.call)) (change_at (λ row. record row { blockers = blockers }) turn row) (map (change_at (λ row. record row { blockers = blockers }) turn) rows)
+        (subst (λ (call : Call). IsTrue (test call)) (sym (call-same row)) (All-head (λ (entry : ℕ × Pending). IsTrue (test entry.1.call)) row rows all))
+        (all-changed test rows (All-tail (λ (entry : ℕ × Pending). IsTrue (test entry.1.call)) row rows all))
+
+-- ---- the beginning
+
+pub Serves-fresh : (setup : Setup) → Serves (fresh setup)
+Serves-fresh setup = record {
+  points = All-cons (λ (entry : ℕ × File). PointFits entry.1) (1, root) [] tt (All-nil (λ (entry : ℕ × File). PointFits entry.1));
+  once = λ client number. omega arith;
+  asked = All-nil (λ (entry : ℕ × Pending). IsTrue (is_line_call (length setup.clients) entry.1.call));
+  numbered = All-nil (λ (entry : ℕ × Pending). IsTrue (nat_lt 0 entry.1.call.number));
+  waited = All-nil (λ (entry : ℕ × Pending). IsTrue (awaits_made (fresh setup) entry.1.call.client entry.1.call.what));
+  handles = All-nil (λ (entry : ℕ × Handle). IsTrue (has_ended (fresh setup) entry.1.client entry.1.number));
+  opened = All-nil (λ (entry : ℕ × Handle). IsTrue (nat_lt 0 entry.1.number));
+  gives = record { files = omega arith; links = omega arith; streams = omega arith; handles = omega arith; locks = omega arith; breaks = omega arith; oplocks = omega arith; clock = omega arith };
+  no_oplocks = refl;
+  no_breaks = refl;
+}

@@ -1,0 +1,75 @@
+-- What a machine is seen as: a setup, and the history of its turns.
+use Rattle.std.specs.Prelude.{◌≡◌, ℕ, ◌≤◌, ◌&&◌, nat_le, nat_lt, cond, Bool, true, false, List, [], ◌∷◌, ◌++◌, length, map, Result, Ok, Err, Option, Some, find, option_map}
+use Rattle.std.specs.List.{list_any}
+use Rattle.fsa_types.specs.declared.reply.Body.{Body}
+use Rattle.fsa_types.specs.declared.reply.Body.TheVariants.{Got, Packed, Stopped}
+use Rattle.fsa_types.specs.declared.reply.EndOf.{EndOf}
+use Rattle.fsa_types.specs.declared.reply.Out.{Out}
+use Rattle.fsa_types.specs.declared.reply.Reply.{Reply}
+use Rattle.fsa_types.specs.declared.reply.Why.{Why}
+use Rattle.fsa_types.specs.declared.reply.Why.TheVariants.{NoMemory, HistoryFull}
+use Rattle.fsa_types.specs.declared.request.Call.{Call}
+use Rattle.fsa_model.specs.Engine.{is_entry_of}
+use Rattle.fsa_model.specs.History.{HistoryEntry, Run, run}
+use Rattle.fsa_model.specs.Once.{how_many, is_end, made}
+use Rattle.fsa_model.specs.Outcome.{TurnOut}
+use Rattle.fsa_model.specs.Schedule.{calls_of}
+use Rattle.fsa_model.specs.Setup.{Setup}
+use Rattle.fsa_model.specs.Volume.{Volume}
+use Rattle.fsa_machine.specs.Serves.{Serves, most_entries}
+
+-- what contracts see of a machine
+pub record Seen : Type 0 where
+  pub setup : Setup
+  pub entries : List HistoryEntry
+
+-- what no turn changes of the volume is its setup
+abbrev pub setup_in : Volume → Setup
+setup_in v = record { table = v.table; clients = v.clients }
+
+-- the calls of these entries
+abbrev pub calls_in : List HistoryEntry → List Call
+calls_in entries = map (λ entry. entry.call) entries
+
+-- the calls of each client are numbered from 1, and each is there once
+abbrev pub CallsNumbered : List HistoryEntry → Type 0
+CallsNumbered entries = (client number : ℕ) → how_many (is_entry_of client number) entries ≡ cond (nat_lt 0 number && nat_le number (calls_of client (calls_in entries))) 1 0
+
+-- the volume is that of the run of these turns, which gave out this
+pub record Stands (setup : Setup) (entries : List HistoryEntry) (outs : List TurnOut) (v : Volume) : Type 0 where
+  pub state : Run
+  pub runs : run setup entries ≡ Some state
+  pub is : state.volume ≡ v
+  pub gave : state.outs ≡ outs
+  pub serves : Serves v
+  pub count : made v ≡ length entries
+  pub numbered : CallsNumbered entries
+  pub few : length entries ≤ most_entries
+
+-- the last turn of the history gave this out
+pub record GaveOut (setup : Setup) (entries : List HistoryEntry) (out : TurnOut) : Type 0 where
+  pub state : Run
+  pub runs : run setup entries ≡ Some state
+  pub before : List TurnOut
+  pub last : state.outs ≡ before ++ out ∷ []
+
+-- the turn was refused since the history is full
+abbrev pub is_full : Result Out (Call × Why) → Bool
+is_full (Ok out) = false
+is_full (Err (call, HistoryFull)) = true
+is_full (Err (call, NoMemory)) = false
+
+-- how the client's call of this number ended, where it has
+abbrev pub reply_in : List EndOf → ℕ → ℕ → Option Reply
+reply_in ended client number = option_map (λ end. end.reply) (find (is_end client number) ended)
+
+-- a copy of the body takes memory
+abbrev pub holds_list : Body → Bool
+holds_list (Got bytes) = true
+holds_list (Packed kind bytes) = true
+holds_list (Stopped tag bytes rest) = true
+holds_list _ = false
+
+-- the client's call of this number has ended with such a body
+abbrev pub ended_with_list : List EndOf → ℕ → ℕ → Bool
+ended_with_list ended client number = list_any (λ end. is_end client number end && holds_list end.reply.body) ended

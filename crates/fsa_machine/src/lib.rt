@@ -1,0 +1,49 @@
+//! The machine: one turn at a time over a volume, and the history of its turns.
+//!
+//! ```text
+//! let mut machine = VolumeMachine::new(alloc, setup)?;
+//! match machine.turn(alloc, call) {
+//!     Ok(out) => ..                                // one entry more; what the turn gave out
+//!     Err((call, Why::NoMemory)) => ..             // nothing has changed
+//!     Err((call, Why::HistoryFull)) => ..          // there are 1,000,000 entries
+//! }
+//! ```
+//!
+//! A machine is seen as its setup and the list of its entries. Its volume is that of their run, and what it
+//! keeps of each turn is what that turn of the run gave out; no call goes over the history again.
+//!
+//! - A turn (`turns`) takes its room, tries its own call (`own`), and settles what is pending (`settle`). The
+//!   definitions are `Turn` and `Settle` of `fsa_model`. What a turn gives out it makes twice (`ends`,
+//!   `replies`): the history keeps one copy, and the caller gets the other.
+//! - Room first: an end and a name for each pending call and for the turn's own, two copies of the own
+//!   reply, and the entry. A held call takes a copy of itself and two of its reply before it is tried
+//!   again; where that finds no memory it ends `NO_MEMORY`, and is named. Calls that end besides have
+//!   replies without bytes, which take no memory.
+//! - What is true of the volume between tries is `Serves`; from it follows what each try asks (`MayTry`). It
+//!   says that each handle was opened by a call that has ended, that each pending call is one that a line
+//!   can ask and waits for no call that wasn't made, and that few numbers were given.
+//! - What a turn needs of a volume is the trait `Store`.
+//! - A turn costs its tries, a look at the pending calls for each call that is taken up, and a copy of what it
+//!   gives out. A look at how a call ended goes over the ends.
+#![tactic(auto)]
+
+mod ends;
+mod kept;
+mod look;
+mod machine;
+mod own;
+mod replies;
+mod serving;
+mod settle;
+mod store;
+mod stored;
+#[cfg(test)]
+mod tests;
+mod turns;
+mod volume_machine;
+mod waiting;
+
+pub use machine::{MOST_ENTRIES, Machine};
+pub use serving::try_call;
+pub use store::{Ready, Store};
+pub use volume_machine::VolumeMachine;

@@ -1,0 +1,199 @@
+//! A machine: a store that stands for a setup and a history.
+
+ghost use Rattle.std.specs.Prelude.{◌≡◌, ◌≤◌, ◌<◌, ◌+◌, ◌==◌, ◌++◌, ◌∷◌, [], ℕ, true, not, is_some, IsSome, length, map, slice_get, Some, IfOk, IfErr, OnOk, OnErr};
+ghost use Rattle.std.specs.List.{list_any};
+ghost use Rattle.std.specs.Vec.{vec_capacity, vec_len};
+ghost use Rattle.fsa_model.specs.Engine.{EndsOnce, NoneReady, TakesReleased, is_entry_of};
+ghost use Rattle.fsa_model.specs.History.{Run, run};
+ghost use Rattle.fsa_model.specs.LineCalls.{IsLineCall};
+ghost use Rattle.fsa_model.specs.Once.{made, times};
+ghost use Rattle.fsa_model.specs.Outcome.{out_of};
+ghost use Rattle.fsa_model.specs.Schedule.{calls_of};
+ghost use Rattle.fsa_model.specs.Turn.{turn};
+ghost use Rattle.fsa_model.specs.Volume.{fresh};
+ghost use Rattle.fsa_model.specs.Waiting.{is_pending, waits};
+ghost use Rattle.fsa_model.proofs.TurnLaws.{MayTurn};
+ghost use Rattle.fsa_machine.specs.Kept.{entry_of, out_kept};
+ghost use Rattle.fsa_machine.specs.Serves.{MayTry, Serves, ServesOn, most_entries};
+ghost use Rattle.fsa_machine.specs.Stands.{GaveOut, Stands, calls_in, ended_with_list, is_full, reply_in, setup_in};
+
+use crate::kept::KeptTurn;
+use crate::look::reply_from;
+use crate::store::Store;
+use crate::turns::turn;
+use fsa_types::{Call, NoMemory, Out, Reply, TryCopy, Why};
+use std::alloc::Global;
+use std::marker::Model;
+
+/// The most entries of a history.
+pub const MOST_ENTRIES: usize = 1_000_000;
+
+/// A store that stands for a setup and a history, which it keeps.
+#[derive(Drop)]
+pub struct Machine<S: Store> {
+    kept: Vec<KeptTurn>,
+    store: S,
+}
+
+impl<S: Store> Model for Machine<S> {
+    ghost use Rattle.std.specs.Prelude.{map};
+    ghost use Rattle.fsa_machine.specs.Kept.{entry_of, out_kept};
+    ghost use Rattle.fsa_machine.specs.Stands.{Seen, Stands, setup_in};
+
+    ghost Value = { Seen };
+
+    ghost view = { λ m. record { setup = setup_in (S.content m.store); entries = map entry_of m.kept.items } };
+
+    ghost invariant = { λ m. Stands (setup_in (S.content m.store)) (map entry_of m.kept.items) (map out_kept m.kept.items) (S.content m.store) };
+}
+
+// Takes what is kept of a turn before it: room for it, and a copy of its call.
+fn take_entry(alloc: Global, kept: &mut Vec<KeptTurn>, call: &Call) -> Result<Call, NoMemory>
+    ensures kept { kept.new.items ≡ kept.old.items }
+    ensures room { OnOk result (vec_len kept.new < vec_capacity kept.new) }
+    ensures call { IfOk result (λ copy. copy ≡ call.now) }
+{
+    kept.reserve(1)?;
+    call.copy(alloc)
+}
+
+// Makes a turn, and keeps it.
+fn keep_turn<S: Store>(
+    alloc: Global,
+    store: &mut S,
+    kept: &mut Vec<KeptTurn>,
+    call: Call,
+) -> Result<Out, (Call, NoMemory)>
+    requires serves { Serves (S.content store.old) }
+    requires may_try { MayTry (S.content store.old) call }
+    requires number { 0 < call.number }
+    requires may { MayTurn (S.content store.old) }
+    requires new { times call.client call.number (S.content store.old) ≡ 0 }
+    requires few { made (S.content store.old) < most_entries }
+    ensures turn { IfOk result (λ out. turn (S.content store.old) call out.starved.items ≡ Some (record { volume = S.content store.new; out = out_of out })) }
+    ensures serves { OnOk result (ServesOn (S.content store.old) (S.content store.new)) }
+    ensures entries { IfOk result (λ out. map entry_of kept.new.items ≡ map entry_of kept.old.items ++ record { call = call; starved = out.starved.items } ∷ []) }
+    ensures outs { IfOk result (λ out. map out_kept kept.new.items ≡ map out_kept kept.old.items ++ out_of out ∷ []) }
+    ensures err { IfErr result (λ back. (S.content store.new ≡ S.content store.old) × (kept.new.items ≡ kept.old.items) × (back.0 ≡ call)) }
+{
+    let Ok(copy) = take_entry(alloc, kept, &call) else {
+        return Err((call, NoMemory));
+    };
+    let (given, out) = turn(alloc, store, call)?;
+    let Ok(()) = kept.push(KeptTurn { call: copy, out }) else {
+        unreachable!()
+    };
+    Ok(given)
+}
+
+// Makes a turn of the client's next call, and keeps it, unless the history is full.
+fn turn_of<S: Store>(
+    alloc: Global,
+    store: &mut S,
+    kept: &mut Vec<KeptTurn>,
+    call: Call,
+) -> Result<Out, (Call, Why)>
+    requires stands { Stands (setup_in (S.content store.old)) (map entry_of kept.old.items) (map out_kept kept.old.items) (S.content store.old) }
+    requires asked { IsLineCall (length (S.content store.old).clients) call }
+    requires number { call.number ≡ calls_of call.client (calls_in (map entry_of kept.old.items)) + 1 }
+    ensures stands { Stands (setup_in (S.content store.new)) (map entry_of kept.new.items) (map out_kept kept.new.items) (S.content store.new) }
+    ensures setup { setup_in (S.content store.new) ≡ setup_in (S.content store.old) }
+    ensures entries { IfOk result (λ out. map entry_of kept.new.items ≡ map entry_of kept.old.items ++ record { call = call; starved = out.starved.items } ∷ []) }
+    ensures outs { IfOk result (λ out. map out_kept kept.new.items ≡ map out_kept kept.old.items ++ out_of out ∷ []) }
+    ensures full { is_full result ≡ (length kept.old.items == most_entries) }
+    ensures err { IfErr result (λ back. (S.content store.new ≡ S.content store.old) × (kept.new.items ≡ kept.old.items) × (back.0 ≡ call)) }
+{
+    if kept.as_slice().len() == MOST_ENTRIES {
+        return Err((call, Why::HistoryFull));
+    }
+    match keep_turn(alloc, store, kept, call) {
+        Ok(out) => Ok(out),
+        Err((call, NoMemory)) => Err((call, Why::NoMemory)),
+    }
+}
+
+impl<S: Store> Machine<S> {
+    /// The machine with no history, over a new store.
+    pub fn over(alloc: Global, store: S) -> Machine<S>
+        requires fresh { S.content store ≡ fresh (setup_in (S.content store)) }
+        ensures setup { result.setup ≡ setup_in (S.content store) }
+        ensures entries { result.entries ≡ [] }
+    {
+        let kept = Vec::new(alloc);
+        Machine { kept, store }
+    }
+
+    /// Makes a turn of the client's next call: tries it, and settles what is pending. It appends one entry
+    /// with this call, or hands the call back with the reason and changes nothing. `HistoryFull` comes
+    /// exactly where there are 1,000,000 entries, before any memory is asked for; `NoMemory` where there
+    /// is none for the call. A pending call that finds no memory ends so, and is named in what is given
+    /// out.
+    pub fn turn(&mut self, alloc: Global, call: Call) -> Result<Out, (Call, Why)>
+        requires asked { IsLineCall (length self.old.setup.clients) call }
+        requires number { call.number ≡ calls_of call.client (calls_in self.old.entries) + 1 }
+        ensures setup { self.new.setup ≡ self.old.setup }
+        ensures entries { IfOk result (λ out. self.new.entries ≡ self.old.entries ++ record { call = call; starved = out.starved.items } ∷ []) }
+        ensures out { IfOk result (λ out. GaveOut self.new.setup self.new.entries (out_of out)) }
+        ensures none_is_ready { (r : Run) → run self.new.setup self.new.entries ≡ Some r → NoneReady r.volume }
+        ensures each_call_ends_once { (r : Run) → run self.new.setup self.new.entries ≡ Some r → EndsOnce self.new.entries r }
+        ensures a_held_call_is_tried_in_the_turn_that_lets_it_go { IfOk result (λ out. (r : Run) → run self.old.setup self.old.entries ≡ Some r → TakesReleased r.volume call out.starved.items) }
+        ensures full { is_full result ≡ (length self.old.entries == most_entries) }
+        ensures err { IfErr result (λ back. (self.new ≡ self.old) × (back.0 ≡ call)) }
+    {
+        turn_of(alloc, &mut self.store, &mut self.kept, call)
+    }
+
+    /// Whether the client waits for one of its calls.
+    pub fn waits(&self, client: u32) -> bool
+        ensures runs { IsSome (run self.now.setup self.now.entries) }
+        ensures waits { (r : Run) → run self.now.setup self.now.entries ≡ Some r → result ≡ waits r.volume client }
+    {
+        self.store.waits(client)
+    }
+
+    /// How many turns were made; 1,000,000 at most.
+    pub fn len(&self) -> u64
+        ensures { result ≡ length self.now.entries }
+    {
+        self.kept.len() as u64
+    }
+
+    /// The call of the turn at this place, from 0.
+    pub fn call_at(&self, i: u64) -> &Call
+        requires within { i < length self.now.entries }
+        ensures { slice_get (calls_in self.now.entries) i ≡ Some result.now }
+    {
+        let Some(kept) = self.kept.get(i as usize) else {
+            unreachable!()
+        };
+        &kept.call
+    }
+
+    /// What the turn at this place gave out, from 0.
+    pub fn out_at(&self, i: u64) -> &Out
+        requires within { i < length self.now.entries }
+        ensures { (r : Run) → run self.now.setup self.now.entries ≡ Some r → slice_get r.outs i ≡ Some (out_of result.now) }
+    {
+        let Some(kept) = self.kept.get(i as usize) else {
+            unreachable!()
+        };
+        &kept.out
+    }
+
+    /// How the client's call of this number ended; `None` exactly where it is pending. It has to be a call
+    /// of the history. There may be no memory for the copy only where the reply's body holds a list.
+    pub fn reply_of(
+        &self,
+        alloc: Global,
+        client: u32,
+        number: u32,
+    ) -> Result<Option<Reply>, NoMemory>
+        requires made { list_any (is_entry_of client number) self.now.entries ≡ true }
+        ensures runs { IsSome (run self.now.setup self.now.entries) }
+        ensures reply { IfOk result (λ reply. (r : Run) → run self.now.setup self.now.entries ≡ Some r → reply ≡ reply_in r.volume.ended client number) }
+        ensures pending { IfOk result (λ reply. (r : Run) → run self.now.setup self.now.entries ≡ Some r → is_some reply ≡ not (is_pending r.volume client number)) }
+        ensures no_memory { OnErr result ((r : Run) → run self.now.setup self.now.entries ≡ Some r → ended_with_list r.volume.ended client number ≡ true) }
+    {
+        reply_from(alloc, &self.store, client, number)
+    }
+}

@@ -1,0 +1,93 @@
+//! One try of any call.
+
+ghost use Rattle.std.specs.Prelude.{◌≡◌, ◌<◌, ◌+◌, ◌^◌};
+ghost use Rattle.fsa_machine.specs.Serves.{MayTry};
+ghost use Rattle.fsa_model.specs.Edits.{with_ticks};
+ghost use Rattle.fsa_model.specs.Outcome.{ends_with};
+ghost use Rattle.fsa_model.specs.Try.{try, try_request, try_what};
+ghost use Rattle.fsa_types.specs.declared.request.What.TheVariants.{Ask};
+ghost use Rattle.volume_state.specs.Room.{KeepsEnds};
+ghost use Rattle.volume_state.specs.Tried.{Gives, HasHoldRoom};
+
+use crate::waiting::{try_cancel, try_wait};
+use fsa_types::{Call, Request, Status, What};
+use op_data::{try_flush, try_lock, try_read, try_set_end, try_unlock, try_write};
+use op_delete::{try_close, try_leave};
+use op_info::try_set_security;
+use op_open::try_create;
+use std::alloc::Global;
+use volume_state::{Tried, Volume};
+
+// One try of a request.
+fn try_request(
+    alloc: Global,
+    volume: &mut Volume,
+    call: &Call,
+    request: &Request,
+    turn: u64,
+) -> Tried
+    requires is { call.now.what ≡ Ask request.now }
+    requires may { MayTry volume.old.content call.now }
+    ensures gives { Gives (try_request volume.old.content turn call.now.client call.now.number request.now) volume.old.content volume.new.content result }
+    ensures room { HasHoldRoom result volume.new.spare }
+    ensures ends { KeepsEnds volume.old volume.new }
+{
+    match request {
+        Request::Create { .. } => try_create(alloc, volume, call, turn),
+        Request::Close { .. } => try_close(alloc, volume, call, turn),
+        Request::Read { .. } => try_read(alloc, volume, call, turn),
+        Request::Write { .. } => try_write(alloc, volume, call, turn),
+        Request::Flush { .. } => try_flush(alloc, volume, call, turn),
+        Request::SetEnd { .. } => try_set_end(alloc, volume, call, turn),
+        Request::Lock { .. } => try_lock(alloc, volume, call, turn),
+        Request::Unlock { .. } => try_unlock(alloc, volume, call, turn),
+        Request::SetSecurity { .. } => try_set_security(alloc, volume, call, turn),
+        Request::Cancel { number } => try_cancel(volume, call.client, *number),
+        // No line can ask these so far. `Serves` says that no oplock is there; with these it has to say more.
+        Request::Oplock { .. } | Request::Ack { .. } | Request::Notify { .. } => unreachable!(),
+        _ => Tried::ends(Status::InvalidDeviceRequest),
+    }
+}
+
+// The clock goes on by so many ticks.
+fn try_tick(volume: &mut Volume, ticks: u32) -> Tried
+    requires fits { volume.old.content.clock + ticks < 2 ^ 64 }
+    ensures gives { Gives (ends_with (with_ticks volume.old.content ticks) Status.Success) volume.old.content volume.new.content result }
+    ensures room { HasHoldRoom result volume.new.spare }
+    ensures ends { KeepsEnds volume.old volume.new }
+{
+    volume.advance(ticks);
+    Tried::ends(Status::Success)
+}
+
+// One try of what a call does.
+fn try_what(alloc: Global, volume: &mut Volume, call: &Call, turn: u64) -> Tried
+    requires may { MayTry volume.old.content call.now }
+    ensures gives { Gives (try_what volume.old.content turn call.now.client call.now.number call.now.what) volume.old.content volume.new.content result }
+    ensures room { HasHoldRoom result volume.new.spare }
+    ensures ends { KeepsEnds volume.old volume.new }
+{
+    match &call.what {
+        What::Ask(request) => try_request(alloc, volume, call, request, turn),
+        What::Tick(ticks) => try_tick(volume, *ticks),
+        What::WaitFor(earlier) => try_wait(volume, call.client, call.number, *earlier),
+        What::Leave => try_leave(alloc, volume, call, turn),
+    }
+}
+
+/// One try of a call in this turn, or under it; a client that has left has no handle. It has to be known
+/// of the volume what `MayTry` says.
+///
+/// Where the call stays or is held there is room to make it pending, with its blockers. Of the room for
+/// ends it uses no more than one for each call that ends. `NoMemory` changes nothing.
+pub fn try_call(alloc: Global, volume: &mut Volume, call: &Call, turn: u64) -> Tried
+    requires may { MayTry volume.old.content call.now }
+    ensures gives { Gives (try volume.old.content call.now turn) volume.old.content volume.new.content result }
+    ensures room { HasHoldRoom result volume.new.spare }
+    ensures ends { KeepsEnds volume.old volume.new }
+{
+    if volume.has_left(call.client) {
+        return Tried::ends(Status::InvalidHandle);
+    }
+    try_what(alloc, volume, call, turn)
+}

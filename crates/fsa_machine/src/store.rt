@@ -1,0 +1,115 @@
+//! What a turn asks of the volume.
+
+ghost use Rattle.std.specs.Prelude.{◌≡◌, ◌≤◌, ◌+◌, ℕ, [], length, map, slice_get, option_map, OnOk};
+ghost use Rattle.std.specs.Option.{option_copied};
+ghost use Rattle.fsa_types.specs.Rows.{row_of};
+ghost use Rattle.fsa_model.specs.Edits.{with_blockers, with_end, with_pending};
+ghost use Rattle.fsa_model.specs.Try.{try};
+ghost use Rattle.fsa_model.specs.Volume.{Volume};
+ghost use Rattle.fsa_model.specs.Waiting.{all_wait, next_ready, waits, waits_in_order};
+ghost use Rattle.fsa_machine.specs.Serves.{MayHoldAnew, MayPend, MayTry, Serves};
+ghost use Rattle.fsa_machine.specs.Step.{id_of, ready_of};
+ghost use Rattle.fsa_machine.specs.Tried.{HasPendRoom};
+ghost use Rattle.volume_state.specs.Tried.{Gives};
+
+use fsa_types::{BlockerList, Call, CallIdList, EndOf, NoMemory, Reply};
+use std::alloc::Global;
+use volume_state::Tried;
+
+/// A pending call that is ready to be taken up.
+#[derive(Clone, Copy, Debug, PartialEq, Eq)]
+pub struct Ready {
+    /// The turn under which it is pending.
+    pub turn: u64,
+    /// Its client.
+    pub client: u32,
+    /// Its number.
+    pub number: u32,
+    /// Whether it waits for blockers; else it waits for a call.
+    pub held: bool,
+}
+
+/// A volume, as a turn sees it.
+pub trait Store {
+    // What it holds.
+    ghost content: { Self → Volume };
+
+    // How many more ends, pending calls and blockers can be put in without taking memory.
+    ghost spare_ends: { Self → ℕ };
+
+    ghost spare_pending: { Self → ℕ };
+
+    ghost spare_blockers: { Self → ℕ };
+
+    /// How many calls are pending.
+    fn pending_calls(&self) -> usize
+        ensures { result ≡ length (content self.now).pending };
+
+    /// How many calls have ended.
+    fn ends(&self) -> usize
+        ensures { result ≡ length (content self.now).ended };
+
+    /// The end at this place.
+    fn end_at(&self, i: usize) -> Option<&EndOf>
+        ensures { option_copied result ≡ slice_get (content self.now).ended i };
+
+    /// Takes room for so many more ends.
+    fn reserve(&mut self, ends: usize) -> Result<(), NoMemory>
+        ensures content { content self.new ≡ content self.old }
+        ensures ends { OnOk result (ends ≤ spare_ends self.new) };
+
+    /// One try of a call in this turn, or under it. Where the call stays or is held there is room to make it
+    /// pending. Of the room for ends it uses no more than one for each call that ends. `NoMemory` changes
+    /// nothing.
+    fn try_call(&mut self, alloc: Global, call: &Call, turn: u64) -> Tried
+        requires may { MayTry (content self.old) call.now }
+        ensures gives { Gives (try (content self.old) call.now turn) (content self.old) (content self.new) result }
+        ensures room { HasPendRoom result (spare_pending self.new) (spare_blockers self.new) }
+        ensures ends { spare_ends self.old + length (content self.old).ended ≤ spare_ends self.new + length (content self.new).ended };
+
+    /// The call has ended with this reply.
+    fn end(&mut self, client: u32, number: u32, reply: Reply)
+        requires room { 1 ≤ spare_ends self.old }
+        ensures content { content self.new ≡ with_end (content self.old) client number reply }
+        ensures left { spare_ends self.old ≤ spare_ends self.new + 1 };
+
+    /// The call is pending under this turn, with these blockers.
+    fn pend(&mut self, turn: u64, call: Call, blockers: BlockerList)
+        requires may { MayPend (content self.old) turn call blockers.items }
+        requires room { 1 ≤ spare_pending self.old }
+        requires blockers { length blockers.items ≤ spare_blockers self.old }
+        ensures content { content self.new ≡ with_pending (content self.old) turn call blockers.items }
+        ensures ends { spare_ends self.old ≤ spare_ends self.new };
+
+    /// The call that is pending under this turn, and held, waits for these blockers instead.
+    fn hold_anew(&mut self, turn: u64, blockers: BlockerList)
+        requires may { MayHoldAnew (content self.old) turn blockers.items }
+        requires blockers { length blockers.items ≤ spare_blockers self.old }
+        ensures content { content self.new ≡ with_blockers (content self.old) turn blockers.items }
+        ensures ends { spare_ends self.old ≤ spare_ends self.new };
+
+    /// The ready call of the least turn.
+    fn next_ready(&self) -> Option<Ready>
+        requires serves { Serves (content self.now) }
+        ensures { result ≡ option_map ready_of (next_ready (content self.now)) };
+
+    /// The call that is pending under this turn.
+    fn pending(&self, turn: u64) -> Option<&Call>
+        ensures { option_copied result ≡ option_map (λ row. row.call) (row_of (content self.now).pending turn) };
+
+    /// Whether the client waits for one of its calls.
+    fn waits(&self, client: u32) -> bool
+        ensures { result ≡ waits (content self.now) client };
+
+    /// Whether some client hasn't left, and all of those wait.
+    fn all_wait(&self) -> bool
+        ensures { result ≡ all_wait (content self.now) };
+
+    /// The waits, in order of clients and then of numbers, into an empty list with room for as many calls
+    /// as are pending.
+    fn list_waits(&self, list: &mut CallIdList)
+        requires none { list.old.items ≡ [] }
+        requires room { length (content self.now).pending ≤ list.old.room }
+        ensures items { list.new.items ≡ map id_of (waits_in_order (content self.now)) }
+        ensures room { list.new.room ≡ list.old.room };
+}

@@ -1,0 +1,129 @@
+//! The volume, as a turn sees it.
+
+ghost use Rattle.std.specs.Prelude.{◌≡◌, ◌≤◌, ◌+◌, ◌==◌, ℕ, [], Option, OnOk, false, length, map, option_map, slice_get};
+ghost use Rattle.std.specs.Option.{option_copied, option_map_or};
+ghost use Rattle.fsa_types.specs.Rows.{row_of};
+ghost use Rattle.fsa_machine.specs.Serves.{MayHoldAnew, MayPend, MayTry, Serves};
+ghost use Rattle.fsa_machine.specs.Step.{id_of, ready_of};
+ghost use Rattle.fsa_machine.specs.Tried.{HasPendRoom};
+ghost use Rattle.fsa_model.specs.Edits.{with_blockers, with_end, with_pending};
+ghost use Rattle.fsa_model.specs.Try.{try};
+ghost use Rattle.fsa_model.specs.Waiting.{all_wait, next_ready, waits, waits_in_order};
+ghost use Rattle.volume_state.specs.Tried.{Gives};
+ghost use Rattle.volume_state.specs.Waits.{lesser};
+
+use crate::serving;
+use crate::store::{Ready, Store};
+use fsa_types::{BlockerList, Call, CallIdList, EndOf, NoMemory, Reply};
+use std::alloc::Global;
+use volume_state::{Need, Tried, Volume};
+
+// The lesser of two numbers, where they are there.
+fn lesser(a: Option<u64>, b: Option<u64>) -> Option<u64>
+    ensures { result ≡ lesser a b }
+{
+    match (a, b) {
+        (None, b) => b,
+        (Some(a), None) => Some(a),
+        (Some(a), Some(b)) => Some(if a < b { a } else { b }),
+    }
+}
+
+// Whether a turn is this one.
+fn is_turn(first: Option<u64>, turn: u64) -> bool
+    ensures { result ≡ option_map_or (λ other. other == turn) first false }
+{
+    match first {
+        None => false,
+        Some(other) => other == turn,
+    }
+}
+
+// The ready call of the least turn: the held one that is let go first, or the first wait that is over.
+fn next_ready(volume: &Volume) -> Option<Ready>
+    requires serves { Serves volume.now.content }
+    ensures { result ≡ option_map ready_of (next_ready volume.now.content) }
+{
+    let let_go = volume.next_held();
+    let over = volume.next_over();
+    let Some(turn) = lesser(let_go, over) else {
+        return None;
+    };
+    let Some(call) = volume.pending(turn) else {
+        return None;
+    };
+    Some(Ready {
+        turn,
+        client: call.client,
+        number: call.number,
+        held: is_turn(let_go, turn),
+    })
+}
+
+impl Store for Volume {
+    ghost content = { λ v. v.content };
+
+    ghost spare_ends = { λ v. v.spare.ends };
+
+    ghost spare_pending = { λ v. v.spare.pending };
+
+    ghost spare_blockers = { λ v. v.spare.blockers };
+
+    fn pending_calls(&self) -> usize {
+        self.pending_calls()
+    }
+
+    fn ends(&self) -> usize {
+        self.ended_calls()
+    }
+
+    fn end_at(&self, i: usize) -> Option<&EndOf> {
+        self.ended(i as u64)
+    }
+
+    fn reserve(&mut self, ends: usize) -> Result<(), NoMemory> {
+        let Ok(ends) = u32::try_from(ends) else {
+            return Err(NoMemory);
+        };
+        self.reserve(&Need {
+            ends,
+            ..Need::nothing()
+        })
+    }
+
+    fn try_call(&mut self, alloc: Global, call: &Call, turn: u64) -> Tried {
+        serving::try_call(alloc, self, call, turn)
+    }
+
+    fn end(&mut self, client: u32, number: u32, reply: Reply) {
+        self.end(client, number, reply)
+    }
+
+    fn pend(&mut self, turn: u64, call: Call, blockers: BlockerList) {
+        self.pend(turn, call, blockers)
+    }
+
+    fn hold_anew(&mut self, turn: u64, blockers: BlockerList) {
+        self.hold_anew(turn, blockers)
+    }
+
+    fn next_ready(&self) -> Option<Ready> {
+        next_ready(self)
+    }
+
+    fn pending(&self, turn: u64) -> Option<&Call> {
+        self.pending(turn)
+    }
+
+    fn waits(&self, client: u32) -> bool {
+        self.waits(client)
+    }
+
+    fn all_wait(&self) -> bool {
+        self.all_wait()
+    }
+
+    fn list_waits(&self, list: &mut CallIdList) {
+        self.list_waits(list)
+    }
+}
