@@ -1,6 +1,4 @@
 pub mod BodyLaws
 pub mod LimitLaws
-pub mod MayLaws
+pub mod OrderLaws
 pub mod RunLaws
-pub mod TryAlone
-pub mod WholeLaws

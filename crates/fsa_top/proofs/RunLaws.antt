@@ -1,181 +1,315 @@
--- Laws of a run: one more turn, and its end.
-use Rattle.std.proofs.Common.{◌≡◌, ℕ, zero, suc, ◌+◌, ◌<◌, get_or, drop-cons, add-one, Result, Ok, Err, OnErr, List, [], ◌∷◌, ◌++◌, length, Option, Some, IsTrue, All, refl, ap, sym, subst, ◌∙◌, append_assoc, append-nil, arith, length-append}
-use Rattle.std.specs.Prelude.{map, drop}
+-- Laws of a run: one more turn, and its end; what was written is a part of the text of a schedule with all calls.
+use Rattle.std.proofs.Common.{◌≡◌, ℕ, ◌+◌, ◌<◌, ◌≤◌, Result, Ok, Err, OnErr, List, [], ◌∷◌, ◌++◌, length, length-append, length-set, get_or, not, map, take, ◌⊎◌, Some, None, All, ap, sym, subst, ◌∙◌, append_assoc, arith, inl, inr}
+use Rattle.std.specs.Prelude.{option_and_then, slice_get, slice_index_or, slice_set}
+use Rattle.std.proofs.lemmas.List.Elements.{All-cons, All-nil}
+use Rattle.std.proofs.lemmas.Option.{slice_get-get_or}
 use Rattle.fsa_types.specs.declared.request.Call.{Call}
-use Rattle.std.proofs.lemmas.List.{length-map}
-use Rattle.std.proofs.lemmas.List.Elements.{All-cons, All-nil, All-push}
 use Rattle.fsa_types.specs.declared.setup.Client.{Client as GivenClient}
-use Rattle.fsa_model.specs.Setup.{Client, Script, Setup, client_of}
-use Rattle.fsa_model.specs.Sound.{PointFits}
-use Rattle.fsa_model.specs.Volume.{File, Handle, Volume, fresh, root}
-use Rattle.fsa_model.specs.Turn.{Turned, turn}
-use Rattle.fsa_model.specs.History.{Run, run, begun, with_turn}
-use Rattle.fsa_model.specs.Schedule.{AreNumbered, Scheduled, all_calls, leave_after, next_in, plain_entry}
-use Rattle.fsa_model.specs.Frame.{PointsFit}
-use Rattle.fsa_model.specs.LineCalls.{AreLineCalls, HaveSids, IsLineCall}
-use Rattle.fsa_model.specs.NoWaits.{HasNoWaits}
-use Rattle.fsa_model.proofs.NoWaitsLaws.{HasNoWaits-fresh}
+use Rattle.fsa_model.specs.History.{HistoryEntry, Run, begun, run, turn_on, with_turn}
+use Rattle.fsa_model.specs.LineCalls.{HaveSids, IsLineCall}
+use Rattle.fsa_model.specs.Outcome.{TurnOut}
+use Rattle.fsa_model.specs.Schedule.{HasAllCalls, Scheduled, all_calls, calls_of, leave_after, next, next_in, is_made}
+use Rattle.fsa_model.specs.Setup.{Script, Setup, client_of}
 use Rattle.fsa_model.specs.Text.{last_line, shown_turns, text, turn_text}
-use Rattle.fsa_model.proofs.HistoryLaws.{run-push, shown_turns-push}
-use Rattle.fsa_model.proofs.ScheduleLaws.{Scheduled-none, Scheduled-push, entries-make_all, entries-push, length-entries, next_in-first, plain-scheduled}
-use Rattle.wire_io.specs.Sink.{Written, Appends}
-use Rattle.wire_io.proofs.SinkLaws.{Appends-append, Appends-none}
-use Rattle.fsa_top.specs.Stands.{Shows, Stands, Turns, is_of_made, leaves_from, turns_of}
-use Rattle.fsa_top.specs.Try.{GivesUpTo, Goes, MayTurn, most_turns}
-use Rattle.fsa_top.proofs.MayLaws.{MayTurn-next, handles-turn}
-
--- the root is a file, so one turn's numbers are given
-GivesUpTo-fresh : (setup : Setup) → GivesUpTo (fresh setup) 1
-GivesUpTo-fresh setup = record {
-  files = omega arith;
-  links = omega arith;
-  streams = omega arith;
-  handles = omega arith;
-  clock = omega arith;
-}
-
-PointsFit-fresh : (setup : Setup) → PointsFit (fresh setup)
-PointsFit-fresh setup = All-push (λ (entry : ℕ × File). PointFits entry.1) [] (1, root) (All-nil _) tt
-
--- before the first turn
-pub Stands-begun : (script : Script) (v : Volume) → v ≡ fresh script.setup → AreNumbered [] (all_calls script) → Stands script [] (all_calls script) v (begun script.setup)
-Stands-begun script v is_fresh numbered =
-    record {
-      all = refl;
-      numbered = numbered;
-      runs = refl;
-      volume = sym is_fresh;
-      no_waits = subst HasNoWaits (sym is_fresh) (HasNoWaits-fresh script.setup);
-      points = subst PointsFit (sym is_fresh) (PointsFit-fresh script.setup);
-      scheduled = Scheduled-none script;
-      few = subst (λ (w : Volume). GivesUpTo w 1) (sym is_fresh) (GivesUpTo-fresh script.setup);
-      clients = ap (λ (w : Volume). w.clients) is_fresh;
-      handles = subst (λ (w : Volume). All (λ (entry : ℕ × Handle). IsTrue (is_of_made [] entry.1)) w.handles) (sym is_fresh) (All-nil _);
-    }
-
-pub Shows-begun : (script : Script) (v : Volume) (written : Written) → v ≡ fresh script.setup → AreNumbered [] (all_calls script) → Shows script (all_calls script) v written written
-Shows-begun script v written is_fresh numbered = ([], begun script.setup, Stands-begun script v is_fresh numbered, Appends-none written)
-
--- the history with one more call's turn
-pub pushed : (made : List Call) (call : Call) → turns_of (made ++ call ∷ []) ≡ turns_of made ++ plain_entry call ∷ []
-pushed made call = entries-push made call
-
--- the next call of the history
-pub is_next : (script : Script) (made : List Call) (call : Call) (left : List Call) (v : Volume) (before : Run) → Stands script made (call ∷ left) v before → next_in (all_calls script) (turns_of made) before.volume ≡ Some call
-is_next script made call left v before stands =
-    subst (λ (calls : List Call). next_in calls (turns_of made) before.volume ≡ Some call) (sym stands.all)
-    (next_in-first made call left before.volume (subst (AreNumbered []) stands.all stands.numbered) (ap (λ (w : Volume). w.pending) stands.volume ∙ stands.no_waits.pending))
-
--- the turn of the next call, on the volume of the run
-turns_there : (script : Script) (made left : List Call) (v : Volume) (before : Run) (call : Call) (turned : Turned) → Stands script made left v before → turn v call [] ≡ Some turned → turn before.volume call [] ≡ Some turned
-turns_there script made left v before call turned stands turns = ap (λ (w : Volume). turn w call []) stands.volume ∙ turns
-
--- one more turn of the next call
-pub Stands-turn : (script : Script) (made : List Call) (call : Call) (left : List Call) (v new : Volume) (before : Run) (turned : Turned) → Stands script made (call ∷ left) v before
-    → turn v call [] ≡ Some turned → new ≡ turned.volume → Goes v call.client call.number new → Stands script (made ++ call ∷ []) left new (with_turn before turned)
-Stands-turn script made call left v new before turned stands turns is_new goes =
-    let there = turns_there script made (call ∷ left) v before call turned stands turns in
-    record {
-      all = stands.all ∙ sym (append_assoc made (call ∷ []) left);
-      numbered = stands.numbered;
-      runs = ap (run script.setup) (pushed made call) ∙ run-push script.setup (turns_of made) (plain_entry call) before turned stands.runs there;
-      volume = sym is_new;
-      no_waits = goes.no_waits;
-      points = goes.points;
-      scheduled = subst (Scheduled script) (sym (pushed made call)) (Scheduled-push script (turns_of made) (plain_entry call) before turned stands.scheduled stands.runs (is_next script made call left v before stands) there);
-      few = subst (GivesUpTo new) (ap (λ n. n + 1) (sym (length-append made (call ∷ [])))) (goes.gives (length made + 1) stands.few);
-      clients = goes.clients ∙ stands.clients;
-      handles = handles-turn script made call left v new before stands goes;
-    }
-
--- what is shown after one more turn
-pub shown-turn : (script : Script) (made : List Call) (call : Call) (left : List Call) (v : Volume) (before : Run) (turned : Turned) → Stands script made (call ∷ left) v before
-    → turn v call [] ≡ Some turned → shown_turns script (turns_of (made ++ call ∷ [])) ≡ shown_turns script (turns_of made) ++ turn_text script.setup.clients call turned.out
-shown-turn script made call left v before turned stands turns =
-    ap (shown_turns script) (pushed made call)
-    ∙ shown_turns-push script (turns_of made) (plain_entry call) before turned stands.runs (turns_there script made (call ∷ left) v before call turned stands turns)
-
--- the turn of the next call was made, and its lines were written
-pub Shows-turn : (script : Script) (call : Call) (left : List Call) (v new : Volume) (old mid now : Written) (turned : Turned) → Shows script (call ∷ left) v old mid
-    → Turns v new script.setup.clients call mid now turned → Shows script left new old now
-Shows-turn script call left v new old mid now turned shows turns = (
-  shows.0 ++ call ∷ [],
-  with_turn shows.1 turned,
-  Stands-turn script shows.0 call left v new shows.1 turned shows.2 turns.turns turns.volume turns.goes,
-  subst (Appends old now) (sym (shown-turn script shows.0 call left v shows.1 turned shows.2 turns.turns)) (Appends-append old mid now _ _ shows.3 turns.wrote),
-)
-
--- all calls were made
-pub all_made : (script : Script) (v : Volume) (old now : Written) (shows : Shows script [] v old now) → shows.0 ≡ all_calls script
-all_made script v old now shows = sym (append-nil shows.0) ∙ sym shows.2.all
-
--- the last line was written behind the lines of all turns
-pub Shows-whole : (script : Script) (v : Volume) (old mid now : Written) (shows : Shows script [] v old mid) → Appends mid now (last_line (length (all_calls script))) → Appends old now (text script (turns_of (all_calls script)))
-Shows-whole script v old mid now shows last =
-    subst (λ (n : ℕ). Appends old now (shown_turns script (turns_of (all_calls script)) ++ last_line n)) (sym (length-entries (all_calls script)))
-    (Appends-append old mid now _ _ (subst (λ (calls : List Call). Appends old mid (shown_turns script (turns_of calls))) (all_made script v old mid shows) shows.3) last)
-
--- a call of the script
-pub AreLineCalls-at : (clients : ℕ) (calls : List Call) (i : ℕ) (call : Call) → AreLineCalls clients calls → i < length calls → call ≡ get_or calls i call → IsLineCall clients call
-AreLineCalls-at clients [] i call fit within is = absurd (omega arith)
-AreLineCalls-at clients (first ∷ more) zero call fit within is = subst (IsLineCall clients) (sym is) fit.0
-AreLineCalls-at clients (first ∷ more) (suc i) call fit within is = AreLineCalls-at clients more i call fit.1 (omega arith) is
-
--- a client's leaving
-pub IsLineCall-leave : (lines : List Call) (client clients : ℕ) → client < clients → IsLineCall clients (leave_after lines client)
-IsLineCall-leave lines client clients within = record { fits = refl; marks_nothing = refl; ticks = refl; client = within }
-
--- the turn of the next call may be made
-pub Shows-may : (script : Script) (call : Call) (left : List Call) (v : Volume) (old now : Written) → Shows script (call ∷ left) v old now
-    → IsLineCall (length script.setup.clients) call → length (all_calls script) < most_turns → MayTurn v call
-Shows-may script call left v old now shows asked few = MayTurn-next script shows.0 call left v shows.1 shows.2 asked few
-
--- the calls from a place on
-drop-next : (calls : List Call) (i : ℕ) (call : Call) → i < length calls → call ≡ get_or calls i call → drop i calls ≡ call ∷ drop (i + 1) calls
-drop-next calls i call within is = drop-cons calls i call within ∙ ap (λ (c : Call). c ∷ drop (suc i) calls) (sym is) ∙ ap (λ n. call ∷ drop n calls) (sym (add-one i))
-
--- the calls that are left, the next one in front
-pub Shows-next : (script : Script) (calls rest : List Call) (i : ℕ) (call : Call) (v : Volume) (old now : Written) → Shows script (drop i calls ++ rest) v old now
-    → i < length calls → call ≡ get_or calls i call → Shows script (call ∷ drop (i + 1) calls ++ rest) v old now
-Shows-next script calls rest i call v old now shows within is =
-    subst (λ (left : List Call). Shows script left v old now) (ap (λ (left : List Call). left ++ rest) (drop-next calls i call within is)) shows
-
--- the leavings from a place on
-leaves-next : (lines : List Call) (clients : List Client) (k i : ℕ) → i < length clients → leaves_from lines k (drop i clients) ≡ leave_after lines k ∷ leaves_from lines (k + 1) (drop (suc i) clients)
-leaves-next lines [] k i within = absurd (omega arith)
-leaves-next lines (client ∷ clients) k zero within = refl
-leaves-next lines (client ∷ clients) k (suc i) within = leaves-next lines clients k i (omega arith)
-
--- the leavings that are left, the next one in front
-pub Shows-leave : (script : Script) (i : ℕ) (v : Volume) (old now : Written) → Shows script (leaves_from script.lines i (drop i script.setup.clients)) v old now
-    → i < length script.setup.clients → Shows script (leave_after script.lines i ∷ leaves_from script.lines (i + 1) (drop (i + 1) script.setup.clients)) v old now
-Shows-leave script i v old now shows within =
-    subst (λ (left : List Call). Shows script left v old now)
-    (leaves-next script.lines script.setup.clients i i within ∙ ap (λ n. leave_after script.lines i ∷ leaves_from script.lines (i + 1) (drop n script.setup.clients)) (sym (add-one i))) shows
+use Rattle.fsa_model.specs.Turn.{Turned, turn}
+use Rattle.fsa_model.specs.Waiting.{waits}
+use Rattle.fsa_model.proofs.CountLaws.{how_many-length}
+use Rattle.fsa_model.proofs.HistoryLaws.{shown_turns-push, steps-push}
+use Rattle.fsa_model.proofs.RowLaws.{option_cases}
+use Rattle.fsa_model.proofs.ScheduleLaws.{Scheduled-none, Scheduled-push}
+use Rattle.fsa_model.proofs.ScriptLaws.{all_calls-numbered}
+use Rattle.fsa_model.proofs.SettleLaws.{some_equal}
+use Rattle.history_laws.specs.Cursors.{StandAt, first_from, first_of}
+use Rattle.history_laws.specs.Named.{IsRead}
+use Rattle.history_laws.specs.Whole.{GoesOnTo, how_many_left}
+use Rattle.history_laws.proofs.CursorLaws.{first_from-is}
+use Rattle.history_laws.proofs.NextLaws.{AreLineCalls-all, AreLineCalls-at}
+use Rattle.history_laws.proofs.OrderLaws.{call_within, calls-begun, calls-go, next-all, next-least, next-none, next_at_cursor}
+use Rattle.history_laws.proofs.PlaceLaws.{is_same-at, is_same-self, number_at}
+use Rattle.history_laws.proofs.PlainText.{text-plain}
+use Rattle.history_laws.proofs.SameText.{same_text}
+use Rattle.history_laws.proofs.WholeLaws.{Scheduled-goes_on, left_falls, some_run}
+use Rattle.fsa_machine.specs.Stands.{Seen}
+use Rattle.wire_io.specs.Sink.{Written, Appends, AppendsPart}
+use Rattle.wire_io.proofs.SinkLaws.{Appends-append, Appends-none, AppendsPart-append, AppendsPart-longer, AppendsPart-whole}
+use Rattle.fsa_top.specs.Order.{Follows, IsLeastCursor, IsWithin}
+use Rattle.fsa_top.specs.Runs.{WritesPart, WritesText}
+use Rattle.fsa_top.specs.Progress.{IsNextAt, MadeTurn, MakesTurn, Shows, Progress}
+use Rattle.fsa_top.specs.declared.order.Order.{Order}
+use Rattle.fsa_top.specs.declared.run.RunFault.{RunFault}
+use Rattle.fsa_top.proofs.OrderLaws.{length-all_calls}
+use Rattle.fsa_top.specs.declared.run.RunFault.TheVariants.{Failed, NoMemory}
 
 pub OnErr-any : {T E : Type 0} (r : Result T E) (P : Type 0) → P → OnErr r P
 OnErr-any (Ok x) P p = tt
 OnErr-any (Err e) P p = p
 
-length-leaves : (lines : List Call) (k : ℕ) (clients : List Client) → length (leaves_from lines k clients) ≡ length clients
-length-leaves lines k [] = refl
-length-leaves lines k (client ∷ clients) = ap suc (length-leaves lines (k + 1) clients)
-
--- the calls of a script are its lines and the leavings
-pub length-all_calls : (script : Script) → length (all_calls script) ≡ length script.lines + length script.setup.clients
-length-all_calls script = length-append script.lines (leaves_from script.lines 0 script.setup.clients) ∙ ap (λ n. length script.lines + n) (length-leaves script.lines 0 script.setup.clients)
-
--- the lines and the clients of a script, counted
-pub length-counted : (script : Script) (lines : List Call) (clients : List GivenClient) → lines ≡ script.lines → map client_of clients ≡ script.setup.clients
-    → length lines + length clients ≡ length (all_calls script)
-length-counted script lines clients same_lines same_clients =
-    let counted : length lines ≡ length script.lines = ap length same_lines in
-    let mapped : length (map client_of clients) ≡ length clients = length-map clients client_of in
-    let clients_counted : length (map client_of clients) ≡ length script.setup.clients = ap length same_clients in
-    let calls : length (all_calls script) ≡ length script.lines + length script.setup.clients = length-all_calls script in
-    omega arith
-
 -- clients that have SIDs, as they are given
 pub HaveSids-given : (clients : List GivenClient) → HaveSids (map client_of clients) → All (λ client. 0 < length client.sids.items) clients
 HaveSids-given [] have = All-nil (λ (client : GivenClient). 0 < length client.sids.items)
 HaveSids-given (client ∷ clients) have = All-cons (λ (client : GivenClient). 0 < length client.sids.items) client clients have.0 (HaveSids-given clients have.1)
+
+-- ---- the turn of a longer history
+
+-- the run before the last turn, and that turn
+record LastTurn (setup : Setup) (history : List HistoryEntry) (entry : HistoryEntry) (state : Run) : Type 0 where
+  before : Run
+  turned : Turned
+  runs : run setup history ≡ Some before
+  turns : turn before.volume entry.call entry.starved ≡ Some turned
+  is : with_turn before turned ≡ state
+
+last_turn : (setup : Setup) (history : List HistoryEntry) (entry : HistoryEntry) (state : Run) → run setup (history ++ entry ∷ []) ≡ Some state → LastTurn setup history entry state
+last_turn setup history entry state is = of (option_cases (run setup history)) (sym (steps-push turn_on (begun setup) history entry) ∙ is)
+  where
+    of : (run setup history ≡ None) ⊎ ((r : Run) × (run setup history ≡ Some r)) → option_and_then (λ (after : Run). turn_on after entry) (run setup history) ≡ Some state → LastTurn setup history entry state
+    of (inl none) goes = absurd (let impossible : None ≡ Some state = rw none at goes in cc)
+    of (inr some) goes = elim (option_cases (turn some.0.volume entry.call entry.starved)) [
+      | inl none ↦ absurd (let impossible : None ≡ Some state = rw (some.1, none) at goes in cc)
+      | inr turned ↦ record { before = some.0; turned = turned.0; runs = some.1; turns = turned.1; is = some_equal _ state (rw (some.1, turned.1) at goes) }
+    ]
+
+last_same : {X : Type 0} (xs ys : List X) (x y : X) → xs ++ x ∷ [] ≡ ys ++ y ∷ [] → x ≡ y
+last_same [] [] x y same = cc
+last_same [] (first ∷ ys) x y same = absurd (let long : length ([] ++ x ∷ []) ≡ length (first ∷ ys ++ y ∷ []) = ap length same in let more : length (ys ++ y ∷ []) ≡ length ys + 1 = length-append ys (y ∷ []) in omega arith)
+last_same (first ∷ xs) [] x y same = absurd (let long : length (first ∷ xs ++ x ∷ []) ≡ length ([] ++ y ∷ []) = ap length same in let more : length (xs ++ x ∷ []) ≡ length xs + 1 = length-append xs (x ∷ []) in omega arith)
+last_same (first ∷ xs) (other ∷ ys) x y same = last_same xs ys x y (let rest : xs ++ x ∷ [] ≡ ys ++ y ∷ [] = cc in rest)
+
+-- the machine's turn is a turn of the script's history
+record MakesNext (script : Script) (old : Seen) (call : Call) (out : TurnOut) : Type 0 where
+  before : Run
+  turned : Turned
+  runs : run script.setup old.entries ≡ Some before
+  turns : turn before.volume call out.starved ≡ Some turned
+  out_is : turned.out ≡ out
+
+makes_next : (script : Script) (old new : Seen) (call : Call) (out : TurnOut) → old.setup ≡ script.setup → MadeTurn old new call out → MakesNext script old call out
+makes_next script old new call out setup made =
+    let runs : run script.setup (old.entries ++ record { call = call; starved = out.starved } ∷ []) ≡ Some made.gave.state
+    = ap (λ (s : Setup). run s (old.entries ++ record { call = call; starved = out.starved } ∷ [])) (sym (made.setup ∙ setup)) ∙ ap (run new.setup) (sym made.entries) ∙ made.gave.runs in
+    let last : LastTurn script.setup old.entries (record { call = call; starved = out.starved }) made.gave.state = last_turn script.setup old.entries (record { call = call; starved = out.starved }) made.gave.state runs in
+    record {
+      before = last.before;
+      turned = last.turned;
+      runs = last.runs;
+      turns = last.turns;
+      out_is = last_same last.before.outs made.gave.before last.turned.out out (ap (λ (r : Run). r.outs) last.is ∙ made.gave.last);
+    }
+
+next_is : (script : Script) (history : List HistoryEntry) (call : Call) (before : Run) → run script.setup history ≡ Some before → next script history ≡ Some call → next_in (all_calls script) history before.volume ≡ Some call
+next_is script history call before runs is = sym (ap (option_and_then (λ (r : Run). next_in (all_calls script) history r.volume)) runs) ∙ is
+
+-- ---- one more turn
+
+pub scheduled-turn : (script : Script) (old new : Seen) (call : Call) (out : TurnOut) → old.setup ≡ script.setup → Scheduled script old.entries → next script old.entries ≡ Some call → MadeTurn old new call out
+    → Scheduled script new.entries
+scheduled-turn script old new call out setup scheduled is made =
+    let turns : MakesNext script old call out = makes_next script old new call out setup made in
+    subst (Scheduled script) (sym made.entries)
+    (Scheduled-push script old.entries (record { call = call; starved = out.starved }) turns.before turns.turned scheduled turns.runs (next_is script old.entries call turns.before turns.runs is) turns.turns)
+
+shown-turn : (script : Script) (old new : Seen) (call : Call) (out : TurnOut) → old.setup ≡ script.setup → MadeTurn old new call out
+    → shown_turns script new.entries ≡ shown_turns script old.entries ++ turn_text old.setup.clients call out
+shown-turn script old new call out setup made =
+    let turns : MakesNext script old call out = makes_next script old new call out setup made in
+    ap (shown_turns script) made.entries
+    ∙ shown_turns-push script old.entries (record { call = call; starved = out.starved }) turns.before turns.turned turns.runs turns.turns
+    ∙ ap (λ (o : TurnOut). shown_turns script old.entries ++ turn_text script.setup.clients call o) turns.out_is
+    ∙ ap (λ (s : Setup). shown_turns script old.entries ++ turn_text s.clients call out) (sym setup)
+
+pub Shows-turn : (script : Script) (old new : Seen) (call : Call) (out : TurnOut) (first mid now : Written) → old.setup ≡ script.setup → next script old.entries ≡ Some call → MadeTurn old new call out
+    → Appends mid now (turn_text old.setup.clients call out) → Shows script old.entries first mid → Shows script new.entries first now
+Shows-turn script old new call out first mid now setup is made wrote shows = record {
+  scheduled = scheduled-turn script old new call out setup shows.scheduled is made;
+  wrote = subst (Appends first now) (sym (shown-turn script old new call out setup made)) (Appends-append first mid now _ _ shows.wrote wrote);
+}
+
+-- fewer calls are left
+pub left-turn : (script : Script) (old new : Seen) (call : Call) (out : TurnOut) → old.setup ≡ script.setup → next script old.entries ≡ Some call → MadeTurn old new call out
+    → how_many_left script new.entries < how_many_left script old.entries
+left-turn script old new call out setup is made =
+    let turns : MakesNext script old call out = makes_next script old new call out setup made in
+    subst (λ (history : List HistoryEntry). how_many_left script history < how_many_left script old.entries) (sym made.entries)
+    (left_falls script old.entries (record { call = call; starved = out.starved }) turns.before.volume (next_is script old.entries call turns.before turns.runs is))
+
+-- ---- the next call
+
+-- it stands at its client's cursor
+pub at_cursor : (script : Script) (seen : Seen) (order : Order) (place : ℕ) (call : Call) → Progress script seen order → next script seen.entries ≡ Some call → slice_get (all_calls script) place ≡ Some call
+    → slice_index_or order.places.items call.client 0 ≡ place
+at_cursor script seen order place call stands is at =
+    let r = some_run script seen.entries stands.scheduled in
+    let there : slice_get (all_calls script) (slice_index_or order.places.items call.client 0) ≡ Some call
+    = next_at_cursor script seen.entries order.places.items r.0.volume call stands.is_read stands.cursors stands.long (next_is script seen.entries call r.0 r.1 is) in
+    is_same-at (all_calls script) (slice_index_or order.places.items call.client 0) place call call (all_calls-numbered script stands.is_read.numbered) there at (is_same-self call)
+
+-- a turn of it may be made
+pub next-asked : (script : Script) (seen : Seen) (order : Order) (place : ℕ) (call : Call) → Progress script seen order → next script seen.entries ≡ Some call → slice_get (all_calls script) place ≡ Some call
+    → IsLineCall (length seen.setup.clients) call × (call.number ≡ calls_of call.client (map (λ entry. entry.call) seen.entries) + 1)
+next-asked script seen order place call stands is at =
+    let fits : IsLineCall (length script.setup.clients) call = AreLineCalls-at (length script.setup.clients) (all_calls script) place call (AreLineCalls-all script stands.is_read.fit) at in
+    let number : call.number ≡ calls_of call.client (take place (all_calls script)) + 1 = number_at [] (all_calls script) place call (all_calls-numbered script stands.is_read.numbered) at in
+    let inside : call.client < length script.setup.clients = call_within script place call stands.is_read at in
+    let counts : calls_of call.client (map (λ (entry : HistoryEntry). entry.call) seen.entries) ≡ calls_of call.client (take (slice_index_or order.places.items call.client 0) (all_calls script)) = stands.cursors.counts call.client (omega (arith, inside, stands.long)) in
+    let here : calls_of call.client (take (slice_index_or order.places.items call.client 0) (all_calls script)) ≡ calls_of call.client (take place (all_calls script)) = ap (λ (p : ℕ). calls_of call.client (take p (all_calls script))) (at_cursor script seen order place call stands is at) in (
+      subst (λ (s : Setup). IsLineCall (length s.clients) call) (sym stands.setup) fits,
+      omega (arith, number, counts, here),
+    )
+
+-- after its turn
+pub Progress-turn : (script : Script) (old new : Seen) (order later : Order) (place : ℕ) (call : Call) (out : TurnOut) → Progress script old order → next script old.entries ≡ Some call → slice_get (all_calls script) place ≡ Some call
+    → MadeTurn old new call out → later.following ≡ order.following → later.places.items ≡ slice_set order.places.items call.client (first_from call.client (place + 1) (all_calls script)) → Progress script new later
+Progress-turn script old new order later place call out stands is at made following places =
+    let cursor : slice_index_or order.places.items call.client 0 ≡ place = at_cursor script old order place call stands is at in
+    let goes : StandAt (all_calls script) (old.entries ++ record { call = call; starved = out.starved } ∷ []) (slice_set order.places.items call.client (first_from call.client (slice_index_or order.places.items call.client 0 + 1) (all_calls script)))
+    = calls-go script old.entries order.places.items (record { call = call; starved = out.starved }) stands.is_read stands.cursors stands.long (ap (slice_get (all_calls script)) cursor ∙ at) in
+    record {
+      is_read = stands.is_read;
+      within = stands.within;
+      setup = made.setup ∙ stands.setup;
+      scheduled = scheduled-turn script old new call out stands.setup stands.scheduled is made;
+      few = (let falls = left-turn script old new call out stands.setup is made in
+          let long : length new.entries ≡ length old.entries + 1 = ap (λ (h : List HistoryEntry). length h) made.entries ∙ length-append old.entries (record { call = call; starved = out.starved } ∷ []) in
+          omega (arith, falls, long, stands.few));
+      follows = subst (λ (f : List ℕ). Follows script f) (sym (ap (λ f. f.items) following)) stands.follows;
+      long = ap length places ∙ length-set order.places.items call.client _ ∙ stands.long;
+      cursors = subst (λ (history : List HistoryEntry). StandAt (all_calls script) history later.places.items) (sym made.entries)
+          (subst (StandAt (all_calls script) (old.entries ++ record { call = call; starved = out.starved } ∷ []))
+          (ap (λ (p : ℕ). slice_set order.places.items call.client (first_from call.client (p + 1) (all_calls script))) cursor ∙ sym places) goes);
+    }
+
+-- ---- before the first turn
+
+pub Progress-begun : (script : Script) (seen : Seen) (order : Order) → IsRead script → IsWithin script → seen.setup ≡ script.setup → seen.entries ≡ [] → Follows script order.following.items
+    → length order.places.items ≡ length script.setup.clients → ((client : ℕ) → client < length order.places.items → slice_index_or order.places.items client 0 ≡ first_of client (all_calls script)) → Progress script seen order
+Progress-begun script seen order is_read within setup none follows long first = record {
+  is_read = is_read;
+  within = within;
+  setup = setup;
+  scheduled = subst (Scheduled script) (sym none) (Scheduled-none script);
+  few = (let all = how_many-length (λ (c : Call). not (is_made [] c)) (all_calls script) in
+      subst (λ (h : List HistoryEntry). length h + how_many_left script h ≤ length (all_calls script)) (sym none) (omega (arith, all)));
+  follows = follows;
+  long = long;
+  cursors = subst (λ (history : List HistoryEntry). StandAt (all_calls script) history order.places.items) (sym none) (calls-begun script order.places.items is_read long first);
+}
+
+pub Shows-begun : (script : Script) (history : List HistoryEntry) (written : Written) → history ≡ [] → Shows script history written written
+Shows-begun script history written none = subst (λ (h : List HistoryEntry). Shows script h written written) (sym none) (record { scheduled = Scheduled-none script; wrote = Appends-none written })
+
+-- ---- what was written so far
+
+some_last : (rest : List ℕ) (turns : ℕ) → 0 < length (rest ++ last_line turns)
+some_last rest turns = omega (arith, length-append rest (last_line turns))
+
+-- the text is what was shown, and more
+text_split : (script : Script) (whole : List HistoryEntry) (shown rest : List ℕ) → shown_turns script whole ≡ shown ++ rest → text script whole ≡ shown ++ (rest ++ last_line (length whole))
+text_split script whole shown rest is = ap (λ (lines : List ℕ). lines ++ last_line (length whole)) is ∙ append_assoc shown rest (last_line (length whole))
+
+whole_part : (script : Script) (history whole : List HistoryEntry) (first now : Written) → (goes : GoesOnTo script history whole)
+    → AppendsPart first now (shown_turns script history ++ (goes.shows.0 ++ last_line (length whole))) → WritesPart script first now
+whole_part script history whole first now goes part =
+    (whole, goes.scheduled, goes.all, subst (AppendsPart first now) (sym (text_split script whole (shown_turns script history) goes.shows.0 goes.shows.1)) part)
+
+pub Shows-part : (script : Script) (history : List HistoryEntry) (first now : Written) → IsRead script → Shows script history first now → WritesPart script first now
+Shows-part script history first now is_read shows =
+    let goes = Scheduled-goes_on script history is_read shows.scheduled in
+    whole_part script history goes.0 first now goes.1
+    (AppendsPart-whole first now (shown_turns script history) (goes.1.shows.0 ++ last_line (length goes.0)) (some_last goes.1.shows.0 (length goes.0)) shows.wrote)
+
+-- so it is with a part of the lines of the next turn
+Shows-front : (script : Script) (old new : Seen) (call : Call) (out : TurnOut) (first mid now : Written) → IsRead script → old.setup ≡ script.setup → next script old.entries ≡ Some call → MadeTurn old new call out
+    → AppendsPart mid now (turn_text old.setup.clients call out) → Shows script old.entries first mid → WritesPart script first now
+Shows-front script old new call out first mid now is_read setup is made front shows =
+    let goes = Scheduled-goes_on script new.entries is_read (scheduled-turn script old new call out setup shows.scheduled is made) in
+    whole_part script new.entries goes.0 first now goes.1
+    (AppendsPart-longer first now (shown_turns script new.entries) (goes.1.shows.0 ++ last_line (length goes.0))
+    (subst (AppendsPart first now) (sym (shown-turn script old new call out setup made)) (AppendsPart-append first mid now _ _ shows.wrote front)))
+
+-- a turn that wasn't made, or whose lines weren't written
+pub MakesTurn-part : (script : Script) (old new : Seen) (call : Call) (first mid now : Written) (fault : RunFault) → IsRead script → old.setup ≡ script.setup → next script old.entries ≡ Some call
+    → MakesTurn old new call mid now (Err fault) → Shows script old.entries first mid → WritesPart script first now
+MakesTurn-part script old new call first mid now Failed is_read setup is makes shows = Shows-front script old new call makes.0 first mid now is_read setup is makes.1 makes.2 shows
+MakesTurn-part script old new call first mid now NoMemory is_read setup is makes shows = subst (WritesPart script first) (sym makes) (Shows-part script old.entries first mid is_read shows)
+
+-- ---- the end
+
+-- a part of the last line was written behind the lines of all turns
+pub Shows-last_part : (script : Script) (history : List HistoryEntry) (first mid now : Written) → HasAllCalls script history → Shows script history first mid → AppendsPart mid now (last_line (length history)) → WritesPart script first now
+Shows-last_part script history first mid now all shows last = (history, shows.scheduled, all, AppendsPart-append first mid now _ _ shows.wrote last)
+
+-- the last line was
+pub Shows-whole : (script : Script) (history : List HistoryEntry) (first mid now : Written) → IsRead script → HasAllCalls script history → Shows script history first mid → Appends mid now (last_line (length history)) → WritesText script first now
+Shows-whole script history first mid now is_read all shows last = (
+  history,
+  record {
+    scheduled = shows.scheduled;
+    whole = all;
+    only = λ other scheduled whole same. same_text script history other is_read shows.scheduled all scheduled whole same;
+    plainly = λ none. text-plain script history is_read shows.scheduled all none;
+  },
+  Appends-append first mid now _ _ shows.wrote last,
+)
+
+-- where no call is next
+pub Progress-all : (script : Script) (seen : Seen) (order : Order) → Progress script seen order → next script seen.entries ≡ None → HasAllCalls script seen.entries
+Progress-all script seen order stands none = next-all script seen.entries stands.is_read stands.scheduled none
+
+-- ---- where the next call stands
+
+abbrev pub LeastOf : Seen → Order → ℕ → Type 0
+LeastOf seen order place =
+    (r : Run) → run seen.setup seen.entries ≡ Some r → IsLeastCursor (λ client. waits r.volume client) order.places.items (length order.places.items) (length order.following.items + length order.places.items) place
+
+all_long : (script : Script) (seen : Seen) (order : Order) → Progress script seen order → length order.following.items + length order.places.items ≡ length (all_calls script)
+all_long script seen order stands =
+    let long : length (all_calls script) ≡ length script.lines + length script.setup.clients = length-all_calls script in
+    omega (arith, long, stands.long, stands.follows.long)
+
+run_here : (script : Script) (seen : Seen) (r : Run) → seen.setup ≡ script.setup → run script.setup seen.entries ≡ Some r → run seen.setup seen.entries ≡ Some r
+run_here script seen r same runs = ap (λ (s : Setup). run s seen.entries) same ∙ runs
+
+-- at the least cursor
+pub next_here : (script : Script) (seen : Seen) (order : Order) (place : ℕ) → Progress script seen order → LeastOf seen order place → place < length order.following.items + length order.places.items → IsNextAt script seen.entries place
+next_here script seen order place stands least inside =
+    let r = some_run script seen.entries stands.scheduled in
+    of r.0 r.1 (least r.0 (run_here script seen r.0 stands.setup r.1))
+  where
+    calls : List Call
+    calls = all_calls script
+
+    of : (r : Run) → run script.setup seen.entries ≡ Some r → IsLeastCursor (λ client. waits r.volume client) order.places.items (length order.places.items) (length order.following.items + length order.places.items) place
+        → IsNextAt script seen.entries place
+    of r runs so = elim so.is [
+      | inl none ↦ absurd (omega (arith, none, inside))
+      | inr some ↦ (
+          let call : Call = get_or calls place (leave_after script.lines 0) in
+          let there : slice_get calls place ≡ Some call = slice_get-get_or calls place (leave_after script.lines 0) (omega (arith, inside, all_long script seen order stands)) in
+          let first : first_from some.0 place calls ≡ place = subst (λ (p : ℕ). first_from some.0 p calls ≡ p) some.3 (stands.cursors.own some.0 some.1) in
+          let own : call.client ≡ some.0 = first_from-is some.0 place calls call (ap (slice_get calls) first ∙ there) in
+          let cursor : slice_index_or order.places.items call.client 0 ≡ place = ap (λ (c : ℕ). slice_index_or order.places.items c 0) own ∙ some.3 in
+          record {
+            call = call;
+            at = there;
+            is = ap (option_and_then (λ (s : Run). next_in calls seen.entries s.volume)) runs
+                ∙ next-least script seen.entries order.places.items r.volume call stands.is_read stands.cursors stands.long (ap (slice_get calls) cursor ∙ there) (ap (waits r.volume) own ∙ some.2)
+                (λ client within free. let few : place ≤ slice_index_or order.places.items client 0 = so.least client within free in omega (arith, few, cursor));
+          })
+    ]
+
+-- and where that is behind all calls none is next
+pub next_nowhere : (script : Script) (seen : Seen) (order : Order) (place : ℕ) → Progress script seen order → LeastOf seen order place → length order.following.items + length order.places.items ≤ place → next script seen.entries ≡ None
+next_nowhere script seen order place stands least past =
+    let r = some_run script seen.entries stands.scheduled in
+    let so : IsLeastCursor (λ client. waits r.0.volume client) order.places.items (length order.places.items) (length order.following.items + length order.places.items) place = least r.0 (run_here script seen r.0 stands.setup r.1) in
+    ap (option_and_then (λ (s : Run). next_in (all_calls script) seen.entries s.volume)) r.1
+    ∙ next-none script seen.entries order.places.items r.0.volume stands.is_read stands.cursors stands.long
+    (λ client within free. let few : place ≤ slice_index_or order.places.items client 0 = so.least client within free in omega (arith, few, past, all_long script seen order stands))
+
+-- so few turns are made
+pub Progress-few : (script : Script) (seen : Seen) (order : Order) → Progress script seen order → length seen.entries ≤ 40064
+Progress-few script seen order progress = (let long = length-all_calls script in omega (arith, long, progress.few, progress.within.lines, progress.within.clients))
+
+-- and fewer before the next one
+pub Progress-room : (script : Script) (seen : Seen) (order : Order) → Progress script seen order → length seen.entries < 1000000
+Progress-room script seen order progress = (let few = Progress-few script seen order progress in omega (arith, few))

@@ -1,6 +1,6 @@
 pub mod Limits
+pub mod Order
+pub mod Progress
 pub mod Promised
 pub mod Runs
-pub mod Stands
-pub mod Try
 pub mod Words

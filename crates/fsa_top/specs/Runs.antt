@@ -1,5 +1,5 @@
--- What a run reads and writes: the bytes of a script, and the text of the one history that is
--- scheduled for it.
+-- What a run reads and writes: the bytes of a script, and the text of a history that is scheduled for it,
+-- which no other such history has.
 use Rattle.std.specs.Prelude.{◌≡◌, ℕ, false, List, [], ◌∷◌, ◌++◌, Option, Some, None, Ok, Err, codes, decimal}
 use Rattle.fsa_model.specs.Fault.{Fault}
 use Rattle.fsa_model.specs.Setup.{Script}

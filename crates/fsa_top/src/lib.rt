@@ -13,7 +13,7 @@
 mod bodies;
 mod limits;
 mod lines;
-mod machine;
+mod order;
 mod run;
 mod text;
 mod top;

@@ -1,25 +1,28 @@
 //! The run of a script: each call in its turn, and the text of each turn to the sink.
 
-ghost use Rattle.std.specs.Prelude.{◌≡◌, ◌≤◌, ◌<◌, ◌+◌, ◌-◌, ◌^◌, ◌⊎◌, ◌∷◌, ◌++◌, [], ℕ, List, length, map, drop, IfOk, OnOk, IsErrOf, IsTrue, OnErr};
+ghost use Rattle.std.specs.Prelude.{◌≡◌, ◌≤◌, ◌<◌, ◌+◌, ◌-◌, ◌^◌, ◌⊎◌, [], ℕ, length, map, IfOk, OnOk, OnErr, IsErrOf, Some, slice_get};
+ghost use Rattle.fsa_types.specs.declared.request.Call.{Call};
+ghost use Rattle.fsa_model.specs.LineCalls.{HaveSids, IsLineCall};
+ghost use Rattle.fsa_model.specs.Outcome.{out_of};
+ghost use Rattle.fsa_model.specs.Schedule.{HasAllCalls, all_calls, calls_of, leave_after};
 ghost use Rattle.fsa_model.specs.Setup.{client_of};
-ghost use Rattle.fsa_model.specs.Schedule.{AreNumbered, all_calls, calls_of, leave_after};
-ghost use Rattle.fsa_model.specs.Volume.{fresh};
 ghost use Rattle.fsa_model.specs.Text.{last_line};
-ghost use Rattle.fsa_model.specs.LineCalls.{AreLineCalls, HaveSids};
+ghost use Rattle.history_laws.specs.Named.{IsRead};
+ghost use Rattle.history_laws.specs.Whole.{how_many_left};
 ghost use Rattle.wire_io.specs.Faults.{FailsLast};
-ghost use Rattle.wire_io.specs.Sink.{Appends, AppendsPart};
+ghost use Rattle.wire_io.specs.Sink.{Appends, AppendsPart, Written};
 ghost use Rattle.script_read.specs.ScriptView.{contents};
+ghost use Rattle.fsa_top.specs.Order.{IsWithin};
 ghost use Rattle.fsa_top.specs.Runs.{WritesPart, WritesText};
-ghost use Rattle.fsa_top.specs.Stands.{Shows, leaves_from, MakesTurn};
-ghost use Rattle.fsa_top.specs.Try.{Goes, MayTurn, most_turns};
+ghost use Rattle.fsa_top.specs.Progress.{IsNextAt, MadeTurn, MakesTurn, Shows, Progress};
 ghost use Rattle.fsa_top.specs.declared.run.RunFault.TheVariants.{Failed, NoMemory};
 
-use crate::machine::turn;
+use crate::order::Order;
 use crate::text::{push_last, push_turn};
-use fsa_types::{Call, ClientList, Setup, TryCopy, What};
+use fsa_machine::VolumeMachine;
+use fsa_types::{Call, ClientList, Out, Setup, TryCopy, What, Why};
 use script_read::Script;
 use std::alloc::Global;
-use volume_state::Volume;
 use wire_io::{Sink, put_all};
 
 /// Why a run stopped.
@@ -53,22 +56,44 @@ impl From<fsa_types::NoMemory> for RunFault {
     }
 }
 
+// Makes a turn of a call; the machine keeps a copy of it.
+fn turn_of(
+    alloc: Global,
+    machine: &mut VolumeMachine,
+    call: &Call,
+) -> Result<Out, fsa_types::NoMemory>
+    requires asked { IsLineCall (length machine.old.setup.clients) call.now }
+    requires number { call.now.number ≡ calls_of call.now.client (map (λ entry. entry.call) machine.old.entries) + 1 }
+    requires few { length machine.old.entries < 1000000 }
+    ensures made { IfOk result (λ out. MadeTurn machine.old machine.new call.now (out_of out)) }
+{
+    let call = call.copy(alloc)?;
+    match machine.turn(alloc, call) {
+        Ok(out) => Ok(out),
+        Err((_, Why::NoMemory)) => Err(fsa_types::NoMemory),
+        Err((_, Why::HistoryFull)) => unreachable!(),
+    }
+}
+
 // Makes one turn and writes its lines.
 fn make_turn<K: Sink>(
     alloc: Global,
-    volume: &mut Volume,
+    machine: &mut VolumeMachine,
     clients: &ClientList,
     call: &Call,
     sink: &mut K,
 ) -> Result<(), RunFault>
-    requires may { MayTurn volume.old.content call.now }
-    ensures made { MakesTurn volume.old.content volume.new.content (map client_of clients.now.items) call.now (K.written sink.old) (K.written sink.new) result }
+    requires asked { IsLineCall (length machine.old.setup.clients) call.now }
+    requires number { call.now.number ≡ calls_of call.now.client (map (λ entry. entry.call) machine.old.entries) + 1 }
+    requires few { length machine.old.entries < 1000000 }
+    requires clients { map client_of clients.now.items ≡ machine.old.setup.clients }
+    ensures made { MakesTurn machine.old machine.new call.now (K.written sink.old) (K.written sink.new) result }
     ensures later { K.faults sink.old ≤ K.faults sink.new }
     ensures failed { IsErrOf result RunFault.Failed → FailsLast (K.faults sink.old) (K.faults sink.new) (K.written sink.new).since_fault }
     ensures unfailed { OnOk result (K.faults sink.new ≡ K.faults sink.old) }
     ensures no_memory { IsErrOf result RunFault.NoMemory → K.faults sink.new ≡ K.faults sink.old }
 {
-    let out = turn(alloc, volume, call)?;
+    let out = turn_of(alloc, machine, call)?;
     let mut lines = Vec::new(alloc);
     push_turn(&mut lines, clients, call, &out)?;
     put_all(sink, &lines)?;
@@ -102,19 +127,20 @@ fn leave_after(lines: &[Call], client: u32) -> Call
     }
 }
 
-// Makes the turns of the lines, and then those in which the clients leave.
-fn run_calls<K: Sink>(
+// Makes the turn of the call at this place, and writes its lines.
+fn make_turn_at<K: Sink>(
     alloc: Global,
-    volume: &mut Volume,
+    machine: &mut VolumeMachine,
     script: &Script,
+    place: usize,
     sink: &mut K,
 ) -> Result<(), RunFault>
-    requires fit { AreLineCalls (length (contents script.now).setup.clients) (contents script.now).lines }
-    requires few { length (all_calls (contents script.now)) < most_turns }
-    requires few_lines { length (contents script.now).lines < 0xFFFFFFFF }
-    requires shows { Shows (contents script.now) (all_calls (contents script.now)) volume.old.content (K.written sink.old) (K.written sink.old) }
-    ensures ok { OnOk result (Shows (contents script.now) [] volume.new.content (K.written sink.old) (K.written sink.new)) }
-    ensures part { OnErr result (WritesPart (contents script.now) (K.written sink.old) (K.written sink.new)) }
+    requires within { IsWithin (contents script.now) }
+    requires setup { machine.old.setup ≡ (contents script.now).setup }
+    requires few { length machine.old.entries < 1000000 }
+    requires there { place < length (all_calls (contents script.now)) }
+    requires asked { (call : Call) → slice_get (all_calls (contents script.now)) place ≡ Some call → IsLineCall (length machine.old.setup.clients) call × (call.number ≡ calls_of call.client (map (λ entry. entry.call) machine.old.entries) + 1) }
+    ensures made { (call : Call) → slice_get (all_calls (contents script.now)) place ≡ Some call → MakesTurn machine.old machine.new call (K.written sink.old) (K.written sink.new) result }
     ensures later { K.faults sink.old ≤ K.faults sink.new }
     ensures failed { IsErrOf result RunFault.Failed → FailsLast (K.faults sink.old) (K.faults sink.new) (K.written sink.new).since_fault }
     ensures unfailed { OnOk result (K.faults sink.new ≡ K.faults sink.old) }
@@ -122,27 +148,73 @@ fn run_calls<K: Sink>(
 {
     let clients = script.clients();
     let lines = script.lines().as_slice();
-    for call in lines {
-        make_turn(alloc, volume, clients, call, sink)?;
+    if place < lines.len() {
+        make_turn(alloc, machine, clients, &lines[place], sink)
+    } else {
+        let call = leave_after(lines, (place - lines.len()) as u32);
+        make_turn(alloc, machine, clients, &call, sink)
     }
-    for client in 0..clients.len() {
-        let call = leave_after(lines, client as u32);
-        make_turn(alloc, volume, clients, &call, sink)?;
+}
+
+// Makes the turn of the next call, which stands at this place, writes its lines, and goes on.
+fn take_turn<K: Sink>(
+    alloc: Global,
+    machine: &mut VolumeMachine,
+    script: &Script,
+    order: &mut Order,
+    place: usize,
+    sink: &mut K,
+) -> Result<(), RunFault>
+    requires stands { Progress (contents script.now) machine.old order.old }
+    requires next { IsNextAt (contents script.now) machine.old.entries place }
+    ensures stands { OnOk result (Progress (contents script.now) machine.new order.new) }
+    ensures fewer { OnOk result (how_many_left (contents script.now) machine.new.entries < how_many_left (contents script.now) machine.old.entries) }
+    ensures shows { OnOk result ((first : Written) → Shows (contents script.now) machine.old.entries first (K.written sink.old) → Shows (contents script.now) machine.new.entries first (K.written sink.new)) }
+    ensures part { OnErr result ((first : Written) → Shows (contents script.now) machine.old.entries first (K.written sink.old) → WritesPart (contents script.now) first (K.written sink.new)) }
+    ensures later { K.faults sink.old ≤ K.faults sink.new }
+    ensures failed { IsErrOf result RunFault.Failed → FailsLast (K.faults sink.old) (K.faults sink.new) (K.written sink.new).since_fault }
+    ensures unfailed { OnOk result (K.faults sink.new ≡ K.faults sink.old) }
+    ensures no_memory { IsErrOf result RunFault.NoMemory → K.faults sink.new ≡ K.faults sink.old }
+{
+    make_turn_at(alloc, machine, script, place, sink)?;
+    order.go_on(script, place);
+    Ok(())
+}
+
+// Makes turns as long as some call is next.
+fn run_calls<K: Sink>(
+    alloc: Global,
+    machine: &mut VolumeMachine,
+    script: &Script,
+    order: &mut Order,
+    sink: &mut K,
+) -> Result<(), RunFault>
+    requires stands { Progress (contents script.now) machine.old order.old }
+    requires shows { Shows (contents script.now) machine.old.entries (K.written sink.old) (K.written sink.old) }
+    ensures few { OnOk result (length machine.new.entries ≤ 40064) }
+    ensures ok { OnOk result (Shows (contents script.now) machine.new.entries (K.written sink.old) (K.written sink.new)) }
+    ensures all { OnOk result (HasAllCalls (contents script.now) machine.new.entries) }
+    ensures part { OnErr result (WritesPart (contents script.now) (K.written sink.old) (K.written sink.new)) }
+    ensures later { K.faults sink.old ≤ K.faults sink.new }
+    ensures failed { IsErrOf result RunFault.Failed → FailsLast (K.faults sink.old) (K.faults sink.new) (K.written sink.new).since_fault }
+    ensures unfailed { OnOk result (K.faults sink.new ≡ K.faults sink.old) }
+    ensures no_memory { IsErrOf result RunFault.NoMemory → K.faults sink.new ≡ K.faults sink.old }
+{
+    'turns: while let Some(place) = order.next_place(script, machine) {
+        take_turn(alloc, machine, script, order, place, sink)?;
     }
     Ok(())
 }
 
-// The most clients that a run has numbers for.
-const MOST_CLIENTS: usize = 0x7FFF_0000;
-
-// The volume with which a script begins.
-fn begin(alloc: Global, script: &Script) -> Result<Volume, fsa_types::NoMemory>
+// The machine with which a script begins.
+fn begin(alloc: Global, script: &Script) -> Result<VolumeMachine, fsa_types::NoMemory>
     requires sids { HaveSids (contents script.now).setup.clients }
-    ensures { IfOk result (λ volume. volume.content ≡ fresh (contents script.now).setup) }
+    ensures setup { IfOk result (λ machine. machine.setup ≡ (contents script.now).setup) }
+    ensures entries { IfOk result (λ machine. machine.entries ≡ []) }
 {
     let table = script.table().copy(alloc)?;
     let clients = script.clients().copy(alloc)?;
-    Volume::new(alloc, Setup { table, clients })
+    VolumeMachine::new(alloc, Setup { table, clients })
 }
 
 // Writes the last line.
@@ -160,25 +232,16 @@ fn write_last<K: Sink>(alloc: Global, turns: u32, sink: &mut K) -> Result<(), Ru
     Ok(())
 }
 
-// How many calls a script makes, the clients' leavings among them.
-fn turn_count(script: &Script) -> u32
-    requires few { length (all_calls (contents script.now)) < most_turns }
-    ensures { result ≡ length (all_calls (contents script.now)) }
-{
-    (script.lines().len() + script.clients().len()) as u32
-}
-
-// Makes all calls of a script on this volume, and writes the text of the history.
+// Makes all calls of a script on this machine, and writes the text of the history.
 fn run_on<K: Sink>(
     alloc: Global,
-    volume: &mut Volume,
+    machine: &mut VolumeMachine,
     script: &Script,
+    order: &mut Order,
     sink: &mut K,
 ) -> Result<(), RunFault>
-    requires fit { AreLineCalls (length (contents script.now).setup.clients) (contents script.now).lines }
-    requires few { length (all_calls (contents script.now)) < most_turns }
-    requires few_lines { length (contents script.now).lines < 0xFFFFFFFF }
-    requires shows { Shows (contents script.now) (all_calls (contents script.now)) volume.old.content (K.written sink.old) (K.written sink.old) }
+    requires stands { Progress (contents script.now) machine.old order.old }
+    requires shows { Shows (contents script.now) machine.old.entries (K.written sink.old) (K.written sink.old) }
     ensures ok { OnOk result (WritesText (contents script.now) (K.written sink.old) (K.written sink.new)) }
     ensures part { OnErr result (WritesPart (contents script.now) (K.written sink.old) (K.written sink.new)) }
     ensures later { K.faults sink.old ≤ K.faults sink.new }
@@ -186,27 +249,18 @@ fn run_on<K: Sink>(
     ensures unfailed { OnOk result (K.faults sink.new ≡ K.faults sink.old) }
     ensures no_memory { IsErrOf result RunFault.NoMemory → K.faults sink.new ≡ K.faults sink.old }
 {
-    run_calls(alloc, volume, script, sink)?;
-    write_last(alloc, turn_count(script), sink)?;
+    run_calls(alloc, machine, script, order, sink)?;
+    write_last(alloc, machine.len() as u32, sink)?;
     Ok(())
 }
 
-// Whether a script makes few enough calls for a run's numbers.
-fn is_short(script: &Script) -> bool
-    requires few { length (contents script.now).lines ≤ 64 }
-    ensures { IsTrue result → length (all_calls (contents script.now)) < most_turns }
-{
-    script.clients().len() <= MOST_CLIENTS
-}
-
-/// Runs a script: makes all its calls on a new volume, and writes the text of the history.
+/// Runs a script: makes all its calls on a new machine, and writes the text of the history.
 /// `Failed` where the sink failed, `NoMemory` where there was no memory; a part of the text of a
 /// history that has all calls is written then, or nothing.
 pub fn run_script<K: Sink>(alloc: Global, script: &Script, sink: &mut K) -> Result<(), RunFault>
-    requires fit { AreLineCalls (length (contents script.now).setup.clients) (contents script.now).lines }
-    requires numbered { AreNumbered [] (all_calls (contents script.now)) }
+    requires is_read { IsRead (contents script.now) }
+    requires within { IsWithin (contents script.now) }
     requires sids { HaveSids (contents script.now).setup.clients }
-    requires few { length (contents script.now).lines ≤ 64 }
     ensures ok { OnOk result (WritesText (contents script.now) (K.written sink.old) (K.written sink.new)) }
     ensures part { IsErrOf result RunFault.Failed → WritesPart (contents script.now) (K.written sink.old) (K.written sink.new) }
     ensures memory { IsErrOf result RunFault.NoMemory → (sink.new ≡ sink.old) ⊎ WritesPart (contents script.now) (K.written sink.old) (K.written sink.new) }
@@ -215,9 +269,7 @@ pub fn run_script<K: Sink>(alloc: Global, script: &Script, sink: &mut K) -> Resu
     ensures unfailed { OnOk result (K.faults sink.new ≡ K.faults sink.old) }
     ensures no_memory { IsErrOf result RunFault.NoMemory → K.faults sink.new ≡ K.faults sink.old }
 {
-    if !is_short(script) {
-        return Err(RunFault::NoMemory);
-    }
-    let mut volume = begin(alloc, script)?;
-    run_on(alloc, &mut volume, script, sink)
+    let mut order = Order::new(alloc, script)?;
+    let mut machine = begin(alloc, script)?;
+    run_on(alloc, &mut machine, script, &mut order, sink)
 }

@@ -20,7 +20,8 @@ use wire_io::{Gate, Sink, Source, read_all};
 
 // Runs a script: 0, or 4 or 5 where the sink failed or there was no memory.
 fn run_read<K: Sink>(alloc: Global, bytes: &[u8], script: &Script, sink: &mut K) -> u8
-    requires { script_of bytes.now ≡ Ok (contents script.now) }
+    requires script { script_of bytes.now ≡ Ok (contents script.now) }
+    requires within { limit_of bytes.now ≡ None }
     ensures done { result ≡ 0 → WritesText (contents script.now) (K.written sink.old) (K.written sink.new) }
     ensures part { result ≡ 4 → WritesPart (contents script.now) (K.written sink.old) (K.written sink.new) }
     ensures write { result ≡ 4 → FailsLast (K.faults sink.old) (K.faults sink.new) (K.written sink.new).since_fault }
@@ -38,6 +39,7 @@ fn run_read<K: Sink>(alloc: Global, bytes: &[u8], script: &Script, sink: &mut K)
 
 // Runs the script that these bytes are.
 fn run_within<K: Sink>(alloc: Global, bytes: &[u8], sink: &mut K) -> u8
+    requires within { limit_of bytes.now ≡ None }
     ensures done { result ≡ 0 → RunsText bytes.now (K.written sink.old) (K.written sink.new) }
     ensures bad { result ≡ 2 → NamesFault bytes.now (K.written sink.old) (K.written sink.new) (K.faults sink.old) (K.faults sink.new) }
     ensures write { result ≡ 4 → FailsLast (K.faults sink.old) (K.faults sink.new) (K.written sink.new).since_fault }

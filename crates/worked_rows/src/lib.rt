@@ -16,3 +16,5 @@ mod streams;
 mod tests;
 #[cfg(test)]
 mod troubles;
+#[cfg(test)]
+mod waits;

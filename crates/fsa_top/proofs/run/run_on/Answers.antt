@@ -1,12 +1,9 @@
 use Rattle.std.proofs.Common.{ℕ, subst}
-use Rattle.fsa_model.specs.Schedule.{all_calls}
 use Rattle.fsa_model.specs.Text.{last_line}
 use Rattle.script_read.specs.ScriptView.{contents}
 use Rattle.wire_io.specs.Sink.{Appends, AppendsPart}
-use Rattle.fsa_top.specs.Stands.{turns_of}
 use Rattle.fsa_top.specs.declared.run.RunFault.{RunFault}
-use Rattle.fsa_top.proofs.RunLaws.{OnErr-any, Shows-whole}
-use Rattle.fsa_top.proofs.WholeLaws.{IsHistory-whole, Shows-last_part}
+use Rattle.fsa_top.proofs.RunLaws.{OnErr-any, Shows-last_part, Shows-whole}
 use Rattle.fsa_top.proofs.run.run_on.Goals as goal
 
 pub returns-in_err-write_last-clause-part : goal.returns-in_err-write_last-clause-part
@@ -15,16 +12,13 @@ returns-in_err-write_last-clause-part g c =
     let mid = g.K.Sink.written c.run_calls.new.sink in
     let now = g.K.Sink.written c.write_last.new.sink in
     OnErr-any {T = Unit {0}} {E = RunFault} c.from_residual-in_err-write_last.result _
-    (Shows-last_part (contents c.args.script.now) _ old mid now c.in_ok-run_calls.ensures.ok
-    (subst (λ (n : ℕ). AppendsPart mid now (last_line n)) c.turn_count.ensures c.in_err-write_last.ensures.part))
+    (Shows-last_part (contents c.args.script.now) c.run_calls.new.machine.entries old mid now c.in_ok-run_calls.ensures.all c.in_ok-run_calls.ensures.ok
+    (subst (λ (n : ℕ). AppendsPart mid now (last_line n)) c.len.ensures c.in_err-write_last.ensures.part))
 
 pub returns-clause-ok : goal.returns-clause-ok
 returns-clause-ok g c =
     let old = g.K.Sink.written c.args.sink.now in
     let mid = g.K.Sink.written c.run_calls.new.sink in
-    let now = g.K.Sink.written c.write_last.new.sink in (
-      turns_of (all_calls (contents c.args.script.now)),
-      IsHistory-whole (contents c.args.script.now) _ old mid c.requires.fit c.requires.few c.in_ok-run_calls.ensures.ok,
-      Shows-whole (contents c.args.script.now) _ old mid now c.in_ok-run_calls.ensures.ok
-          (subst (λ (n : ℕ). Appends mid now (last_line n)) c.turn_count.ensures c.in_ok-write_last.ensures.ok),
-    )
+    let now = g.K.Sink.written c.write_last.new.sink in
+    Shows-whole (contents c.args.script.now) c.run_calls.new.machine.entries old mid now c.requires.stands.is_read c.in_ok-run_calls.ensures.all c.in_ok-run_calls.ensures.ok
+    (subst (λ (n : ℕ). Appends mid now (last_line n)) c.len.ensures c.in_ok-write_last.ensures.ok)
