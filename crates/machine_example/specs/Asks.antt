@@ -1,0 +1,20 @@
+-- What a client may ask by its next call, and that call.
+use Rattle.std.specs.Prelude.{ℕ, ◌+◌, List, IsTrue}
+use Rattle.fsa_types.specs.Request.{what_fits}
+use Rattle.fsa_types.specs.declared.request.Call.{Call}
+use Rattle.fsa_types.specs.declared.request.What.{What}
+use Rattle.fsa_model.specs.History.{HistoryEntry}
+use Rattle.fsa_model.specs.LineCalls.{ticks_fit}
+use Rattle.fsa_model.specs.Requests.{can_be_asked}
+use Rattle.fsa_model.specs.Schedule.{calls_of}
+use Rattle.fsa_machine.specs.Stands.{calls_in}
+
+-- within the bounds of requests, and what a line of a script can say, or leaving
+pub record CanBeMade (what : What) : Type 0 where
+  pub fits : IsTrue (what_fits what)
+  pub can_be_asked : IsTrue (can_be_asked what)
+  pub ticks : IsTrue (ticks_fit what)
+
+-- the client's next call after these turns
+abbrev pub next_call : List HistoryEntry → ℕ → What → Call
+next_call entries client what = record { client = client; number = calls_of client (calls_in entries) + 1; what = what }

@@ -1,0 +1,23 @@
+//! How the engine is called from Rattle, for tests of one's own.
+//!
+//! - A `Setup` has a case table, and clients with their names and SIDs; each client has at least one SID.
+//!   `VolumeMachine::new` makes a machine of it, over a volume with the root alone (`two_clients`).
+//! - `VolumeMachine::turn` takes a call: the place of its client in the setup, its number, and what it does.
+//!   The calls of each client are numbered from 1 in the order of their turns. `ask` finds the number, by
+//!   the calls that the machine keeps.
+//! - What a turn gives out, `Out`, has the answer to the turn's own call (it has ended, or is pending), the
+//!   calls that ended in the turn besides, and those of them that were taken up and found no memory.
+//! - A turn that is refused changes nothing and hands the call back: `NoMemory` where there is no memory for
+//!   it, and `HistoryFull` where 1,000,000 turns were made. `ask` keeps the reason alone.
+//!
+//! `lock_that_waits` is an example: a lock that waits for another one, and is granted in the turn of the
+//! unlock.
+#![tactic(auto)]
+
+mod session;
+#[cfg(test)]
+mod tests;
+mod waiting_lock;
+
+pub use session::{ask, next_number, two_clients};
+pub use waiting_lock::{WaitingLock, lock_that_waits};
