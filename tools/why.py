@@ -6,18 +6,24 @@ The program says which line is the first faulty one, by proof; the cause is this
 import re
 import sys
 
-MOST_REQUESTS, MOST_PLACE, MOST_COUNT, MOST_ID, MOST_KEY = 64, 65535, 16384, 2**32 - 1, 2**64 - 1
+MOST_PLACE, MOST_COUNT, MOST_ID, MOST_KEY = 2**64 - 1, 16384, 2**32 - 1, 2**64 - 1
 DISPOSITIONS = "supersede open create open_if overwrite overwrite_if".split()
 # the fields of each verb, by their names and forms
 VERBS = {
     "create": [("path", "text"), ("wanted access", "mask"), ("share access", "mask"), ("disposition", "disposition"), ("options", "options"), ("attributes", "mask"), ("key", MOST_KEY)],
     "close": [("handle", MOST_ID)],
     "read": [("handle", MOST_ID), ("place", MOST_PLACE), ("count", MOST_COUNT)],
-    "write": [("handle", MOST_ID), ("place", MOST_PLACE), ("bytes", "bytes")],
+    "write": [("handle", MOST_ID), ("place", "start"), ("bytes", "bytes")],
+    "flush": [("handle", MOST_ID)],
+    "setend": [("handle", MOST_ID), ("length", MOST_PLACE)],
+    "lock": [("handle", MOST_ID), ("place", MOST_PLACE), ("length", MOST_PLACE), ("kind of lock", ("ex", "sh")), ("last field", ("wait", "now"))],
+    "unlock": [("handle", MOST_ID), ("place", MOST_PLACE), ("length", MOST_PLACE)],
     "setsecurity": [("handle", MOST_ID), ("owner", "owner"), ("access list", "dacl")],
+    "cancel": [("number of a call", MOST_ID)],
     "tick": [("ticks", MOST_ID)],
+    "wait": [("number of a call", MOST_ID)],
 }
-LATER = "flush lock unlock querydir notify query setbasic setend setdelete rename link setreparse getreparse deletereparse setquota queryquota oplock ack cancel wait leave".split()
+LATER = "querydir notify query setbasic setdelete rename link setreparse getreparse deletereparse setquota queryquota oplock ack leave".split()
 
 
 def number(word, most, what):
@@ -91,6 +97,11 @@ def dacl(word, what):
 def field(word, what, form):
     if isinstance(form, int):
         return number(word, form, what)
+    if isinstance(form, tuple):
+        return None if word in form else f"the {what} is {' or '.join(f'`{it}`' for it in form)}, not {word!r}"
+    if form == "start":
+        fault = None if word == "end" else number(word, MOST_PLACE, "place")
+        return fault if not fault or word.isdigit() else f"{fault}; the end of the stream is `end`"
     if form == "owner":
         return None if word == "keep" else number(word, MOST_ID, "owner, if it isn't `keep`,")
     if form == "disposition":
@@ -101,7 +112,7 @@ def field(word, what, form):
     return {"text": text, "mask": mask, "bytes": data, "dacl": dacl}[form](word, what)
 
 
-def request(words, names, calls, requests):
+def request(words, names, calls):
     name = words[0]
     if not re.fullmatch(r"[a-z0-9_]{1,16}", name):
         return f"the line is neither the first line, a table, a client nor a request: {name!r} is no client's name (1 to 16 of a to z, 0 to 9 and _)"
@@ -123,8 +134,6 @@ def request(words, names, calls, requests):
         fault = field(word, what, form)
         if fault:
             return fault
-    if requests >= MOST_REQUESTS:
-        return f"a script has at most {MOST_REQUESTS} requests so far"
     if name not in names:
         return f"no client is named {name} above; there are {', '.join(names)}"
     expected = calls.get(name, 0) + 1
@@ -189,7 +198,7 @@ def cause(lines, at):
     calls = {}
     for it in asked:
         calls[it[0]] = calls.get(it[0], 0) + 1
-    return request(words, names, calls, len(asked))
+    return request(words, names, calls)
 
 
 def main(script, line):
