@@ -1,10 +1,11 @@
 //! A machine with two clients, and a turn of a client's next call.
 
-ghost use Rattle.std.specs.Prelude.{◌≡◌, ◌<◌, ◌≤◌, ◌+◌, ◌-◌, ◌^◌, ◌==◌, ◌++◌, ◌∷◌, [], All, cond, IfOk, OnErr, length};
+ghost use Rattle.std.specs.Prelude.{◌≡◌, ◌<◌, ◌≤◌, ◌+◌, ◌-◌, ◌^◌, ◌==◌, ◌++◌, ◌∷◌, [], All, cond, IfOk, OnErr, length, nat_le};
 ghost use Rattle.fsa_model.specs.Outcome.{out_of};
 ghost use Rattle.fsa_model.specs.Schedule.{calls_of};
 ghost use Rattle.fsa_machine.specs.Stands.{GaveOut, calls_in};
-ghost use Rattle.machine_example.specs.Asks.{CanBeMade, next_call};
+ghost use Rattle.fsa_machine.specs.Serves.{most_entries};
+ghost use Rattle.machine_example.specs.Asks.{CanBeMade, is_full, next_call};
 
 use fsa_machine::{MOST_ENTRIES, VolumeMachine};
 use fsa_types::{
@@ -78,6 +79,7 @@ pub fn ask(alloc: Global, machine: &mut VolumeMachine, client: u32, what: What) 
     ensures setup { machine.new.setup ≡ machine.old.setup }
     ensures entries { IfOk result (λ out. machine.new.entries ≡ machine.old.entries ++ record { call = next_call machine.old.entries client what; starved = out.starved.items } ∷ []) }
     ensures out { IfOk result (λ out. GaveOut machine.new.setup machine.new.entries (out_of out)) }
+    ensures full { is_full result ≡ nat_le most_entries (length machine.old.entries) }
     ensures refused { OnErr result (machine.new ≡ machine.old) }
 {
     if machine.len() >= MOST_ENTRIES as u64 {
