@@ -1,7 +1,11 @@
-//! The example with ample memory.
+//! The example with ample memory, and how a call ended.
 
+ghost use Rattle.machine_example.specs.Asks.{CanBeMade};
+
+use crate::session::{ask, two_clients};
 use crate::waiting_lock::{WaitingLock, lock_that_waits};
-use fsa_types::Status;
+use fsa_types::{Status, What};
+use std::alloc::Global;
 use std::test::Fail;
 
 #[test]
@@ -16,6 +20,35 @@ fn a_waiting_lock_is_granted_in_the_turn_of_the_unlock(rt: HostRuntime) -> Resul
             waited: true,
             second: Some(Status::Success),
         }
+    );
+    Ok(())
+}
+
+// How the first call of a client ended, asked of the machine later; `None` where it is pending.
+fn first_reply(alloc: Global, what: What) -> Result<Option<Status>, Fail>
+    requires can_be_made { CanBeMade what }
+{
+    let Ok(mut machine) = two_clients(alloc) else {
+        return Err(Fail::from("no machine was made"));
+    };
+    let Ok(_out) = ask(alloc, &mut machine, 0, what) else {
+        return Err(Fail::from("the turn was refused"));
+    };
+    let Ok(reply) = machine.reply_of(alloc, 0, 1) else {
+        return Err(Fail::from("there was no memory for the reply"));
+    };
+    Ok(reply.map(|reply| reply.status))
+}
+
+#[test]
+fn a_call_that_has_ended_has_its_reply(rt: HostRuntime) -> Result<(), Fail> {
+    assert_eq!(rt;
+        first_reply(rt.alloc(), What::Tick(3))?,
+        Some(Status::Success)
+    );
+    assert_eq!(rt;
+        first_reply(rt.alloc(), What::WaitFor(1))?,
+        Some(Status::InvalidParameter)
     );
     Ok(())
 }
