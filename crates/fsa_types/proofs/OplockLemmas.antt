@@ -8,6 +8,7 @@ use Rattle.std.proofs.lemmas.List.{get_or-map, get_or_default, length-map}
 use Rattle.std.proofs.lemmas.List.Elements.{All-nil, All-push, All-cons, All-map, All-filter}
 use Rattle.std.proofs.lemmas.List.Kept.{AllPairs-filter}
 use Rattle.std.proofs.lemmas.List.Quantifiers.{all_pairs_push}
+use Rattle.fsa_types.specs.OplockGrants.{as_granted, as_answered}
 use Rattle.fsa_types.specs.OplockLists.{OplockState, begun, lowered, after_effect, effect_on, after_breaks, IsOplock, AreOplocks, CanBegin, CanGoOn, CanHave, IsLater, IsCopy}
 use Rattle.fsa_types.specs.Oplocks.{Oplock, Effect, Stays, Ends, Begins, Lowers, effect, has_read, has_write, has_handle, level_with, in_both, is_within, keep}
 use Rattle.fsa_types.specs.Sorting.{put_in_order, in_order}
@@ -272,10 +273,9 @@ numbered-not_0 o is = no_both (o.number == 0) (is_some o.target) is.has_number
 
 -- an oplock more, of a handle that has none, without a break
 pub AreOplocks-push : (oplocks : List Oplock) (last handle key : ℕ) (level : Level) (turn : ℕ) → AreOplocks oplocks last
-    → All (λ o. (o.handle == handle) ≡ false) oplocks
-    → AreOplocks (oplocks ++ record { handle = handle; key = key; level = level; target = None; number = 0; call = Some turn } ∷ []) last
+    → All (λ o. (o.handle == handle) ≡ false) oplocks → AreOplocks (oplocks ++ as_granted handle key level turn ∷ []) last
 AreOplocks-push oplocks last handle key level turn are others =
-    let more : Oplock = record { handle = handle; key = key; level = level; target = None; number = 0; call = Some turn } in
+    let more : Oplock = as_granted handle key level turn in
     record {
       each = All-push IsOplock oplocks more are.each (record { has_number = refl; has_call = refl; target_within = refl });
       handles_differ = all_pairs_push (λ a b. (a.handle == b.handle) ≡ false) oplocks more are.handles_differ others;
@@ -284,25 +284,20 @@ AreOplocks-push oplocks last handle key level turn are others =
       numbers_given = All-push (λ o. o.number ≤ last) oplocks more are.numbers_given (omega arith);
     }
 
--- an oplock once its break has ended by an answer, where it is this handle's: this level stays, and a
--- call is pending as granted
-abbrev pub answered : ℕ → Level → ℕ → Oplock → Oplock
-answered handle level turn o = if o.handle == handle then record o { level = level; target = None; number = 0; call = Some turn } else o
-
-answered-handle : (handle : ℕ) (level : Level) (turn : ℕ) (o : Oplock) → (answered handle level turn o).handle ≡ o.handle
-answered-handle handle level turn o = elim (cases_Bool (o.handle == handle)) [ inl here ↦ rw here refl | inr other ↦ rw other refl ]
+as_answered-handle : (handle : ℕ) (level : Level) (turn : ℕ) (o : Oplock) → (as_answered handle level turn o).handle ≡ o.handle
+as_answered-handle handle level turn o = elim (cases_Bool (o.handle == handle)) [ inl here ↦ rw here refl | inr other ↦ rw other refl ]
 
 -- the break of the handle's oplock ended by an answer: this level stays, and a call is pending as granted
-pub AreOplocks-answered : (oplocks : List Oplock) (last handle : ℕ) (level : Level) (turn : ℕ) → AreOplocks oplocks last
-    → AreOplocks (map (answered handle level turn) oplocks) last
-AreOplocks-answered oplocks last handle level turn are = record {
-  each = All-map IsOplock (answered handle level turn) oplocks (λ k d within. elim (cases_Bool ((get_or oplocks k d).handle == handle)) [
+pub AreOplocks-as_answered : (oplocks : List Oplock) (last handle : ℕ) (level : Level) (turn : ℕ) → AreOplocks oplocks last
+    → AreOplocks (map (as_answered handle level turn) oplocks) last
+AreOplocks-as_answered oplocks last handle level turn are = record {
+  each = All-map IsOplock (as_answered handle level turn) oplocks (λ k d within. elim (cases_Bool ((get_or oplocks k d).handle == handle)) [
     | inl here ↦ rw here (record { has_number = refl; has_call = refl; target_within = refl })
     | inr other ↦ rw other (are.each k d within)
   ]);
-  handles_differ = AllPairs-map (λ a b. (a.handle == b.handle) ≡ false) (answered handle level turn) oplocks
-      (λ i j d below within. rw (answered-handle handle level turn (get_or oplocks i d), answered-handle handle level turn (get_or oplocks j d)) (are.handles_differ i j d below within));
-  numbers_differ = AllPairs-map (λ a b. (is_some a.target && a.number == b.number) ≡ false) (answered handle level turn) oplocks
+  handles_differ = AllPairs-map (λ a b. (a.handle == b.handle) ≡ false) (as_answered handle level turn) oplocks
+      (λ i j d below within. rw (as_answered-handle handle level turn (get_or oplocks i d), as_answered-handle handle level turn (get_or oplocks j d)) (are.handles_differ i j d below within));
+  numbers_differ = AllPairs-map (λ a b. (is_some a.target && a.number == b.number) ≡ false) (as_answered handle level turn) oplocks
       (λ i j d below within. elim (cases_Bool ((get_or oplocks i d).handle == handle)) [
         | inl first ↦ rw first refl
         | inr other ↦ rw other (elim (cases_Bool ((get_or oplocks j d).handle == handle)) [
@@ -310,7 +305,7 @@ AreOplocks-answered oplocks last handle level turn are = record {
           | inr neither ↦ rw neither (are.numbers_differ i j d below within)
         ])
       ]);
-  numbers_given = All-map (λ o. o.number ≤ last) (answered handle level turn) oplocks (λ k d within. elim (cases_Bool ((get_or oplocks k d).handle == handle)) [
+  numbers_given = All-map (λ o. o.number ≤ last) (as_answered handle level turn) oplocks (λ k d within. elim (cases_Bool ((get_or oplocks k d).handle == handle)) [
     | inl here ↦ rw here (omega arith)
     | inr other ↦ rw other (are.numbers_given k d within)
   ]);

@@ -6,6 +6,7 @@ pub mod Masks
 pub mod FixedBuffers
 pub mod LittleEndian
 pub mod Match
+pub mod OplockGrants
 pub mod OplockLists
 pub mod Oplocks
 pub mod PackedRows

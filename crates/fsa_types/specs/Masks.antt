@@ -70,6 +70,12 @@ DIRECTORY = 0x10
 abbrev pub ARCHIVE : ℕ
 ARCHIVE = 0x20
 
+abbrev pub NORMAL : ℕ
+NORMAL = 0x80
+
+abbrev pub REPARSE_POINT : ℕ
+REPARSE_POINT = 0x400
+
 -- ---- actions of changes that are noted, after [MS-FSCC] 'FILE_NOTIFY_INFORMATION', Action
 
 abbrev pub FILE_ACTION_ADDED : ℕ
