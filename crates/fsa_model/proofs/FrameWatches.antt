@@ -9,9 +9,9 @@ use Rattle.fsa_types.specs.declared.request.Request.TheVariants.{Notify}
 use Rattle.fsa_types.specs.declared.request.What.TheVariants.{Ask}
 use Rattle.fsa_types.specs.declared.status.Status.TheVariants.{InvalidHandle, InvalidParameter, AccessDenied, DeletePending}
 use Rattle.fsa_model.specs.Frame.{FitsReply, InFrame, OnlyWatches, is_failure}
-use Rattle.fsa_model.specs.Lookups.{handle_of}
+use Rattle.fsa_model.specs.Lookups.{handle_of, is_link_marked}
 use Rattle.fsa_model.specs.Volume.{Handle, Volume}
-use Rattle.fsa_model.specs.Watching.{due_size, is_link_marked, is_notify_filter, is_something_due, notify_at, notify_by, notify_due, report, try_notify, watch_of, with_watch_begun, with_watch_seen}
+use Rattle.fsa_model.specs.Watching.{due_size, is_notify_filter, is_something_due, notify_at, notify_by, notify_due, report, try_notify, watch_of, with_watch_begun, with_watch_seen}
 use Rattle.fsa_model.proofs.FrameLaws.{AddsNothing, AddsNothing-alike, AddsNothing-next, AddsNothing-same, InFrame-done, InFrame-if, InFrame-option, InFrame-refused, KeepsFrame-adds_nothing}
 
 -- a Notify with this room

@@ -15,36 +15,33 @@ use Rattle.fsa_types.specs.declared.request.Call.{Call}
 use Rattle.fsa_types.specs.declared.request.CallId.{CallId}
 use Rattle.fsa_types.specs.declared.request.Level.{Level}
 use Rattle.fsa_types.specs.declared.request.Request.{Request}
-use Rattle.fsa_types.specs.declared.request.Request.TheVariants.{Create, Close, Read, Write, Flush, SetEnd, Lock, Unlock, Oplock as OplockRequest, Ack, SetSecurity, Cancel, Notify}
+use Rattle.fsa_types.specs.declared.request.Request.TheVariants.{Create, Close, Read, Write, SetEnd, Lock, Unlock, Oplock as OplockRequest, Ack, Cancel, Notify, Rename, Link, SetDisposition}
 use Rattle.fsa_types.specs.declared.request.What.{What}
 use Rattle.fsa_types.specs.declared.request.What.TheVariants.{Ask, Tick, WaitFor, Leave}
 use Rattle.fsa_types.specs.declared.reply.Blocker.{Blocker}
-use Rattle.fsa_types.specs.declared.request.DaclChange.{DaclChange}
 use Rattle.fsa_types.specs.Access.{has_any}
 use Rattle.fsa_types.specs.declared.status.Status.{Status}
-use Rattle.fsa_types.specs.declared.status.Status.TheVariants.{AccessDenied, Cancelled, DeletePending, InvalidHandle, InvalidOplockProtocol, InvalidParameter, OplockNotGranted, NoMemory, OplockSwitchedToNewHandle, QuotaExceeded, RangeNotLocked, Stalled, Success}
+use Rattle.fsa_types.specs.declared.status.Status.TheVariants.{AccessDenied, Cancelled, DeletePending, InvalidHandle, InvalidOplockProtocol, InvalidParameter, OplockNotGranted, NoMemory, OplockSwitchedToNewHandle, RangeNotLocked, Stalled, Success}
 use Rattle.fsa_model.specs.Close.{closed_status, is_call_on, is_left_behind, is_open_or_wait, names, pending_by_turn, with_calls_ended, with_all_closed, with_client_gone, with_closed, with_mark_on_close, with_swept, handles_of_client, close_at, try_close, try_leave}
 use Rattle.fsa_model.specs.Edits.{is_call, is_lock_on, with_blockers, with_end, with_left, with_pending, with_ticks, without_handle, without_lock, without_oplock}
 use Rattle.fsa_model.specs.Engine.{CallsDiffer, GrantsPend, asks_oplock_of, handle_granted, has_grant_under, is_entry_of, own_tried}
-use Rattle.fsa_model.specs.Flush.{flush_at, try_flush}
 use Rattle.fsa_model.specs.Grant.{ack_at, ack_with, is_not_granted, is_of_key, is_oplock_on, oplock_at, oplock_by, oplock_on, switched, target_of, try_ack, try_oplock, with_call_ended, with_granted, with_level_kept, with_oplock, with_switched}
 use Rattle.fsa_model.specs.History.{HistoryEntry, Run, begun, run, steps, turn_on, with_turn}
 use Rattle.fsa_model.specs.Locking.{try_unlock, unlock_at, unlock_by, unlock_range}
-use Rattle.fsa_model.specs.Lookups.{file_of_link, handle_of, has_left, is_opened_by, number_of}
+use Rattle.fsa_model.specs.Lookups.{handle_of, has_left, is_link_marked, is_opened_by, number_of}
 use Rattle.fsa_model.specs.Once.{how_many, made, times, IsOnce}
 use Rattle.fsa_model.specs.Outcome.{Outcome, Done, Stay, Hold, ends_with, refused}
-use Rattle.fsa_model.specs.Security.{is_foreign, lacks_right, passes_limit, set_security_at, set_security_by, set_security_of, try_set_security, with_security}
 use Rattle.fsa_model.specs.Settle.{Settling, come_over, held_taken_up, settle_step, settled, starves, taken_up, taken_up_all, with_tried}
 use Rattle.fsa_model.specs.Setup.{Setup}
 use Rattle.fsa_model.specs.Turn.{Turned, answered, turn, turn_number}
 use Rattle.fsa_model.specs.Try.{try, try_request, try_what}
 use Rattle.fsa_model.specs.Volume.{Handle, Oplock, Pending, Volume, fresh}
 use Rattle.fsa_model.specs.Waiting.{all_wait, has_come, is_asked_before, is_held, is_wait, next_ready, waits_in_order, with_stalled, has_ended, is_granted_under, is_pending, try_cancel, try_wait, with_cancelled, with_oplock_given_up}
-use Rattle.fsa_model.specs.Watching.{is_link_marked, is_notify_filter, is_something_due, notify_at, notify_by, try_notify, watch_of, with_watch_begun, with_watch_seen}
+use Rattle.fsa_model.specs.Watching.{is_notify_filter, is_something_due, notify_at, notify_by, try_notify, watch_of, with_watch_begun, with_watch_seen}
 use Rattle.fsa_model.proofs.CountLaws.{and_left, and_right, and_true, how_many-append, how_many-filter, how_many-filter_le, how_many-in_order, how_many-length, how_many-map, how_many-none, how_many-same, how_many-some, how_many-weaker, only-one, none-how_many, some-how_many}
 use Rattle.fsa_model.proofs.EngineLaws.{turn-turned}
 use Rattle.fsa_model.proofs.GrantLaws.{KeepsAll-all_switched, KeepsAll-switched, all_switched, granted_to, kept_as, oplocks-call_ended}
-use Rattle.fsa_model.proofs.KeepLaws.{KeepsAll, Keeps-closed, Keeps-ended_by_turn, Untouched-security, Untouched-mark_on_close, Untouched-swept}
+use Rattle.fsa_model.proofs.KeepLaws.{KeepsAll, Keeps-closed, Keeps-ended_by_turn, Untouched-mark_on_close, Untouched-swept}
 use Rattle.fsa_model.proofs.OnceHistory.{MayTurn-fresh, is_entry_of-self}
 use Rattle.fsa_model.proofs.OnceLaws.{SameBlockers, blockers-calls_ended, is_call_of, is_same-refl, IsOnce-kept}
 use Rattle.fsa_model.proofs.PendLaws.{HandlesStay, HandlesStay-same, NoneLapsed, NoneLapsed-ends, NoneLapsed-ends_under, NoneLapsed-same, OneGrantEach, any-ends, asks-later, asks-some, found-under, lapsed, lapsed-later}
@@ -55,6 +52,8 @@ use Rattle.fsa_model.proofs.TryLaws.{Keeps, KeepsNumbers, Leaves, SameNumbers, G
 use Rattle.fsa_model.proofs.TurnLaws.{Adds, Adds-answered, MayTurn, TriedTo, Turns, stalled-kept, try-keeps, turn-turns}
 use Rattle.fsa_model.proofs.WaitLaws.{Found, changed, find-passes, is_of, some_item}
 use Rattle.fsa_model.proofs.WatchLaws.{SameWatching, Untouched-seen, comes_over, watching-calls_ended}
+use Rattle.fsa_model.proofs.ObeyLaws.{Obeys}
+use Rattle.fsa_model.proofs.TryObeys.{has_own_laws, try_request-obeys}
 
 -- ---- several calls end
 
@@ -550,29 +549,12 @@ cancel-left v turn call client number once granted =
 
 -- ---- the others that are never held
 
-flush-left : (v : Volume) (turn : ℕ) (call : Call) (client handle : ℕ) → Granted v → Left turn call (try_flush v client handle)
-unfolding try_flush flush_at
-flush-left v turn call client handle granted =
-    Left-option (handle_of v client handle) _ _ (λ id found. Left-option (row_of v.handles id) _ _
-    (λ row is. Left-if (has_any row.access 0x2 || has_any row.access 0x4) _ _ (λ is. Left-done v _ granted) (λ no. Left-refused v AccessDenied granted)) (Left-refused v InvalidHandle granted)) (Left-refused v InvalidHandle granted)
-
 unlock-left : (v : Volume) (turn : ℕ) (call : Call) (client handle at count : ℕ) → Granted v → Left turn call (try_unlock v client handle at count)
 unfolding try_unlock unlock_at unlock_by unlock_range
 unlock-left v turn call client handle at count granted =
     Left-option (handle_of v client handle) _ _ (λ id found. Left-option (row_of v.handles id) _ _ (λ row is. Left-option row.stream _ _ (λ stream on.
     Left-option (number_of (is_lock_on id at count) v.locks) (λ _. ends_with (without_lock v id at count) Success) _ (λ number there. Left-done (without_lock v id at count) _ (Granted-stay v (without_lock v id at count) refl refl (HandlesStay-same refl refl) granted))
     (Left-refused v RangeNotLocked granted)) (Left-refused v InvalidParameter granted)) (Left-refused v InvalidHandle granted)) (Left-refused v InvalidHandle granted)
-
-security-left : (v : Volume) (turn : ℕ) (call : Call) (client handle : ℕ) (owner : Option ℕ) (dacl : DaclChange) → Granted v → Left turn call (try_set_security v client handle owner dacl)
-unfolding try_set_security set_security_at set_security_by set_security_of
-security-left v turn call client handle owner dacl granted =
-    Left-option (handle_of v client handle) _ _ (λ id found. Left-option (row_of v.handles id) _ _ (λ row is.
-    Left-if (lacks_right row.access owner dacl) _ _ (λ is. Left-refused v AccessDenied granted)
-    (λ no. Left-option (file_of_link v.links row.link) _ _ (λ file of.
-    Left-if (is_foreign v client owner) _ _ (λ is. Left-refused v AccessDenied granted)
-    (λ no. Left-if (passes_limit v file owner) _ _ (λ is. Left-refused v QuotaExceeded granted)
-    (λ no. Left-done (with_security v row.link file owner dacl) _ (Granted-untouched v (with_security v row.link file owner dacl) (Untouched-security v row.link file owner dacl) granted))))
-    (Left-refused v InvalidHandle granted))) (Left-refused v InvalidHandle granted)) (Left-refused v InvalidHandle granted)
 
 Granted-begun : (v : Volume) (id filter : ℕ) (tree : Bool) → Granted v → Granted (with_watch_begun v id filter tree)
 Granted-begun v id filter tree granted = elim (cases_Bool (is_some (watch_of v id))) [
@@ -715,32 +697,28 @@ ack-left v turn call handle level asked granted =
 -- ---- any try
 
 pub try-left : (v : Volume) (call : Call) (turn : ℕ) → MaySettle v → IsOnce v → OneGrantEach v → Granted v → Left turn call (try v call turn)
-try-left v call turn may once one granted = elim (cases_Bool (may_be_held call.what)) [
-  | inl held ↦ record { so = left_of-tries v turn call (try v call turn) once one granted (Tries.so (try-tries v call turn may.oplocks held)) }
-  | inr isnt ↦ Left-if (has_left v call.client) _ _ (λ is. Left-refused v InvalidHandle granted) (λ no. of_what call.what refl isnt)
-]
+try-left v call turn may once one granted = Left-if (has_left v call.client) _ _ (λ is. Left-refused v InvalidHandle granted) (λ no. of_what call.what refl)
   where
-    of_request : (request : Request) → call.what ≡ Ask request → may_be_held (Ask request) ≡ false → Left turn call (try_request v turn call.client call.number request)
-    of_request (Create path wanted share disposition options attributes key) is isnt = cc
-    of_request (Read handle at count) is isnt = cc
-    of_request (Write handle at bytes) is isnt = cc
-    of_request (SetEnd handle length) is isnt = cc
-    of_request (Lock handle at count exclusive wait) is isnt = cc
-    of_request (OplockRequest handle level) is isnt = oplock-left v turn call handle level (rw is refl) once one granted
-    of_request (Ack handle level) is isnt = ack-left v turn call handle level (rw is refl) granted
-    of_request (Close handle) is isnt = close-left v turn call call.client handle once granted
-    of_request (Flush handle) is isnt = flush-left v turn call call.client handle granted
-    of_request (Unlock handle at count) is isnt = unlock-left v turn call call.client handle at count granted
-    of_request (SetSecurity handle owner dacl) is isnt = security-left v turn call call.client handle owner dacl granted
-    of_request (Notify handle filter tree room) is isnt = notify-left v turn call call.client handle filter tree room granted
-    of_request (Cancel number) is isnt = cancel-left v turn call call.client number once granted
-    of_request _ is isnt = Left-refused v _ granted
+    of_own : (request : Request) → call.what ≡ Ask request → has_own_laws request ≡ true → Left turn call (try_request v turn call.client call.number request)
+    of_own (OplockRequest handle level) is own = oplock-left v turn call handle level (rw is refl) once one granted
+    of_own (Ack handle level) is own = ack-left v turn call handle level (rw is refl) granted
+    of_own (Close handle) is own = close-left v turn call call.client handle once granted
+    of_own (Unlock handle at count) is own = unlock-left v turn call call.client handle at count granted
+    of_own (Notify handle filter tree room) is own = notify-left v turn call call.client handle filter tree room granted
+    of_own (Cancel number) is own = cancel-left v turn call call.client number once granted
+    of_own _ is own = cc
 
-    of_what : (what : What) → call.what ≡ what → may_be_held what ≡ false → Left turn call (try_what v turn call.client call.number what)
-    of_what (Ask request) is isnt = of_request request is isnt
-    of_what (Tick ticks) is isnt = ticks-left v turn call ticks granted
-    of_what (WaitFor number) is isnt = wait-left v turn call call.client number granted
-    of_what Leave is isnt = leave-left v turn call call.client once granted
+    of_request : (request : Request) → call.what ≡ Ask request → Left turn call (try_request v turn call.client call.number request)
+    of_request request is = elim (cases_Bool (has_own_laws request)) [
+      | inl own ↦ of_own request is own
+      | inr none ↦ record { so = left_of-tries v turn call _ once one granted (Tries.so (Obeys.tries (try_request-obeys v turn call.client call.number request none) may.oplocks)) }
+    ]
+
+    of_what : (what : What) → call.what ≡ what → Left turn call (try_what v turn call.client call.number what)
+    of_what (Ask request) is = of_request request is
+    of_what (Tick ticks) is = ticks-left v turn call ticks granted
+    of_what (WaitFor number) is = wait-left v turn call call.client number granted
+    of_what Leave is = leave-left v turn call call.client once granted
 
 -- ---- the turn's own call
 
@@ -794,6 +772,9 @@ held-ungranted (Ask (Read handle at count)) is = refl
 held-ungranted (Ask (Write handle at bytes)) is = refl
 held-ungranted (Ask (SetEnd handle length)) is = refl
 held-ungranted (Ask (Lock handle at count exclusive wait)) is = refl
+held-ungranted (Ask (Rename handle path replace)) is = refl
+held-ungranted (Ask (Link handle path replace)) is = refl
+held-ungranted (Ask (SetDisposition handle delete)) is = refl
 held-ungranted _ is = cc
 
 come-ungranted : (v : Volume) (client number : ℕ) (what : What) → has_come v client number what ≡ true → is_some (handle_granted what) ≡ false

@@ -1,9 +1,9 @@
 -- A try of a call that is never held keeps what a settlement asks of the volume: no handle gets an oplock, no
 -- call becomes pending, and each call is as often there.
-use Rattle.std.proofs.Common.{length, sym, append-nil, ◌&&◌, ◌≡◌, ℕ, ◌+◌, ◌≤◌, Bool, true, false, not, List, [], ◌∷◌, refl, ap, arith, inl, inr, Option, Some, None}
+use Rattle.std.proofs.Common.{length, sym, append-nil, ◌&&◌, ◌≡◌, ℕ, ◌+◌, ◌≤◌, Bool, true, false, not, List, [], ◌∷◌, refl, ap, arith, inl, inr, Option, Some, None, ◌∙◌}
 use Rattle.std.specs.List.{filter}
 use Rattle.std.specs.Option.{option_map_or}
-use Rattle.std.specs.Prelude.{◌==◌, ◌||◌, nat_lt, find, is_some, if◌then◌else◌}
+use Rattle.std.specs.Prelude.{◌==◌, nat_lt, find, is_some, if◌then◌else◌}
 use Rattle.fsa_types.specs.Access.{has_any}
 use Rattle.fsa_types.specs.Rows.{row_of, lives, without_row}
 use Rattle.fsa_types.specs.declared.reply.Blocker.{Blocker}
@@ -11,29 +11,27 @@ use Rattle.fsa_types.specs.declared.reply.Blocker.TheVariants as blocker
 use Rattle.fsa_types.specs.declared.reply.Body.TheVariants.{Nothing}
 use Rattle.fsa_types.specs.declared.reply.Interim.{Interim}
 use Rattle.fsa_types.specs.declared.reply.Reply.{Reply}
-use Rattle.fsa_types.specs.declared.request.DaclChange.{DaclChange}
-use Rattle.fsa_types.specs.declared.request.DaclChange.TheVariants.{Keep, Remove, Put}
 use Rattle.fsa_types.specs.declared.request.What.{What}
 use Rattle.fsa_types.specs.declared.status.Status.{Status}
-use Rattle.fsa_types.specs.declared.status.Status.TheVariants.{Success, InvalidHandle, InvalidParameter, AccessDenied, QuotaExceeded, RangeNotLocked, Cancelled, DeletePending}
+use Rattle.fsa_types.specs.declared.status.Status.TheVariants.{Success, InvalidHandle, InvalidParameter, AccessDenied, RangeNotLocked, Cancelled, DeletePending}
 use Rattle.fsa_model.specs.Close.{is_call_on, closed_status, is_left_behind, pending_by_turn, with_calls_ended, named_stream, is_link_of_parent, with_mark_on_close, is_stream_over, with_stream_swept, is_link_over, name_bit, with_link_swept, with_swept, with_closed, close_at, try_close, handles_of_client, with_all_closed, with_client_gone, try_leave}
 use Rattle.fsa_model.specs.Edits.{with_end, with_left, with_stream_marked, without_file_unless_linked, without_handle, without_link, without_lock, is_call, is_lock_on, with_ticks}
-use Rattle.fsa_model.specs.Flush.{flush_by, flush_at, try_flush}
 use Rattle.fsa_model.specs.Locking.{unlock_range, unlock_by, unlock_at, try_unlock}
-use Rattle.fsa_model.specs.Lookups.{file_of_link, handle_of, has_row, number_of}
+use Rattle.fsa_model.specs.Lookups.{handle_of, has_row, is_link_marked, number_of}
 use Rattle.fsa_model.specs.Once.{how_many}
 use Rattle.fsa_model.specs.Outcome.{Outcome, Done, Stay, Hold, refused, ends_with}
-use Rattle.fsa_model.specs.Security.{asks_something, lacks_right, is_foreign, passes_limit, with_owner_asked, with_dacl_asked, with_change_time, with_security, set_security_of, set_security_by, set_security_at, try_set_security}
 use Rattle.fsa_model.specs.Volume.{Handle, Link, Lock, Oplock, Pending, Watch, Volume}
 use Rattle.fsa_model.specs.Waiting.{blocker_lives, is_breaking, has_ended, is_pending, try_wait, is_granted_under, with_oplock_given_up, with_cancelled, try_cancel}
 use Rattle.fsa_model.proofs.CountLaws.{and_left, how_many-weaker, how_many-filter_le, how_many-in_order, how_many-some}
 use Rattle.fsa_model.proofs.OnceLaws.{Extends-same, ended-calls_ended, SameBlockers, is_call_of, fewer-calls_ended, times-calls_ended, made-calls_ended, blockers-calls_ended}
 use Rattle.fsa_model.proofs.RowLaws.{option_cases, find-any}
-use Rattle.fsa_model.proofs.TryLaws.{Watches-equal, SameNumbers, SameNumbers-same, SameNumbers-next, Keeps, KeepsNumbers, KeepsNumbers-old, KeepsNumbers-same, KeepsNumbers-next, KeepsNumbers-untouched, KeepsNumbers-ends, is_given, Untouched, Untouched-same, Untouched-next, Untouched-noted}
+use Rattle.fsa_model.proofs.TryLaws.{Watches-equal, SameNumbers, SameNumbers-same, SameNumbers-next, Keeps, KeepsNumbers, KeepsNumbers-old, KeepsNumbers-same, KeepsNumbers-next, KeepsNumbers-untouched, KeepsNumbers-ends, is_given, Untouched, Untouched-same, Untouched-next, Untouched-noted, Leaves, KeepsNumbers-leaves, Tries, TriesTo}
 use Rattle.fsa_model.proofs.WatchLaws.{Untouched-seen, Watches-begun, watching-calls_ended}
-use Rattle.fsa_model.specs.Watching.{watch_of, report, with_watch_seen, with_watch_begun, is_something_due, notify_due, is_notify_filter, is_link_marked, notify_by, notify_at, try_notify}
+use Rattle.fsa_model.specs.Watching.{watch_of, report, with_watch_seen, with_watch_begun, is_something_due, notify_due, is_notify_filter, notify_by, notify_at, try_notify}
 use Rattle.std.proofs.lemmas.Bool.{cases_Bool}
-use Rattle.fsa_model.proofs.WaitLaws.{is_unbroken, unbroken, is_of, find-passes, any-of_filter}
+use Rattle.fsa_model.proofs.WaitLaws.{is_unbroken, unbroken, is_of, find-passes, any-of_filter, HasOneOplockEach}
+use Rattle.fsa_model.proofs.ObeyLaws.{Obeys, SparesTo, may_be_held}
+use Rattle.fsa_types.specs.declared.request.Call.{Call}
 
 -- ---- what such a try keeps
 
@@ -86,6 +84,15 @@ Kept-option : {X : Type 0} {v : Volume} (found : Option X) (some : X → Outcome
     → ((x : X) → found ≡ Some x → Kept v (some x)) → Kept v none → Kept v (option_map_or some found none)
 Kept-option None some none with_some with_none = with_none
 Kept-option (Some x) some none with_some with_none = with_some x refl
+
+kept_to-obeys : (what : What) (v : Volume) (outcome : Outcome) → may_be_held what ≡ false → TriesTo Leaves v outcome → SparesTo what v outcome → KeptTo v outcome
+kept_to-obeys what v (Done w reply) never tries spares = record { kept = KeepsNumbers-leaves tries.0; same = spares never }
+kept_to-obeys what v (Stay w interim) never tries spares = absurd tries
+kept_to-obeys what v (Hold w blockers interim) never tries spares = (let impossible : true ≡ false = sym spares ∙ never in cc)
+
+-- what is never held and keeps what every try keeps
+pub Kept-obeys : {call : Call} {v : Volume} {outcome : Outcome} → HasOneOplockEach v → may_be_held call.what ≡ false → Obeys call v outcome → Kept v outcome
+Kept-obeys {call} {v} {outcome} one never obeys = record { so = kept_to-obeys call.what v outcome never (Tries.so (obeys.tries one)) obeys.spares }
 
 -- ---- closes, and clients that leave
 
@@ -229,17 +236,7 @@ try_leave-kept v client =
     Kept-done (with_left closed client) _ (KeepsAll-next (Keeps-ended_by_turn (λ _. Cancelled) (is_left_behind client) v)
     (KeepsAll-next (Keeps-all_closed (handles_of_client v client) ended) (KeepsAll-untouched closed (with_left closed client) (Untouched-left closed client))))
 
--- ---- flushes and unlocks
-
-flush_at-kept : (v : Volume) (id : ℕ) → Kept v (flush_at v id)
-unfolding flush_at
-flush_at-kept v id =
-    Kept-option (row_of v.handles id) (λ handle. flush_by v handle) _
-    (λ handle found. Kept-if (has_any handle.access 0x2 || has_any handle.access 0x4) _ _ (λ is. Kept-done v _ (KeepsAll-same v)) (λ no. Kept-refused v AccessDenied)) (Kept-refused v InvalidHandle)
-
-pub try_flush-kept : (v : Volume) (client handle : ℕ) → Kept v (try_flush v client handle)
-unfolding try_flush
-try_flush-kept v client handle = Kept-option (handle_of v client handle) (λ id. flush_at v id) _ (λ id found. flush_at-kept v id) (Kept-refused v InvalidHandle)
+-- ---- watches and unlocks
 
 -- a Notify only sees to its watch
 pub KeepsAll-begun : (v : Volume) (id filter : ℕ) (tree : Bool) → KeepsAll v (with_watch_begun v id filter tree)
@@ -301,50 +298,6 @@ unlock_at-kept v id at count = Kept-option (row_of v.handles id) (λ handle. unl
 pub try_unlock-kept : (v : Volume) (client handle at count : ℕ) → Kept v (try_unlock v client handle at count)
 unfolding try_unlock
 try_unlock-kept v client handle at count = Kept-option (handle_of v client handle) (λ id. unlock_at v id at count) _ (λ id found. unlock_at-kept v id at count) (Kept-refused v InvalidHandle)
-
--- ---- owners and access lists
-
-Untouched-owner_asked : (v : Volume) (file : ℕ) (owner : Option ℕ) → Untouched v (with_owner_asked v file owner)
-Untouched-owner_asked v file None = Untouched-same v
-Untouched-owner_asked v file (Some sid) = record { oplocks = refl; locks = refl; pending = refl; ended = refl; last_break = refl; seen = Watches-equal refl refl; opens = refl; numbers = record { files = refl; links = refl; streams = refl; handles = refl; locks = refl } }
-
-Untouched-dacl_asked : (v : Volume) (file : ℕ) (dacl : DaclChange) → Untouched v (with_dacl_asked v file dacl)
-Untouched-dacl_asked v file Keep = Untouched-same v
-Untouched-dacl_asked v file Remove = record { oplocks = refl; locks = refl; pending = refl; ended = refl; last_break = refl; seen = Watches-equal refl refl; opens = refl; numbers = record { files = refl; links = refl; streams = refl; handles = refl; locks = refl } }
-Untouched-dacl_asked v file (Put dacl) = record { oplocks = refl; locks = refl; pending = refl; ended = refl; last_break = refl; seen = Watches-equal refl refl; opens = refl; numbers = record { files = refl; links = refl; streams = refl; handles = refl; locks = refl } }
-
-pub Untouched-security : (v : Volume) (link file : ℕ) (owner : Option ℕ) (dacl : DaclChange) → Untouched v (with_security v link file owner dacl)
-Untouched-security v link file owner dacl =
-    let own : Volume = with_owner_asked v file owner in
-    let listed : Volume = with_dacl_asked own file dacl in
-    let timed : Volume = with_change_time listed file in
-    Untouched-next (Untouched-owner_asked v file owner) (Untouched-next (Untouched-dacl_asked own file dacl)
-    (Untouched-next {v = timed} (record { oplocks = refl; locks = refl; pending = refl; ended = refl; last_break = refl; seen = Watches-equal refl refl; opens = refl; numbers = record { files = refl; links = refl; streams = refl; handles = refl; locks = refl } })
-    (Untouched-if (asks_something owner dacl) _ timed (Untouched-noted timed link 3 0x100 None) (Untouched-same timed))))
-
-set_security_of-kept : (v : Volume) (client link file : ℕ) (owner : Option ℕ) (dacl : DaclChange) → Kept v (set_security_of v client link file owner dacl)
-unfolding set_security_of
-set_security_of-kept v client link file owner dacl =
-    Kept-if (is_foreign v client owner) _ _ (λ is. Kept-refused v AccessDenied)
-    (λ no. Kept-if (passes_limit v file owner) _ _ (λ is. Kept-refused v QuotaExceeded)
-    (λ no. Kept-done _ _ (KeepsAll-untouched v _ (Untouched-security v link file owner dacl))))
-
-set_security_by-kept : (v : Volume) (client : ℕ) (handle : Handle) (owner : Option ℕ) (dacl : DaclChange) → Kept v (set_security_by v client handle owner dacl)
-unfolding set_security_by
-set_security_by-kept v client handle owner dacl =
-    Kept-if (lacks_right handle.access owner dacl) _ _ (λ is. Kept-refused v AccessDenied)
-    (λ no. Kept-option (file_of_link v.links handle.link) (λ file. set_security_of v client handle.link file owner dacl) _
-    (λ file found. set_security_of-kept v client handle.link file owner dacl) (Kept-refused v InvalidHandle))
-
-set_security_at-kept : (v : Volume) (client id : ℕ) (owner : Option ℕ) (dacl : DaclChange) → Kept v (set_security_at v client id owner dacl)
-unfolding set_security_at
-set_security_at-kept v client id owner dacl =
-    Kept-option (row_of v.handles id) (λ handle. set_security_by v client handle owner dacl) _ (λ handle found. set_security_by-kept v client handle owner dacl) (Kept-refused v InvalidHandle)
-
-pub try_set_security-kept : (v : Volume) (client handle : ℕ) (owner : Option ℕ) (dacl : DaclChange) → Kept v (try_set_security v client handle owner dacl)
-unfolding try_set_security
-try_set_security-kept v client handle owner dacl =
-    Kept-option (handle_of v client handle) (λ id. set_security_at v client id owner dacl) _ (λ id found. set_security_at-kept v client id owner dacl) (Kept-refused v InvalidHandle)
 
 -- ---- waits, cancellations and the clock
 

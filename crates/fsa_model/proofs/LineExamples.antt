@@ -5,7 +5,7 @@ use Rattle.fsa_types.specs.CaseTable.{ascii_pairs}
 use Rattle.fsa_types.specs.declared.request.Disposition.{Disposition}
 use Rattle.fsa_types.specs.declared.request.Disposition.TheVariants.{Supersede, OpenExisting, CreateNew, OpenIf, Overwrite, OverwriteIf}
 use Rattle.fsa_types.specs.declared.request.Request.{Request}
-use Rattle.fsa_types.specs.declared.request.Request.TheVariants.{Create, Read, Write, Flush, SetEnd, Lock, Unlock, Cancel}
+use Rattle.fsa_types.specs.declared.request.Request.TheVariants.{Create, Read, Write, Flush, SetEnd, Lock, Unlock, SetDisposition, Rename, Link, Cancel}
 use Rattle.fsa_types.specs.declared.request.What.TheVariants.{Ask, WaitFor}
 use Rattle.fsa_types.specs.declared.reply.Action.TheVariants.{Created}
 use Rattle.fsa_types.specs.declared.reply.Answer.TheVariants.{Ended}
@@ -15,6 +15,7 @@ use Rattle.fsa_types.specs.declared.status.Status.TheVariants.{Success, CannotDe
 use Rattle.fsa_model.specs.Fault.{Kind, BadSyntax}
 use Rattle.fsa_model.specs.ByteLines.{read_fields, start_at, write_fields, flush_fields, set_end_fields}
 use Rattle.fsa_model.specs.LockLines.{lock_fields, unlock_fields}
+use Rattle.fsa_model.specs.NameLines.{rename_fields, link_fields, set_disposition_fields}
 use Rattle.fsa_model.specs.WaitLines.{cancel_fields, wait_fields}
 use Rattle.fsa_model.specs.Lines.{Line, RequestLine, request_of, line_of}
 use Rattle.fsa_model.specs.Open.{try_create, create_at, create_walked, create_named, create_by_link, create_found, create_there, create_in_file, create_stream, create_on_stream, open_stream, open_directory, open_granted, overwrite_existing, open_existing, clashed, create_missing, make_file, make_directory, stopped}
@@ -38,7 +39,7 @@ lines =
     ∷ codes "a 1 create =\\d\\x:s:$DATA 0x10000000 0x7 open 0x200100 0x1 18446744073709551615"
     ∷ codes "a 1 create =\\ 0x1 0x7 create 0x1 0x31b7 5"
     ∷ codes "a 1 create = 0x0 0x8 open_if 0x41 0x80000000 10"
-    ∷ codes "a 1 create =%0025%0020%D83D%DE00 0xffffffff 0xffffffff overwrite 0xffffefff 0xffffffff 7"
+    ∷ codes "a 1 create =%0025%0020%D83D%DE00 0xffffffff 0xffffffff overwrite 0xffffffff 0xffffffff 7"
     ∷ codes "a 1 create =\\A 0x12019f 0x5 overwrite_if 0x60 0x20 0"
     ∷ []
 
@@ -48,7 +49,7 @@ said =
     ∷ opens (codes "\\d\\x:s:$DATA") 0x10000000 0x7 OpenExisting 0x200100 0x1 18446744073709551615
     ∷ opens (codes "\\") 0x1 0x7 CreateNew 0x1 0x31B7 5
     ∷ opens [] 0x0 0x8 OpenIf 0x41 0x80000000 10
-    ∷ opens (37 ∷ 32 ∷ 0xD83D ∷ 0xDE00 ∷ []) 0xFFFFFFFF 0xFFFFFFFF Overwrite 0xFFFFEFFF 0xFFFFFFFF 7
+    ∷ opens (37 ∷ 32 ∷ 0xD83D ∷ 0xDE00 ∷ []) 0xFFFFFFFF 0xFFFFFFFF Overwrite 0xFFFFFFFF 0xFFFFFFFF 7
     ∷ opens (codes "\\A") 0x12019F 0x5 OverwriteIf 0x60 0x20 0
     ∷ []
 
@@ -77,7 +78,7 @@ opens_written = refl
 
 -- a key of 2^64 or with a leading zero; a mask with nine digits, with a leading zero, in upper case, or
 -- without `0x`; a way that there isn't; a field too few or too many, a space at the end; a path without
--- `=`, with a lower-case or a short escape, or with a space; and DELETE_ON_CLOSE, which isn't built
+-- `=`, with a lower-case or a short escape, or with a space
 pub no_opens :
     map line_of (
     codes "a 1 create =\\A 0x3 0x0 open 0x0 0x0 18446744073709551616"
@@ -94,10 +95,8 @@ pub no_opens :
     ∷ codes "a 1 create =%d83d 0x3 0x0 open 0x0 0x0 0"
     ∷ codes "a 1 create =%041 0x3 0x0 open 0x0 0x0 0"
     ∷ codes "a 1 create =a b 0x3 0x0 open 0x0 0x0 0"
-    ∷ codes "a 1 create =\\A 0x10003 0x0 open 0x1000 0x0 0"
     ∷ [])
     ≡ Err BadSyntax
-    ∷ Err BadSyntax
     ∷ Err BadSyntax
     ∷ Err BadSyntax
     ∷ Err BadSyntax
@@ -277,6 +276,102 @@ pub unsaid :
     ∷ false
     ∷ []
 unsaid = refl
+
+-- ---- names and marks
+
+-- the least handle and the greatest; the root's path, none, and one with an escape; each word
+pub names_said :
+    map line_of (
+    codes "a 1 rename 0 =\\x keep"
+    ∷ codes "a 1 rename 4294967295 =\\d\\x:s replace"
+    ∷ codes "a 1 rename 1 = keep"
+    ∷ codes "a 1 link 2 =\\ replace"
+    ∷ codes "a 1 link 4294967295 =\\%0041%D83D%0020 keep"
+    ∷ codes "a 1 setdelete 0 yes"
+    ∷ codes "a 1 setdelete 4294967295 no"
+    ∷ [])
+    ≡ map {B = Result Line Kind} Ok (
+    asks (Rename 0 (codes "\\x") false)
+    ∷ asks (Rename 4294967295 (codes "\\d\\x:s") true)
+    ∷ asks (Rename 1 [] false)
+    ∷ asks (Link 2 (codes "\\") true)
+    ∷ asks (Link 4294967295 (92 ∷ 65 ∷ 0xD83D ∷ 32 ∷ []) false)
+    ∷ asks (SetDisposition 0 true)
+    ∷ asks (SetDisposition 4294967295 false)
+    ∷ [])
+unfolding line_of request_of what_of rename_fields link_fields set_disposition_fields choice_at text_at text_of number_at field_at
+names_said = refl
+
+-- written, with small numbers
+pub names_written :
+    map line_text (
+    asks (Rename 10 (codes "\\x") false)
+    ∷ asks (Rename 1 (37 ∷ []) true)
+    ∷ asks (Link 2 [] true)
+    ∷ asks (Link 21 (codes "\\d\\x:s") false)
+    ∷ asks (SetDisposition 3 true)
+    ∷ asks (SetDisposition 12 false)
+    ∷ [])
+    ≡ codes "a 1 rename 10 =\\x keep"
+    ∷ codes "a 1 rename 1 =%0025 replace"
+    ∷ codes "a 1 link 2 = replace"
+    ∷ codes "a 1 link 21 =\\d\\x:s keep"
+    ∷ codes "a 1 setdelete 3 yes"
+    ∷ codes "a 1 setdelete 12 no"
+    ∷ []
+names_written = refl
+
+-- a handle that is too great or has a leading zero; a path without `=`, with a lower-case or a short escape, or with
+-- a space; a field that is missing, in another's place or too many, or whose word is another; a space at the end
+abbrev pub bad_name_lines : List (List ℕ)
+bad_name_lines =
+    codes "a 1 rename 4294967296 =\\x keep"
+    ∷ codes "a 1 rename 01 =\\x keep"
+    ∷ codes "a 1 rename 1 \\x keep"
+    ∷ codes "a 1 rename 1 =%d83d keep"
+    ∷ codes "a 1 rename 1 =%041 keep"
+    ∷ codes "a 1 rename 1 =\\a b keep"
+    ∷ codes "a 1 rename 1 =\\x"
+    ∷ codes "a 1 rename 1 keep"
+    ∷ codes "a 1 rename 1 keep =\\x"
+    ∷ codes "a 1 rename =\\x keep"
+    ∷ codes "a 1 rename 1 =\\x Keep"
+    ∷ codes "a 1 rename 1 =\\x yes"
+    ∷ codes "a 1 rename 1 =\\x keep replace"
+    ∷ codes "a 1 rename 1 =\\x keep "
+    ∷ codes "a 1 link 4294967296 =\\x keep"
+    ∷ codes "a 1 link 00 =\\x keep"
+    ∷ codes "a 1 link 1 \\x keep"
+    ∷ codes "a 1 link 1 =% keep"
+    ∷ codes "a 1 link 1 =\\x"
+    ∷ codes "a 1 link 1 =\\x overwrite"
+    ∷ codes "a 1 link 1 =\\x replace 1"
+    ∷ codes "a 1 link 1  =\\x replace"
+    ∷ codes "a 1 setdelete 4294967296 yes"
+    ∷ codes "a 1 setdelete 01 yes"
+    ∷ codes "a 1 setdelete 1"
+    ∷ codes "a 1 setdelete yes"
+    ∷ codes "a 1 setdelete 1 true"
+    ∷ codes "a 1 setdelete 1 Yes"
+    ∷ codes "a 1 setdelete 1 yes no"
+    ∷ codes "a 1 setdelete 1 no "
+    ∷ []
+
+pub no_name_lines : map line_of bad_name_lines ≡ map {B = Result Line Kind} (λ line. Err BadSyntax) bad_name_lines
+unfolding line_of request_of what_of rename_fields link_fields set_disposition_fields choice_at text_at text_of number_at field_at
+no_name_lines = refl
+
+-- what no line can say
+pub unsaid_names :
+    map (λ request. is_line (asks request)) (
+    Rename 4294967296 [] false
+    ∷ Rename 1 (65536 ∷ []) true
+    ∷ Link 4294967296 [] false
+    ∷ Link 1 (92 ∷ 65536 ∷ []) true
+    ∷ SetDisposition 4294967296 true
+    ∷ [])
+    ≡ false ∷ false ∷ false ∷ false ∷ false ∷ []
+unsaid_names = refl
 
 -- ---- a turn of an open
 

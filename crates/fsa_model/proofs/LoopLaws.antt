@@ -23,37 +23,16 @@ use Rattle.fsa_model.specs.Once.{made, how_many, times, IsOnce}
 use Rattle.fsa_model.specs.Settle.{Settling, with_ended, with_reported, with_tried, starves, taken_up, settle_step, taken_up_all, settled}
 use Rattle.fsa_model.specs.Volume.{Pending, Volume}
 use Rattle.fsa_model.specs.Waiting.{is_held, is_ready, next_ready, with_stalled}
+pub use Rattle.fsa_model.specs.Settling.{IsLetGo, AreLetGo, Reaches, TakesUp, TakesNext}
 use Rattle.fsa_model.proofs.CountLaws.{and_left, and_right, and_true, how_many-weaker, how_many-append, how_many-filter, how_many-split, how_many-none, some-how_many, only-one}
 use Rattle.fsa_model.proofs.OnceLaws.{is_call_of, Extends}
-use Rattle.fsa_model.proofs.SettleLaws.{MaySettle, IsNext, is_held_wrongly, may_be_held, Steps, Steps-settle_step, is_under, how_many_free, next_ready-is, ready-free, taken_up_from, taken_up_from-step, taken_up_from-done, next-may_be_held, some_equal, try-tries}
+use Rattle.fsa_model.proofs.SettleLaws.{MaySettle, IsNext, is_held_wrongly, may_be_held, Steps, Steps-settle_step, is_under, how_many_free, next_ready-is, ready-free, taken_up_from-step, taken_up_from-done, next-may_be_held, some_equal, try-tries}
 use Rattle.fsa_model.proofs.TryLaws.{Leaves, Tries, TriesTo}
 use Rattle.fsa_model.proofs.TurnLaws.{try-keeps, tried-begins}
 use Rattle.fsa_model.proofs.WatchLaws.{asks_report, come_cases, come_volume, come_starved, come_taken}
 use Rattle.fsa_model.proofs.TakenLaws.{GoesOn, GoesOn-begins, GoesOn-settle_step, MayTakeUp, is_let_go}
 
 -- ---- one step
-
--- the call that is taken up leaves this volume, and these calls starve in it, none or itself
-pub record TakesUp (v : Volume) (entry : ℕ × Pending) (more : List CallId) (w : Volume) : Type 0 where
-  pub is : w ≡ (taken_up (record { volume = v; starved = more; taken = [] }) entry).volume
-  pub all : (taken_up (record { volume = v; starved = more; taken = [] }) entry).starved ≡ []
-
--- the call is pending: it is held, and no living blocker holds it; or it is a Notify
-abbrev pub IsLetGo : Volume → ℕ → ℕ → Type 0
-IsLetGo v client number = ((turn : ℕ) × (1 ≤ how_many (λ e. is_call_of client number e && is_let_go turn v e) v.pending))
-    ⊎ (1 ≤ how_many (λ e. is_call_of client number e && asks_report e.1.call.what) v.pending)
-
--- so is each of these calls
-abbrev pub AreLetGo : Volume → List CallId → Type 0
-AreLetGo v [] = Unit {0}
-AreLetGo v (id ∷ more) = IsLetGo v id.client id.number × AreLetGo v more
-
--- from the first volume on the loop has come to the last one, and these calls have starved: whatever calls are
--- still to starve, the settlement goes on from here
-pub record Reaches (v : Volume) (names : List CallId) (w : Volume) : Type 0 where
-  pub taken : List ℕ
-  pub on : GoesOn v (record { volume = w; starved = []; taken = taken })
-  pub goes : (rest : List CallId) → AreLetGo w rest → taken_up_from (record { volume = w; starved = rest; taken = taken }) ≡ taken_up_all v (names ++ rest)
 
 -- what a settlement has come to says nothing of the calls that are to starve
 GoesOn-starving : (v w : Volume) (starved other : List CallId) (taken : List ℕ) → GoesOn v (record { volume = w; starved = starved; taken = taken }) → GoesOn v (record { volume = w; starved = other; taken = taken })
@@ -363,12 +342,6 @@ Reaches-done v w names reaches none =
     rw is (refl, refl)
 
 -- ---- the three ways to take a call up
-
--- the next call is taken up
-pub record TakesNext (v : Volume) (more : List CallId) (w : Volume) : Type 0 where
-  pub entry : ℕ × Pending
-  pub found : next_ready v ≡ Some entry
-  pub takes : TakesUp v entry more w
 
 -- a held call is tried again
 pub TakesUp-tried : (v : Volume) (entry : ℕ × Pending) (outcome : Outcome) → is_held entry.1 ≡ true → try v entry.1.call entry.0 ≡ outcome → TakesUp v entry [] (with_tried entry.0 entry.1 outcome)

@@ -20,7 +20,7 @@ use Rattle.fsa_model.specs.Engine.{CallsDiffer, is_entry_of}
 use Rattle.fsa_model.specs.Changes.{seen_from, stream_suffix, with_change_noted}
 use Rattle.fsa_model.specs.Edits.{with_end, with_watch}
 use Rattle.fsa_model.specs.History.{HistoryEntry, Run, run}
-use Rattle.fsa_model.specs.Lookups.{handle_of}
+use Rattle.fsa_model.specs.Lookups.{handle_of, is_link_marked}
 use Rattle.fsa_model.specs.Once.{how_many, times}
 use Rattle.fsa_model.specs.Outcome.{Outcome, Done, Stay, Hold}
 use Rattle.fsa_model.specs.Reports.{Reports, TakesReport, settling_after, PassesChecks, TriesNotify}
@@ -29,7 +29,7 @@ use Rattle.fsa_model.specs.Setup.{Setup}
 use Rattle.fsa_model.specs.Turn.{try, answered, turn_number}
 use Rattle.fsa_model.specs.Volume.{Change, Handle, Watch, Pending, Volume, fresh}
 use Rattle.fsa_model.specs.Waiting.{is_held, is_ready, has_come, has_due, next_ready}
-use Rattle.fsa_model.specs.Watching.{is_asked_by, told_from, due_to, watch_of, dir_of, due, is_something_due, due_size, report, begun_at, with_watch_seen, notify_due, with_watch_begun, is_notify_filter, is_link_marked, notify_by, notify_at, try_notify}
+use Rattle.fsa_model.specs.Watching.{is_asked_by, told_from, due_to, watch_of, dir_of, due, is_something_due, due_size, report, begun_at, with_watch_seen, notify_due, with_watch_begun, is_notify_filter, notify_by, notify_at, try_notify}
 use Rattle.fsa_model.proofs.CountLaws.{and_left, and_right}
 use Rattle.fsa_model.proofs.EngineLaws.{run-before, new-before}
 use Rattle.fsa_model.proofs.OnceHistory.{Runs, run-runs}

@@ -39,12 +39,14 @@ pub create_empty_path : line_of (codes "a 1 create = 0x0 0x0 supersede 0x0 0x0 0
 unfolding line_of request_of what_of create_fields text_at text_of mask_at mask_of disposition_at number_at field_at
 create_empty_path = refl
 
--- DELETE_ON_CLOSE isn't taken, by itself or beside another option
-pub delete_on_close : line_of (codes "a 1 create =\\A 0x10001 0x7 create 0x1000 0x0 0") ≡ Err BadSyntax
+-- a create with DELETE_ON_CLOSE, by itself and beside another option
+pub delete_on_close : line_of (codes "a 1 create =\\A 0x10001 0x7 create 0x1000 0x0 0")
+    ≡ Ok (RequestLine (codes "a") 1 (Ask (Create (codes "\\A") 0x10001 7 CreateNew 0x1000 0 0)))
 unfolding line_of request_of what_of create_fields text_at text_of mask_at mask_of disposition_at number_at field_at
 delete_on_close = refl
 
-pub delete_on_close_too : line_of (codes "a 1 create =\\A 0x10001 0x7 create 0x1001 0x0 0") ≡ Err BadSyntax
+pub delete_on_close_too : line_of (codes "a 1 create =\\A 0x10001 0x7 create 0x1001 0x0 0")
+    ≡ Ok (RequestLine (codes "a") 1 (Ask (Create (codes "\\A") 0x10001 7 CreateNew 0x1001 0 0)))
 unfolding line_of request_of what_of create_fields text_at text_of mask_at mask_of disposition_at number_at field_at
 delete_on_close_too = refl
 

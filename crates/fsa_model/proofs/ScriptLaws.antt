@@ -13,17 +13,20 @@ use Rattle.fsa_types.specs.declared.request.DaclChange.TheVariants.{Keep, Remove
 use Rattle.fsa_types.specs.BoundedList.{full}
 use Rattle.fsa_types.specs.declared.request.What.{What}
 use Rattle.fsa_types.specs.declared.request.What.TheVariants.{Ask, Tick, WaitFor}
-use Rattle.fsa_types.specs.declared.request.Request.TheVariants.{Create, Close, Read, Write, Flush, SetEnd, Lock, Unlock, SetSecurity, Cancel}
-use Rattle.fsa_types.specs.Request.{dacl_fits, what_fits}
+use Rattle.fsa_types.specs.declared.request.Request.TheVariants.{Oplock, Ack}
+use Rattle.fsa_types.specs.declared.request.Request.TheVariants.{Create, Close, Read, Write, Flush, SetEnd, Lock, Unlock, SetDisposition, Rename, Link, SetSecurity, Cancel}
+use Rattle.fsa_types.specs.Request.{dacl_fits, level_fits, what_fits}
 use Rattle.fsa_types.specs.CaseTable.{is_at_fault}
 use Rattle.fsa_model.specs.Setup.{Client, Script}
 use Rattle.fsa_model.specs.Fault.{Kind, BadSyntax, Fault, ◌>>=◌, only_if, read_as}
 use Rattle.fsa_model.specs.Numbers.{digit_of, number_after, written_number}
 use Rattle.fsa_model.specs.Words.{same, word_of, after_word, field_at, number_at, mask_at, text_at, choice_at, onto, written_bytes, string_of, string_at, ended, is_name, most_id, most_place, most_bytes}
 use Rattle.fsa_model.specs.Requests.{can_be_asked, what_of}
-use Rattle.fsa_model.specs.OpenLines.{most_key, disposition_at, is_built_create, create_fields, close_fields}
+use Rattle.fsa_model.specs.OpenLines.{most_key, disposition_at, create_fields, close_fields}
 use Rattle.fsa_model.specs.ByteLines.{read_fields, start_at, write_fields, flush_fields, set_end_fields}
 use Rattle.fsa_model.specs.LockLines.{lock_fields, unlock_fields}
+use Rattle.fsa_model.specs.OplockLines.{level_at, oplock_fields, ack_fields}
+use Rattle.fsa_model.specs.NameLines.{rename_fields, link_fields, set_disposition_fields}
 use Rattle.fsa_model.specs.ClockLines.{tick_fields}
 use Rattle.fsa_model.specs.WaitLines.{cancel_fields, wait_fields}
 use Rattle.fsa_model.specs.InformationLines.{owner_at, ace_of, entry_of, after_entry, ace_onto, aces_of, most_aces, dacl_of, dacl_at, set_security_fields}
@@ -184,9 +187,7 @@ create_fields-fits bytes =
     then-gives Fits (text_at bytes) _ (λ path. then-gives Fits (mask_at path.1) _ (λ wanted. then-gives Fits (mask_at wanted.1) _ (λ share.
     then-gives Fits (disposition_at share.1) _ (λ disposition. then-gives Fits (mask_at disposition.1) _ (λ options. then-gives Fits (mask_at options.1) _ (λ attributes.
     then-gives Fits (number_at most_key attributes.1) _ (λ key.
-    bind-gives Fits Fits (only_if (is_built_create options.0) (Ask (Create path.0 wanted.0 share.0 disposition.0 options.0 attributes.0 key.0))) _
-    (only_if-when Fits (is_built_create options.0) (Ask (Create path.0 wanted.0 share.0 disposition.0 options.0 attributes.0 key.0)) (λ built. (refl, built, refl)))
-    (λ what fits. ended-gives Fits key.1 what fits))))))))
+    ended-gives Fits key.1 (Ask (Create path.0 wanted.0 share.0 disposition.0 options.0 attributes.0 key.0)) (refl, refl, refl))))))))
 
 close_fields-fits : (bytes : List ℕ) → IfRead Fits (close_fields bytes)
 unfolding close_fields
@@ -228,6 +229,38 @@ unfolding unlock_fields
 unlock_fields-fits bytes =
     then-gives Fits (number_at most_id bytes) _ (λ handle. then-gives Fits (number_at most_place handle.1) _ (λ place. then-gives Fits (number_at most_place place.1) _ (λ count.
     ended-gives Fits count.1 (Ask (Unlock handle.0 place.0 count.0)) (refl, refl, refl))))
+
+oplock_fields-fits : (bytes : List ℕ) → IfRead Fits (oplock_fields bytes)
+unfolding oplock_fields
+oplock_fields-fits bytes =
+    then-gives Fits (number_at most_id bytes) _ (λ handle. then-gives Fits (level_at handle.1) _ (λ level.
+    bind-gives Fits Fits (only_if (level_fits level.0) (Ask (Oplock handle.0 level.0))) _
+    (only_if-when Fits (level_fits level.0) (Ask (Oplock handle.0 level.0)) (λ fits. (fits, refl, refl)))
+    (λ what fits. ended-gives Fits level.1 what fits)))
+
+ack_fields-fits : (bytes : List ℕ) → IfRead Fits (ack_fields bytes)
+unfolding ack_fields
+ack_fields-fits bytes =
+    then-gives Fits (number_at most_id bytes) _ (λ handle. then-gives Fits (level_at handle.1) _ (λ level.
+    ended-gives Fits level.1 (Ask (Ack handle.0 level.0)) (refl, refl, refl)))
+
+rename_fields-fits : (bytes : List ℕ) → IfRead Fits (rename_fields bytes)
+unfolding rename_fields
+rename_fields-fits bytes =
+    then-gives Fits (number_at most_id bytes) _ (λ handle. then-gives Fits (text_at handle.1) _ (λ path. then-gives Fits (choice_at (codes "replace") (codes "keep") path.1) _ (λ replace.
+    ended-gives Fits replace.1 (Ask (Rename handle.0 path.0 replace.0)) (refl, refl, refl))))
+
+link_fields-fits : (bytes : List ℕ) → IfRead Fits (link_fields bytes)
+unfolding link_fields
+link_fields-fits bytes =
+    then-gives Fits (number_at most_id bytes) _ (λ handle. then-gives Fits (text_at handle.1) _ (λ path. then-gives Fits (choice_at (codes "replace") (codes "keep") path.1) _ (λ replace.
+    ended-gives Fits replace.1 (Ask (Link handle.0 path.0 replace.0)) (refl, refl, refl))))
+
+set_disposition_fields-fits : (bytes : List ℕ) → IfRead Fits (set_disposition_fields bytes)
+unfolding set_disposition_fields
+set_disposition_fields-fits bytes =
+    then-gives Fits (number_at most_id bytes) _ (λ handle. then-gives Fits (choice_at (codes "yes") (codes "no") handle.1) _ (λ delete.
+    ended-gives Fits delete.1 (Ask (SetDisposition handle.0 delete.0)) (refl, refl, refl)))
 
 tick_fields-fits : (bytes : List ℕ) → IfRead Fits (tick_fields bytes)
 unfolding tick_fields
@@ -299,11 +332,16 @@ what_of-fits verb fields =
     (λ no. if-gives Fits (same verb (codes "setend")) _ _ (λ is. set_end_fields-fits fields)
     (λ no. if-gives Fits (same verb (codes "lock")) _ _ (λ is. lock_fields-fits fields)
     (λ no. if-gives Fits (same verb (codes "unlock")) _ _ (λ is. unlock_fields-fits fields)
+    (λ no. if-gives Fits (same verb (codes "oplock")) _ _ (λ is. oplock_fields-fits fields)
+    (λ no. if-gives Fits (same verb (codes "ack")) _ _ (λ is. ack_fields-fits fields)
+    (λ no. if-gives Fits (same verb (codes "rename")) _ _ (λ is. rename_fields-fits fields)
+    (λ no. if-gives Fits (same verb (codes "link")) _ _ (λ is. link_fields-fits fields)
+    (λ no. if-gives Fits (same verb (codes "setdelete")) _ _ (λ is. set_disposition_fields-fits fields)
     (λ no. if-gives Fits (same verb (codes "setsecurity")) _ _ (λ is. set_security_fields-fits fields)
     (λ no. if-gives Fits (same verb (codes "tick")) _ _ (λ is. tick_fields-fits fields)
     (λ no. if-gives Fits (same verb (codes "cancel")) _ _ (λ is. cancel_fields-fits fields)
     (λ no. if-gives Fits (same verb (codes "wait")) _ _ (λ is. wait_fields-fits fields)
-    (λ no. err-gives Fits _))))))))))))
+    (λ no. err-gives Fits _)))))))))))))))))
 
 -- a line that is a request is within the bounds, and one of a client has a SID
 abbrev LineFits : Line → Type 0

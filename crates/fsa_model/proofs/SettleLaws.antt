@@ -7,7 +7,7 @@ use Rattle.std.proofs.lemmas.List.Folds.{list_any_at}
 use Rattle.fsa_types.specs.Sorting.{put_in_order, in_order}
 use Rattle.fsa_types.specs.declared.request.Call.{Call}
 use Rattle.fsa_types.specs.declared.request.CallId.{CallId}
-use Rattle.fsa_types.specs.declared.request.Request.TheVariants.{Create, Read, Write, SetEnd, Lock, Notify}
+use Rattle.fsa_types.specs.declared.request.Request.TheVariants.{Notify}
 use Rattle.fsa_types.specs.declared.request.What.{What}
 use Rattle.fsa_types.specs.declared.request.What.TheVariants.{Ask, WaitFor}
 use Rattle.fsa_types.specs.declared.reply.Blocker.{Blocker}
@@ -23,10 +23,12 @@ use Rattle.fsa_model.specs.Settle.{Settling, settled, with_tried, starves, held_
 use Rattle.fsa_model.specs.Try.{try_what, try}
 use Rattle.fsa_model.specs.Volume.{Pending, Volume}
 use Rattle.fsa_model.specs.Waiting.{AreLiving, blocker_lives, is_blocked, is_held, has_come, has_due, is_notify_of, is_notify_on, is_first_notify, is_ready, next_ready, is_wait, all_wait, is_asked_before, waits_in_order, with_stalled}
+pub use Rattle.fsa_model.specs.Settling.{is_under, is_held_wrongly, MaySettle, is_free, how_many_free, taken_up_from}
 use Rattle.fsa_model.proofs.CountLaws.{and_left, and_right, and_true, how_many-either, how_many-length, how_many-weaker, how_many-same, how_many-filter, how_many-filter_le, how_many-map, how_many-split, how_many-some, how_many-none, some-how_many, only-one, how_many-in_order}
-use Rattle.fsa_model.proofs.DataWaits.{try_read-tries, try_write-tries, try_set_end-tries, try_lock-tries}
 use Rattle.fsa_model.proofs.OnceLaws.{is_call_of, is_same-refl, fewer-calls_ended, gone-calls_ended, blockers-calls_ended}
-use Rattle.fsa_model.proofs.OpenWaits.{try_create-tries}
+use Rattle.fsa_model.proofs.ObeyLaws.{Obeys}
+pub use Rattle.fsa_model.proofs.ObeyLaws.{may_be_held}
+use Rattle.fsa_model.proofs.TryObeys.{held-obeys, try_request-obeys}
 use Rattle.fsa_model.proofs.RowLaws.{any-same, any-weaker, option_cases, option_map-none, change_at, change_at-number}
 use Rattle.fsa_model.proofs.TryLaws.{Keeps, Leaves, Leaves-same, Leaves-untouched, Tries, TriesTo, Tries-if, Tries-refused, HasOneOplockEach-kept}
 use Rattle.fsa_model.proofs.WaitLaws.{HasOneOplockEach, Found, some_item}
@@ -71,48 +73,15 @@ repeated-enough step I measure next (suc most) (suc other) s holds few few_too =
 
 -- ---- what is asked of the volume
 
--- a request that breaks or locks can hold
-abbrev pub may_be_held : What → Bool
-may_be_held (Ask (Create path wanted share disposition options attributes key)) = true
-may_be_held (Ask (Read handle at count)) = true
-may_be_held (Ask (Write handle at bytes)) = true
-may_be_held (Ask (SetEnd handle length)) = true
-may_be_held (Ask (Lock handle at count exclusive wait)) = true
-may_be_held _ = false
-
-abbrev pub is_under : ℕ → ℕ × Pending → Bool
-is_under turn entry = entry.0 == turn
-
--- a call that is held and can't be
-abbrev pub is_held_wrongly : ℕ × Pending → Bool
-is_held_wrongly entry = is_held entry.1 && not (may_be_held entry.1.call.what)
-
--- a handle has at most one oplock, a turn at most one pending call, and only what can be held is
-pub record MaySettle (v : Volume) : Type 0 where
-  pub oplocks : HasOneOplockEach v
-  pub turns : (turn : ℕ) → how_many (is_under turn) v.pending ≤ 1
-  pub held : how_many is_held_wrongly v.pending ≡ 0
-
 -- a try of such a call ends it or holds it anew, by blockers that live, and ends no blocker
 pub try-tries : (v : Volume) (call : Call) (turn : ℕ) → HasOneOplockEach v → may_be_held call.what ≡ true → Tries Leaves v (try v call turn)
 try-tries v call turn one held = Tries-if (has_left v call.client) _ _ (λ is. Tries-refused v _) (λ no. of_what call.what held)
   where
     of_what : (what : What) → may_be_held what ≡ true → Tries Leaves v (try_what v turn call.client call.number what)
-    of_what (Ask (Create path wanted share disposition options attributes key)) held = try_create-tries v _ one
-    of_what (Ask (Read handle at count)) held = try_read-tries v call.client handle at count one
-    of_what (Ask (Write handle at bytes)) held = try_write-tries v call.client handle at bytes one
-    of_what (Ask (SetEnd handle length)) held = try_set_end-tries v call.client handle length one
-    of_what (Ask (Lock handle at count exclusive wait)) held = try_lock-tries v call.client handle at count exclusive wait one
+    of_what (Ask request) held = Obeys.tries (try_request-obeys v turn call.client call.number request (held-obeys request held)) one
     of_what _ held = cc
 
 -- ---- the ready call of the least turn
-
-abbrev pub is_free : Volume → ℕ × Pending → Bool
-is_free v entry = not (is_blocked (blocker_lives v) entry.1)
-
--- the calls that aren't held by a living blocker
-abbrev pub how_many_free : Volume → ℕ
-how_many_free v = how_many (is_free v) v.pending
 
 -- the call is pending and ready
 pub record IsNext (v : Volume) (entry : ℕ × Pending) : Type 0 where
@@ -576,10 +545,6 @@ pub settled-done : (v : Volume) (starved : List CallId) → MaySettle v → next
 settled-done v starved may = (let done = taken_up_all-done v starved may in with_stalled-done (taken_up_all v starved).volume done.1 done.0)
 
 -- ---- step by step
-
--- the settlement from here on
-abbrev pub taken_up_from : Settling → Settling
-taken_up_from s = repeated settle_step (length s.volume.pending) s
 
 -- for a loop: where there is a step, the settlement goes on from what it leaves; else it is done
 pub taken_up_from-step : (s t : Settling) → MaySettle s.volume → settle_step s ≡ Some t → taken_up_from t ≡ taken_up_from s

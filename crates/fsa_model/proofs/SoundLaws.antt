@@ -27,7 +27,7 @@ is_directory-push files last id file given living =
     list_any-append (λ entry. entry.0 == id && entry.1.directory) files ((last + 1, file) ∷ []) ∙ rw other (or-false (is_directory files id))
 
 -- a handle has its stream where it had, or where its link is still a directory's
-has_its_stream-more : (files files' : List (ℕ × File)) (links links' : List (ℕ × Link)) (handle : Handle)
+pub has_its_stream-more : (files files' : List (ℕ × File)) (links links' : List (ℕ × Link)) (handle : Handle)
     → (list_any (λ l. l.0 == handle.link && is_directory files l.1.file) links ≡ true → list_any (λ l. l.0 == handle.link && is_directory files' l.1.file) links' ≡ true)
     → has_its_stream files links handle ≡ true → has_its_stream files' links' handle ≡ true
 has_its_stream-more files files' links links' handle more has =
@@ -106,7 +106,7 @@ of_stream-more None before after more living = refl
 of_stream-more (Some s) before after more living = more s refl living
 
 -- a handle is of what lives where its link and its stream still do
-is_of_living-more : (links links' : List (ℕ × Link)) (streams streams' : List (ℕ × Stream)) (handle : Handle)
+pub is_of_living-more : (links links' : List (ℕ × Link)) (streams streams' : List (ℕ × Stream)) (handle : Handle)
     → (lives links handle.link ≡ true → lives links' handle.link ≡ true)
     → ((stream : ℕ) → handle.stream ≡ Some stream → is_stream_of_link links streams handle.link stream ≡ true → is_stream_of_link links' streams' handle.link stream ≡ true)
     → is_of_living links streams handle ≡ true → is_of_living links' streams' handle ≡ true
@@ -271,7 +271,7 @@ IsSound-with_handle v handle sound ids_left living its_stream fresh_number clien
     }
 
 -- a row that lives still does where another is taken out
-lives-without : {R : Type 0} (rows : List (ℕ × R)) (id gone : ℕ) → lives rows id ≡ true → (id == gone) ≡ false → lives (without_row rows gone) id ≡ true
+pub lives-without : {R : Type 0} (rows : List (ℕ × R)) (id gone : ℕ) → lives rows id ≡ true → (id == gone) ≡ false → lives (without_row rows gone) id ≡ true
 lives-without rows id gone living other =
     any-filter (λ entry. entry.0 == id) (λ entry. not (entry.0 == gone)) rows (λ entry here. rw (eqb-true entry.0 id here, other) refl) living
 
@@ -560,7 +560,7 @@ IsSound-without_stream v stream sound unopened =
     }
 
 -- from a directory with a child, what leads up still does without a link whose file has no child
-leads_to-without : (steps : ℕ) (links : List (ℕ × Link)) (last link : ℕ) (row : Link) (above dir : ℕ) → IsNumbered links last
+pub leads_to-without : (steps : ℕ) (links : List (ℕ × Link)) (last link : ℕ) (row : Link) (above dir : ℕ) → IsNumbered links last
     → row_of links link ≡ Some row → has_child links row.file ≡ false → has_child links dir ≡ true
     → leads_to steps links above dir ≡ true → leads_to steps (without_row links link) above dir ≡ true
 leads_to-without zero links last link row above dir numbered found empty child leads = leads

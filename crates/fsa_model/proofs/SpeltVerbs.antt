@@ -13,17 +13,23 @@ use Rattle.fsa_types.specs.declared.request.DaclChange.{DaclChange}
 use Rattle.fsa_types.specs.declared.request.DaclChange.TheVariants.{Keep, Remove, Put}
 use Rattle.fsa_types.specs.declared.request.Disposition.{Disposition}
 use Rattle.fsa_types.specs.declared.request.Disposition.TheVariants.{Supersede, OpenExisting, CreateNew, OpenIf, Overwrite, OverwriteIf}
-use Rattle.fsa_types.specs.declared.request.Request.TheVariants.{Create, Close, Read, Write, Flush, SetEnd, Lock, Unlock, SetSecurity, Cancel}
+use Rattle.fsa_types.specs.Request.{level_fits}
+use Rattle.fsa_types.specs.declared.request.Level.{Level}
+use Rattle.fsa_types.specs.declared.request.Level.TheVariants.{Nil, R, RH, RW, RWH}
+use Rattle.fsa_types.specs.declared.request.Request.TheVariants.{Oplock, Ack}
+use Rattle.fsa_types.specs.declared.request.Request.TheVariants.{Create, Close, Read, Write, Flush, SetEnd, Lock, Unlock, SetDisposition, Rename, Link, SetSecurity, Cancel}
 use Rattle.fsa_types.specs.declared.request.What.{What}
 use Rattle.fsa_types.specs.declared.request.What.TheVariants.{Ask, Tick, WaitFor}
 use Rattle.fsa_model.specs.Fault.{Kind, BadSyntax, ◌>>=◌, only_if}
 use Rattle.fsa_model.specs.Numbers.{written_number, spelled}
 use Rattle.fsa_model.specs.Words.{most_id, most_place, same, field_at, number_at, mask_at, mask_of, text_at, choice_of, choice_at, string_at}
-use Rattle.fsa_model.specs.FieldText.{number_text, mask_text, choice_text, string_text}
-use Rattle.fsa_model.specs.OpenLines.{most_key, disposition_of, disposition_at, disposition_text, is_built_create, create_fields, close_fields}
+use Rattle.fsa_model.specs.FieldText.{number_text, mask_text, choice_text, string_text, level_text}
+use Rattle.fsa_model.specs.OpenLines.{most_key, disposition_of, disposition_at, disposition_text, create_fields, close_fields}
 use Rattle.fsa_model.specs.ByteLines.{read_fields, written_place, start_at, start_text, write_fields, flush_fields, set_end_fields}
 use Rattle.fsa_model.specs.LockLines.{lock_fields, unlock_fields}
+use Rattle.fsa_model.specs.OplockLines.{level_of, level_at, oplock_fields, ack_fields}
 use Rattle.fsa_model.specs.InformationLines.{sid_of, owner_at, owner_text, ace_with, ace_of, ace_text, entry_of, after_entry, ace_onto, aces_of, most_aces, dacl_of, dacl_at, dacl_text, is_ace, is_dacl, set_security_fields}
+use Rattle.fsa_model.specs.NameLines.{rename_fields, link_fields, set_disposition_fields}
 use Rattle.fsa_model.specs.ClockLines.{tick_fields}
 use Rattle.fsa_model.specs.WaitLines.{cancel_fields, wait_fields}
 use Rattle.fsa_model.specs.Requests.{what_of}
@@ -244,6 +250,34 @@ disposition_at-back bytes disposition is =
     let pair : (value.0, word.0.1) ≡ disposition = (let e : Ok (value.0, word.0.1) ≡ Ok disposition = value.2 in cc) in
     field_back bytes word.0 word.1 ∙ ap (λ (w : List ℕ). w ++ word.0.1) (disposition_of-back word.0.0 value.0 value.1) ∙ ap (λ (p : Disposition × List ℕ). disposition_text p.0 ++ p.1) pair
 
+-- ---- levels
+
+level_case : (word name : List ℕ) (this level : Level) (other : Result Level Kind) → level_text this ≡ 32 ∷ name
+    → (if same word name then Ok this else other) ≡ Ok level → (other ≡ Ok level → 32 ∷ word ≡ level_text level) → 32 ∷ word ≡ level_text level
+level_case word name this level other text is else_so =
+    elim (if_or (same word name) (Ok this) other level is) [
+      | inl h ↦
+          let made : this ≡ level = (let e : Ok this ≡ Ok level = h.1 in cc) in
+          ap (λ (w : List ℕ). 32 ∷ w) (same-is word name h.0) ∙ sym text ∙ ap level_text made
+      | inr h ↦ else_so h
+    ]
+
+level_of-back : (word : List ℕ) (level : Level) → level_of word ≡ Ok level → 32 ∷ word ≡ level_text level
+level_of-back word level is =
+    level_case word (codes "none") Nil level _ refl is (λ is.
+    level_case word (codes "r") R level _ refl is (λ is.
+    level_case word (codes "rh") RH level _ refl is (λ is.
+    level_case word (codes "rw") RW level _ refl is (λ is.
+    level_case word (codes "rwh") RWH level (Err BadSyntax) refl is (λ is. absurd (let e : Err BadSyntax ≡ Ok level = is in cc))))))
+
+level_at-back : (bytes : List ℕ) (level : Level × List ℕ) → level_at bytes ≡ Ok level → bytes ≡ level_text level.0 ++ level.1
+unfolding level_at
+level_at-back bytes level is =
+    let word = bind_ok (field_at bytes) _ level is in
+    let value = bind_ok (level_of word.0.0) _ level word.2 in
+    let pair : (value.0, word.0.1) ≡ level = (let e : Ok (value.0, word.0.1) ≡ Ok level = value.2 in cc) in
+    field_back bytes word.0 word.1 ∙ ap (λ (w : List ℕ). w ++ word.0.1) (level_of-back word.0.0 value.0 value.1) ∙ ap (λ (p : Level × List ℕ). level_text p.0 ++ p.1) pair
+
 -- ---- words of two, and where a write begins
 
 choice_of-back : (first second word : List ℕ) (choice : Bool) → choice_of first second word ≡ Ok choice → 32 ∷ word ≡ choice_text first second choice
@@ -430,6 +464,102 @@ unlock_back fields what is =
       rw (le-leb handle.0.0 4294967295 first.1, le-leb place.0.0 most_place second.1, le-leb count.0.0 most_place third.1) refl,
     )
 
+oplock_back : (fields : List ℕ) (what : What) → oplock_fields fields ≡ Ok what → ReadsVerb (codes "oplock") what fields
+unfolding oplock_fields
+oplock_back fields what is =
+    let handle = bind_ok (number_at most_id fields) _ what is in
+    let level = bind_ok (level_at handle.0.1) _ what handle.2 in
+    let said = bind_ok (only_if (level_fits level.0.0) (Ask (Oplock handle.0.0 level.0.0))) _ what level.2 in
+    let asked = only_if_ok (level_fits level.0.0) (Ask (Oplock handle.0.0 level.0.0)) said.0 said.1 in
+    let last = ended_ok level.0.1 said.0 what said.2 in
+    let first = number_at-back most_id fields handle.0 handle.1 in
+    let second = level_at-back handle.0.1 level.0 level.1 in
+    subst (λ (w : What). ReadsVerb (codes "oplock") w fields) (asked.1 ∙ last.1) (
+      refl,
+      first.0
+          ∙ ap (λ (rest : List ℕ). number_text handle.0.0 ++ rest) (second
+          ∙ ap (λ (rest : List ℕ). level_text level.0.0 ++ rest) last.0 ∙ append-nil (level_text level.0.0)),
+      rw (le-leb handle.0.0 4294967295 first.1, asked.0) refl,
+    )
+
+ack_back : (fields : List ℕ) (what : What) → ack_fields fields ≡ Ok what → ReadsVerb (codes "ack") what fields
+unfolding ack_fields
+ack_back fields what is =
+    let handle = bind_ok (number_at most_id fields) _ what is in
+    let level = bind_ok (level_at handle.0.1) _ what handle.2 in
+    let last = ended_ok level.0.1 (Ask (Ack handle.0.0 level.0.0)) what level.2 in
+    let first = number_at-back most_id fields handle.0 handle.1 in
+    let second = level_at-back handle.0.1 level.0 level.1 in
+    subst (λ (w : What). ReadsVerb (codes "ack") w fields) last.1 (
+      refl,
+      first.0
+          ∙ ap (λ (rest : List ℕ). number_text handle.0.0 ++ rest) (second
+          ∙ ap (λ (rest : List ℕ). level_text level.0.0 ++ rest) last.0 ∙ append-nil (level_text level.0.0)),
+      le-leb handle.0.0 4294967295 first.1,
+    )
+
+rename_back : (fields : List ℕ) (what : What) → rename_fields fields ≡ Ok what → ReadsVerb (codes "rename") what fields
+unfolding rename_fields
+rename_back fields what is =
+    let handle = bind_ok (number_at most_id fields) _ what is in
+    let path = bind_ok (text_at handle.0.1) _ what handle.2 in
+    let replace = bind_ok (choice_at (codes "replace") (codes "keep") path.0.1) _ what path.2 in
+    let last = ended_ok replace.0.1 (Ask (Rename handle.0.0 path.0.0 replace.0.0)) what replace.2 in
+    let first = number_at-back most_id fields handle.0 handle.1 in
+    let second = text_at-back handle.0.1 path.0 path.1 in
+    let third = choice_at-back (codes "replace") (codes "keep") path.0.1 replace.0 replace.1 in
+    subst (λ (w : What). ReadsVerb (codes "rename") w fields) last.1 (
+      refl,
+      (
+        second.0,
+        second.1.0,
+        first.0
+            ∙ ap (λ (rest : List ℕ). number_text handle.0.0 ++ rest) (second.2
+            ∙ ap (λ (rest : List ℕ). 32 ∷ 61 ∷ (second.0 ++ rest)) (third
+            ∙ ap (λ (rest : List ℕ). choice_text (codes "replace") (codes "keep") replace.0.0 ++ rest) last.0 ∙ append-nil (choice_text (codes "replace") (codes "keep") replace.0.0))),
+      ),
+      rw (le-leb handle.0.0 4294967295 first.1, second.1.1) refl,
+    )
+
+link_back : (fields : List ℕ) (what : What) → link_fields fields ≡ Ok what → ReadsVerb (codes "link") what fields
+unfolding link_fields
+link_back fields what is =
+    let handle = bind_ok (number_at most_id fields) _ what is in
+    let path = bind_ok (text_at handle.0.1) _ what handle.2 in
+    let replace = bind_ok (choice_at (codes "replace") (codes "keep") path.0.1) _ what path.2 in
+    let last = ended_ok replace.0.1 (Ask (Link handle.0.0 path.0.0 replace.0.0)) what replace.2 in
+    let first = number_at-back most_id fields handle.0 handle.1 in
+    let second = text_at-back handle.0.1 path.0 path.1 in
+    let third = choice_at-back (codes "replace") (codes "keep") path.0.1 replace.0 replace.1 in
+    subst (λ (w : What). ReadsVerb (codes "link") w fields) last.1 (
+      refl,
+      (
+        second.0,
+        second.1.0,
+        first.0
+            ∙ ap (λ (rest : List ℕ). number_text handle.0.0 ++ rest) (second.2
+            ∙ ap (λ (rest : List ℕ). 32 ∷ 61 ∷ (second.0 ++ rest)) (third
+            ∙ ap (λ (rest : List ℕ). choice_text (codes "replace") (codes "keep") replace.0.0 ++ rest) last.0 ∙ append-nil (choice_text (codes "replace") (codes "keep") replace.0.0))),
+      ),
+      rw (le-leb handle.0.0 4294967295 first.1, second.1.1) refl,
+    )
+
+set_disposition_back : (fields : List ℕ) (what : What) → set_disposition_fields fields ≡ Ok what → ReadsVerb (codes "setdelete") what fields
+unfolding set_disposition_fields
+set_disposition_back fields what is =
+    let handle = bind_ok (number_at most_id fields) _ what is in
+    let delete = bind_ok (choice_at (codes "yes") (codes "no") handle.0.1) _ what handle.2 in
+    let last = ended_ok delete.0.1 (Ask (SetDisposition handle.0.0 delete.0.0)) what delete.2 in
+    let first = number_at-back most_id fields handle.0 handle.1 in
+    let second = choice_at-back (codes "yes") (codes "no") handle.0.1 delete.0 delete.1 in
+    subst (λ (w : What). ReadsVerb (codes "setdelete") w fields) last.1 (
+      refl,
+      first.0
+          ∙ ap (λ (rest : List ℕ). number_text handle.0.0 ++ rest) (second
+          ∙ ap (λ (rest : List ℕ). choice_text (codes "yes") (codes "no") delete.0.0 ++ rest) last.0 ∙ append-nil (choice_text (codes "yes") (codes "no") delete.0.0)),
+      le-leb handle.0.0 4294967295 first.1,
+    )
+
 cancel_back : (fields : List ℕ) (what : What) → cancel_fields fields ≡ Ok what → ReadsVerb (codes "cancel") what fields
 unfolding cancel_fields
 cancel_back fields what is =
@@ -477,9 +607,7 @@ create_back fields what is =
     let options = bind_ok (mask_at disposition.0.1) _ what disposition.2 in
     let attributes = bind_ok (mask_at options.0.1) _ what options.2 in
     let key = bind_ok (number_at most_key attributes.0.1) _ what attributes.2 in
-    let said = bind_ok (only_if (is_built_create options.0.0) (Ask (Create path.0.0 wanted.0.0 share.0.0 disposition.0.0 options.0.0 attributes.0.0 key.0.0))) _ what key.2 in
-    let built = only_if_ok (is_built_create options.0.0) (Ask (Create path.0.0 wanted.0.0 share.0.0 disposition.0.0 options.0.0 attributes.0.0 key.0.0)) said.0 said.1 in
-    let last = ended_ok key.0.1 said.0 what said.2 in
+    let last = ended_ok key.0.1 (Ask (Create path.0.0 wanted.0.0 share.0.0 disposition.0.0 options.0.0 attributes.0.0 key.0.0)) what key.2 in
     let b1 = text_at-back fields path.0 path.1 in
     let b2 = mask_at-back path.0.1 wanted.0 wanted.1 in
     let b3 = mask_at-back wanted.0.1 share.0 share.1 in
@@ -487,7 +615,7 @@ create_back fields what is =
     let b5 = mask_at-back disposition.0.1 options.0 options.1 in
     let b6 = mask_at-back options.0.1 attributes.0 attributes.1 in
     let b7 = number_at-back most_key attributes.0.1 key.0 key.1 in
-    subst (λ (w : What). ReadsVerb (codes "create") w fields) (built.1 ∙ last.1) (
+    subst (λ (w : What). ReadsVerb (codes "create") w fields) last.1 (
       refl,
       (
         b1.0,
@@ -501,7 +629,7 @@ create_back fields what is =
             ∙ ap (λ (rest : List ℕ). mask_text attributes.0.0 ++ rest) (b7.0
             ∙ ap (λ (rest : List ℕ). number_text key.0.0 ++ rest) last.0 ∙ append-nil (number_text key.0.0))))))),
       ),
-      rw (b1.1.1, le-leb wanted.0.0 4294967295 b2.1, le-leb share.0.0 4294967295 b3.1, le-leb options.0.0 4294967295 b5.1, le-leb attributes.0.0 4294967295 b6.1, le-leb key.0.0 most_key b7.1, built.0) refl,
+      rw (b1.1.1, le-leb wanted.0.0 4294967295 b2.1, le-leb share.0.0 4294967295 b3.1, le-leb options.0.0 4294967295 b5.1, le-leb attributes.0.0 4294967295 b6.1, le-leb key.0.0 most_key b7.1) refl,
     )
 
 -- ---- the verbs
@@ -529,7 +657,12 @@ what_of-back word fields what is =
     verb_case word (codes "setend") fields (set_end_fields fields) _ what is (set_end_back fields what) (λ is.
     verb_case word (codes "lock") fields (lock_fields fields) _ what is (lock_back fields what) (λ is.
     verb_case word (codes "unlock") fields (unlock_fields fields) _ what is (unlock_back fields what) (λ is.
+    verb_case word (codes "oplock") fields (oplock_fields fields) _ what is (oplock_back fields what) (λ is.
+    verb_case word (codes "ack") fields (ack_fields fields) _ what is (ack_back fields what) (λ is.
+    verb_case word (codes "rename") fields (rename_fields fields) _ what is (rename_back fields what) (λ is.
+    verb_case word (codes "link") fields (link_fields fields) _ what is (link_back fields what) (λ is.
+    verb_case word (codes "setdelete") fields (set_disposition_fields fields) _ what is (set_disposition_back fields what) (λ is.
     verb_case word (codes "setsecurity") fields (set_security_fields fields) _ what is (set_security_back fields what) (λ is.
     verb_case word (codes "tick") fields (tick_fields fields) _ what is (tick_back fields what) (λ is.
     verb_case word (codes "cancel") fields (cancel_fields fields) _ what is (cancel_back fields what) (λ is.
-    verb_case word (codes "wait") fields (wait_fields fields) (Err BadSyntax) what is (wait_back fields what) (λ is. absurd (let e : Err BadSyntax ≡ Ok what = is in cc)))))))))))))
+    verb_case word (codes "wait") fields (wait_fields fields) (Err BadSyntax) what is (wait_back fields what) (λ is. absurd (let e : Err BadSyntax ≡ Ok what = is in cc))))))))))))))))))

@@ -1,6 +1,6 @@
 -- Which held calls are taken up in a settlement: just those that no living blocker holds when it begins, once
 -- each. And no call gets lost or ends twice in it.
-use Rattle.std.proofs.Common.{◌*◌, ◌≡◌, ℕ, ◌+◌, ◌<◌, ◌≤◌, Bool, true, false, cond, not, List, [], ◌∷◌, ◌++◌, length, get_or, refl, ap, sym, subst, ◌∙◌, arith, inl, inr, ◌⊎◌, Some, None}
+use Rattle.std.proofs.Common.{◌≡◌, ℕ, ◌+◌, ◌<◌, ◌≤◌, Bool, true, false, cond, not, List, [], ◌∷◌, ◌++◌, length, get_or, refl, ap, sym, subst, ◌∙◌, arith, inl, inr, ◌⊎◌, Some, None}
 use Rattle.std.specs.List.{list_any, All, AllPairs}
 use Rattle.std.proofs.lemmas.List.Quantifiers.{all_pairs_push}
 use Rattle.std.proofs.lemmas.List.Elements.{All-push}
@@ -18,45 +18,19 @@ use Rattle.fsa_model.specs.Settle.{Settling, with_tried, starves, held_taken_up,
 use Rattle.fsa_model.specs.Try.{try}
 use Rattle.fsa_model.specs.Volume.{Pending, Volume}
 use Rattle.fsa_model.specs.Waiting.{AreLiving, blocker_lives, is_held, is_ready, next_ready, is_granted_under}
+pub use Rattle.fsa_model.specs.Settling.{is_ungiven, HasGiven, is_let_go, let_go, GivesAtMost, GoesOn, MayTakeUp}
 use Rattle.fsa_model.proofs.CountLaws.{and_left, and_right, how_many-append, how_many-weaker, how_many-same, how_many-filter, how_many-filter_le, how_many-map, how_many-split, how_many-some, how_many-none, some-how_many, only-one, how_many-length}
 use Rattle.fsa_model.proofs.OnceLaws.{Extends, Extends-length, Extends-same, Extends-next, is_call_of, is_same-refl, IsOnce-kept}
 use Rattle.fsa_model.proofs.RowLaws.{option_cases, option_map-none, change_at, change_at-number}
 use Rattle.fsa_model.proofs.SettleLaws.{MaySettle, IsNext, is_under, is_free, how_many_free, next_ready-is, ready-free, next-may_be_held, try-tries, MaySettle-kept, Steps, Steps-settle_step, repeated-ends, some_equal, none-ready}
-use Rattle.fsa_model.proofs.WaitLaws.{unbroken, HasOneOplockEach, HasOneBreakEach}
+use Rattle.fsa_model.proofs.WaitLaws.{unbroken}
 use Rattle.fsa_model.proofs.TryLaws.{SameNumbers, SameNumbers-same, FewNumbers, FewNumbers-same, Keeps, Keeps-next, Keeps-ends, Leaves, Leaves-same, Tries, TriesTo, is_given, GrantsNoneHeld, GrantsNoneHeld-kept, HasOneOplockEach-kept, held-ends, swapped, Watches, Watches-equal, Watches-next, Leaves-untouched, Untouched}
 use Rattle.fsa_model.proofs.WatchLaws.{comes_over}
 
 -- ---- what is asked of the volume
 
--- some blocker of the call has a number that isn't given
-abbrev pub is_ungiven : Volume → ℕ × Pending → Bool
-is_ungiven v entry = list_any (λ b. not (is_given v b)) entry.1.blockers
-
--- what lives, and what is waited for, has a number that was given
-pub record HasGiven (v : Volume) : Type 0 where
-  pub living : (b : Blocker) → blocker_lives v b ≡ true → is_given v b ≡ true
-  pub blockers : how_many (is_ungiven v) v.pending ≡ 0
-  -- a handle has at most one oplock, and each break in progress its own number
-  pub oplocks : HasOneOplockEach v
-  pub ones : HasOneBreakEach v
-
--- how many held calls are pending under this turn that no living blocker holds
-abbrev pub is_let_go : ℕ → Volume → ℕ × Pending → Bool
-is_let_go turn v entry = is_under turn entry && (is_held entry.1 && is_free v entry)
-
-abbrev pub let_go : ℕ → Volume → ℕ
-let_go turn v = how_many (is_let_go turn v) v.pending
-
 abbrev pub one_if : Bool → ℕ
 one_if test = cond test 1 0
-
--- at most so many numbers of each kind have been given, and twice as many of streams
-pub record GivesAtMost (v : Volume) (most : ℕ) : Type 0 where
-  pub files : v.last_file ≤ most
-  pub links : v.last_link ≤ most
-  pub streams : v.last_stream ≤ most * 2
-  pub handles : v.last_handle ≤ most
-  pub locks : v.last_lock ≤ most
 
 -- where no number is given, and no end is taken away
 pub GivesAtMost-same : (v w : Volume) (more : ℕ) → SameNumbers v w → Extends v.ended w.ended → GivesAtMost v (length v.ended + more) → GivesAtMost w (length w.ended + more)
@@ -229,28 +203,6 @@ let_go-holds turn at v blockers one some live =
     ]
 
 -- ---- one step
-
--- how far a settlement that began with this volume has come
-pub record GoesOn (v : Volume) (s : Settling) : Type 0 where
-  pub may : MaySettle s.volume
-  pub once : IsOnce s.volume
-  pub none_held : GrantsNoneHeld s.volume
-  pub given : HasGiven s.volume
-  -- each call is as often there as at the beginning
-  pub times : (client number : ℕ) → times client number s.volume ≡ times client number v
-  pub made : made s.volume ≡ made v
-  -- no call is pending under another turn, and no oplock is granted
-  pub under : (test : ℕ → Bool) → how_many (λ e. test e.0) s.volume.pending ≤ how_many (λ e. test e.0) v.pending
-  pub granted : (turn : ℕ) → how_many (is_granted_under turn) s.volume.oplocks ≤ how_many (is_granted_under turn) v.oplocks
-  pub ended : Extends v.ended s.volume.ended
-  pub seen : Watches v s.volume
-  pub gives : (more : ℕ) → GivesAtMost v (length v.ended + more) → GivesAtMost s.volume (length s.volume.ended + more)
-  pub breaks : s.volume.last_break + unbroken s.volume ≤ v.last_break + unbroken v
-  -- the held calls that no living blocker held then were taken up once, or are still to be
-  pub taken : (turn : ℕ) → how_many (λ t. t == turn) s.taken + let_go turn s.volume ≡ let_go turn v
-  -- in order of turns
-  pub in_order : AllPairs (λ a b. a < b) s.taken
-  pub below : (turn : ℕ) → 1 ≤ let_go turn s.volume → All (λ t. t < turn) s.taken
 
 -- what one step does to the volume, where the held call under a turn is taken up, or none is
 record Goes (turns : List ℕ) (v w : Volume) : Type 0 where
@@ -555,13 +507,6 @@ GoesOn-settle_step v s t on step = (
 )
 
 -- ---- the settlement
-
--- what a settlement asks of the volume that it begins with
-pub record MayTakeUp (v : Volume) : Type 0 where
-  pub may : MaySettle v
-  pub once : IsOnce v
-  pub none_held : GrantsNoneHeld v
-  pub given : HasGiven v
 
 pub GoesOn-begins : (v : Volume) (starved : List CallId) → MayTakeUp v → GoesOn v (record { volume = v; starved = starved; taken = [] })
 GoesOn-begins v starved may = record {

@@ -1,7 +1,8 @@
--- A try of any call stays within its frame: closes, leavings, owners and access lists, cancellations, waits
+-- A try of any call stays within its frame: closes, leavings, unlocks, cancellations, waits
 -- and the clock, and then all calls.
 use Rattle.std.proofs.Common.{◌≡◌, ℕ, Bool, true, not, List, [], ◌∷◌, get_or, refl, arith, inl, inr, Option, Some, None}
 use Rattle.std.specs.List.{filter, find, list_any, All}
+use Rattle.std.specs.Option.{option_map_or}
 use Rattle.std.specs.Prelude.{◌==◌, nat_lt, IsTrue}
 use Rattle.std.proofs.lemmas.Bool.{cases_Bool}
 use Rattle.std.proofs.lemmas.List.Elements.{All-head, All-tail, All-cons, All-filter}
@@ -10,30 +11,28 @@ use Rattle.fsa_types.specs.Rows.{row_of, without_row}
 use Rattle.fsa_types.specs.Sorting.{put_in_order, in_order}
 use Rattle.fsa_types.specs.declared.reply.Body.TheVariants.{Nothing}
 use Rattle.fsa_types.specs.declared.request.Call.{Call}
-use Rattle.fsa_types.specs.declared.request.DaclChange.{DaclChange}
-use Rattle.fsa_types.specs.declared.request.DaclChange.TheVariants.{Keep, Remove, Put}
 use Rattle.fsa_types.specs.declared.request.Request.{Request}
-use Rattle.fsa_types.specs.declared.request.Request.TheVariants.{Create, Close, Read, Write, Flush, SetEnd, Lock, Unlock, Oplock as OplockOf, Ack, SetSecurity, Notify, Cancel}
+use Rattle.fsa_types.specs.declared.request.Request.TheVariants.{Close, Unlock, Oplock as OplockOf, Ack, Notify, Cancel}
 use Rattle.fsa_types.specs.declared.request.What.{What}
 use Rattle.fsa_types.specs.declared.request.What.TheVariants.{Ask, Tick, WaitFor, Leave}
 use Rattle.fsa_types.specs.declared.status.Status.{Status}
-use Rattle.fsa_types.specs.declared.status.Status.TheVariants.{Success, InvalidHandle, InvalidParameter, InvalidDeviceRequest, AccessDenied, QuotaExceeded, Cancelled}
+use Rattle.fsa_types.specs.declared.status.Status.TheVariants.{Success, InvalidHandle, InvalidParameter, RangeNotLocked, Cancelled}
 use Rattle.fsa_model.specs.Close.{is_call_on, closed_status, is_left_behind, pending_by_turn, with_calls_ended, named_stream, is_link_of_parent, with_mark_on_close, is_stream_over, with_stream_swept, is_link_over, name_bit, with_link_swept, with_swept, with_closed, close_at, try_close, handles_of_client, with_all_closed, with_client_gone, try_leave}
-use Rattle.fsa_model.specs.Edits.{with_end, with_left, with_stream_marked, with_ticks, without_file_unless_linked, without_handle, without_link, is_call}
+use Rattle.fsa_model.specs.Edits.{is_lock_on, with_end, with_left, with_stream_marked, with_ticks, without_lock, without_file_unless_linked, without_handle, without_link, is_call}
 use Rattle.fsa_model.specs.Frame.{PointsFit, KeepsFrame, InFrame}
-use Rattle.fsa_model.specs.Lookups.{file_of_link, handle_of, has_left, has_row, number_of}
+use Rattle.fsa_model.specs.Locking.{unlock_range, unlock_by, unlock_at, try_unlock}
+use Rattle.fsa_model.specs.Lookups.{handle_of, has_left, has_row, number_of}
 use Rattle.fsa_model.specs.Outcome.{ends_with}
-use Rattle.fsa_model.specs.Security.{asks_something, lacks_right, is_foreign, passes_limit, mapped, with_owner_asked, with_dacl_asked, with_change_time, with_security, set_security_of, set_security_by, set_security_at, try_set_security}
 use Rattle.fsa_model.specs.Try.{try_request, try_what, try}
-use Rattle.fsa_model.specs.Volume.{Handle, Link, Pending, Volume}
+use Rattle.fsa_model.specs.Volume.{Handle, Link, Lock, Pending, Volume}
 use Rattle.fsa_model.specs.Waiting.{has_ended, is_pending, try_wait, with_oplock_given_up, with_cancelled, try_cancel}
-use Rattle.fsa_model.proofs.FrameData.{try_read-frame, try_write-frame, try_flush-frame, try_set_end-frame, try_lock-frame, try_unlock-frame}
-use Rattle.fsa_model.proofs.FrameLaws.{AddsNothing, AddsNothing-same, AddsNothing-next, AddsNothing-alike, AddsNothing-fewer, AddsNothing-without_file, AddsNothing-file, AddsNothing-end, AddsNothing-if, AddsNothing-option, AddsNothing-noted, AddsNothing-basic, EndsPending-equal, KeepsFrame-adds_nothing, KeepsFrame-after, InFrame-refused, InFrame-ends, InFrame-if, InFrame-option}
+use Rattle.fsa_model.proofs.FrameLaws.{AddsNothing, AddsNothing-same, AddsNothing-next, AddsNothing-alike, AddsNothing-fewer, AddsNothing-without_file, AddsNothing-end, AddsNothing-if, AddsNothing-option, AddsNothing-noted, EndsPending-equal, KeepsFrame-adds_nothing, KeepsFrame-after, InFrame-refused, InFrame-ends, InFrame-if, InFrame-option}
 use Rattle.fsa_model.proofs.FrameOplocks.{try_oplock-frame, try_ack-frame}
-use Rattle.fsa_model.proofs.FrameOpens.{try_create-frame}
 use Rattle.fsa_model.proofs.FrameWatches.{try_notify-frame}
+use Rattle.fsa_model.proofs.ObeyLaws.{Obeys}
 use Rattle.fsa_model.proofs.OnceLaws.{is_same-refl}
 use Rattle.fsa_model.proofs.RowLaws.{option_cases, find-any}
+use Rattle.fsa_model.proofs.TryObeys.{asks, has_own_laws, try_request-obeys}
 use Rattle.fsa_model.proofs.WaitLaws.{find-passes}
 
 -- ---- closes, and clients that leave
@@ -158,49 +157,46 @@ try_leave-frame v client number =
     (KeepsFrame-after (AddsNothing-next (AddsNothing-calls_ended (λ _. Cancelled) (is_left_behind client) v) (AddsNothing-all_closed (handles_of_client v client) ended))
     (KeepsFrame-left closed client number)) refl
 
--- ---- owners and access lists
+-- ---- unlocks
 
-AddsNothing-owner_asked : (v : Volume) (file : ℕ) (owner : Option ℕ) → AddsNothing v (with_owner_asked v file owner)
-AddsNothing-owner_asked v file None = AddsNothing-same v
-AddsNothing-owner_asked v file (Some sid) = AddsNothing-file v (λ row. record row { owner = sid }) file (λ row. refl)
+without_lock-found : (v : Volume) (found : Option ℕ) → AddsNothing v (record v { locks = option_map_or (λ (number : ℕ). without_row v.locks number) found v.locks })
+without_lock-found v None = AddsNothing-same v
+without_lock-found v (Some number) = record {
+  table = refl;
+  clients = refl;
+  left = refl;
+  clock = refl;
+  handles = λ test all. all;
+  locks = λ test all. All-filter (λ (entry : ℕ × Lock). not (entry.0 == number)) (λ entry. IsTrue (test entry)) v.locks all;
+  last_file = refl;
+  last_link = refl;
+  last_stream = refl;
+  last_handle = refl;
+  last_lock = refl;
+  pending = λ client number is. is;
+  ended = EndsPending-equal refl;
+  points = λ fit. fit;
+}
 
-AddsNothing-dacl_asked : (v : Volume) (file : ℕ) (dacl : DaclChange) → AddsNothing v (with_dacl_asked v file dacl)
-AddsNothing-dacl_asked v file Keep = AddsNothing-same v
-AddsNothing-dacl_asked v file Remove = AddsNothing-file v (λ row. record row { dacl = None }) file (λ row. refl)
-AddsNothing-dacl_asked v file (Put dacl) = AddsNothing-file v (λ row. record row { dacl = Some (mapped dacl.items) }) file (λ row. refl)
+unlock_range-frame : (call : Call) (v : Volume) (id at count : ℕ) → InFrame call v (unlock_range v id at count)
+unfolding unlock_range
+unlock_range-frame call v id at count =
+    InFrame-option (number_of (is_lock_on id at count) v.locks) (λ _. ends_with (without_lock v id at count) Success) _
+    (λ number found. InFrame-ends call v (without_lock v id at count) Success (KeepsFrame-adds_nothing (without_lock-found v (number_of (is_lock_on id at count) v.locks))) refl) (InFrame-refused call v RangeNotLocked)
 
-AddsNothing-security : (v : Volume) (link file : ℕ) (owner : Option ℕ) (dacl : DaclChange) → AddsNothing v (with_security v link file owner dacl)
-AddsNothing-security v link file owner dacl =
-    let own : Volume = with_owner_asked v file owner in
-    let listed : Volume = with_dacl_asked own file dacl in
-    let timed : Volume = with_change_time listed file in
-    AddsNothing-next (AddsNothing-owner_asked v file owner) (AddsNothing-next (AddsNothing-dacl_asked own file dacl)
-    (AddsNothing-next (AddsNothing-basic listed file _ _ _ _ _)
-    (AddsNothing-if (asks_something owner dacl) _ timed (AddsNothing-noted timed link 3 0x100 None) (AddsNothing-same timed))))
+unlock_by-frame : (call : Call) (v : Volume) (id : ℕ) (handle : Handle) (at count : ℕ) → InFrame call v (unlock_by v id handle at count)
+unfolding unlock_by
+unlock_by-frame call v id handle at count = InFrame-option handle.stream (λ _. unlock_range v id at count) _ (λ stream is. unlock_range-frame call v id at count) (InFrame-refused call v InvalidParameter)
 
-set_security_of-frame : (call : Call) (v : Volume) (client link file : ℕ) (owner : Option ℕ) (dacl : DaclChange) → InFrame call v (set_security_of v client link file owner dacl)
-unfolding set_security_of
-set_security_of-frame call v client link file owner dacl =
-    InFrame-if (is_foreign v client owner) _ _ (λ is. InFrame-refused call v AccessDenied)
-    (λ no. InFrame-if (passes_limit v file owner) _ _ (λ is. InFrame-refused call v QuotaExceeded)
-    (λ no. InFrame-ends call v _ Success (KeepsFrame-adds_nothing (AddsNothing-security v link file owner dacl)) refl))
+unlock_at-frame : (call : Call) (v : Volume) (id at count : ℕ) → InFrame call v (unlock_at v id at count)
+unfolding unlock_at
+unlock_at-frame call v id at count =
+    InFrame-option (row_of v.handles id) (λ handle. unlock_by v id handle at count) _ (λ handle found. unlock_by-frame call v id handle at count) (InFrame-refused call v InvalidHandle)
 
-set_security_by-frame : (call : Call) (v : Volume) (client : ℕ) (handle : Handle) (owner : Option ℕ) (dacl : DaclChange) → InFrame call v (set_security_by v client handle owner dacl)
-unfolding set_security_by
-set_security_by-frame call v client handle owner dacl =
-    InFrame-if (lacks_right handle.access owner dacl) _ _ (λ is. InFrame-refused call v AccessDenied)
-    (λ no. InFrame-option (file_of_link v.links handle.link) (λ file. set_security_of v client handle.link file owner dacl) _
-    (λ file found. set_security_of-frame call v client handle.link file owner dacl) (InFrame-refused call v InvalidHandle))
-
-set_security_at-frame : (call : Call) (v : Volume) (client id : ℕ) (owner : Option ℕ) (dacl : DaclChange) → InFrame call v (set_security_at v client id owner dacl)
-unfolding set_security_at
-set_security_at-frame call v client id owner dacl =
-    InFrame-option (row_of v.handles id) (λ handle. set_security_by v client handle owner dacl) _ (λ handle found. set_security_by-frame call v client handle owner dacl) (InFrame-refused call v InvalidHandle)
-
-pub try_set_security-frame : (call : Call) (v : Volume) (client handle : ℕ) (owner : Option ℕ) (dacl : DaclChange) → InFrame call v (try_set_security v client handle owner dacl)
-unfolding try_set_security
-try_set_security-frame call v client handle owner dacl =
-    InFrame-option (handle_of v client handle) (λ id. set_security_at v client id owner dacl) _ (λ id found. set_security_at-frame call v client id owner dacl) (InFrame-refused call v InvalidHandle)
+pub try_unlock-frame : (call : Call) (v : Volume) (client handle at count : ℕ) → InFrame call v (try_unlock v client handle at count)
+unfolding try_unlock
+try_unlock-frame call v client handle at count =
+    InFrame-option (handle_of v client handle) (λ id. unlock_at v id at count) _ (λ id found. unlock_at-frame call v id at count) (InFrame-refused call v InvalidHandle)
 
 -- ---- waits, cancellations and the clock
 
@@ -253,21 +249,20 @@ KeepsFrame-ticks v client number ticks = record {
 
 -- ---- any call
 
-try_request-frame : (v : Volume) (turn client number : ℕ) (request : Request) → PointsFit v → InFrame (record { client = client; number = number; what = Ask request }) v (try_request v turn client number request)
-try_request-frame v turn client number (Create path wanted share disposition options attributes key) fit = try_create-frame v _ fit
-try_request-frame v turn client number (Close handle) fit = try_close-frame _ v client handle
-try_request-frame v turn client number (Read handle at count) fit = try_read-frame v client number handle at count
-try_request-frame v turn client number (Write handle at bytes) fit = try_write-frame _ v client handle at bytes (λ u w so. so)
-try_request-frame v turn client number (Flush handle) fit = try_flush-frame _ v client handle
-try_request-frame v turn client number (SetEnd handle length) fit = try_set_end-frame _ v client handle length (λ u w so. so)
-try_request-frame v turn client number (Lock handle at count exclusive wait) fit = try_lock-frame _ v client handle at count exclusive wait (λ u w so. so) refl
-try_request-frame v turn client number (Unlock handle at count) fit = try_unlock-frame _ v client handle at count
-try_request-frame v turn client number (OplockOf handle level) fit = try_oplock-frame v client number handle level turn
-try_request-frame v turn client number (Ack handle level) fit = try_ack-frame v client number handle level turn
-try_request-frame v turn client number (SetSecurity handle owner dacl) fit = try_set_security-frame _ v client handle owner dacl
-try_request-frame v turn client number (Notify handle filter whole room) fit = try_notify-frame v client number handle filter whole room
-try_request-frame v turn client number (Cancel cancelled) fit = try_cancel-frame _ v client cancelled
-try_request-frame v turn client number _ fit = InFrame-refused _ v InvalidDeviceRequest
+try_own-frame : (v : Volume) (turn client number : ℕ) (request : Request) → has_own_laws request ≡ true → InFrame (asks client number (Ask request)) v (try_request v turn client number request)
+try_own-frame v turn client number (Close handle) own = try_close-frame _ v client handle
+try_own-frame v turn client number (Unlock handle at count) own = try_unlock-frame _ v client handle at count
+try_own-frame v turn client number (OplockOf handle level) own = try_oplock-frame v client number handle level turn
+try_own-frame v turn client number (Ack handle level) own = try_ack-frame v client number handle level turn
+try_own-frame v turn client number (Notify handle filter whole room) own = try_notify-frame v client number handle filter whole room
+try_own-frame v turn client number (Cancel cancelled) own = try_cancel-frame _ v client cancelled
+try_own-frame v turn client number _ own = cc
+
+try_request-frame : (v : Volume) (turn client number : ℕ) (request : Request) → PointsFit v → InFrame (asks client number (Ask request)) v (try_request v turn client number request)
+try_request-frame v turn client number request fit = elim (cases_Bool (has_own_laws request)) [
+  | inl own ↦ try_own-frame v turn client number request own
+  | inr none ↦ Obeys.frame (try_request-obeys v turn client number request none) fit
+]
 
 try_what-frame : (v : Volume) (turn client number : ℕ) (what : What) → PointsFit v → InFrame (record { client = client; number = number; what = what }) v (try_what v turn client number what)
 try_what-frame v turn client number (Ask request) fit = try_request-frame v turn client number request fit

@@ -2,7 +2,7 @@
 use Rattle.std.proofs.Common.{◌≡◌, ℕ, ◌+◌, ◌≤◌, Bool, true, false, not, List, [], ◌∷◌, length, refl, ap, sym, ◌∙◌, arith, inl, inr, ◌⊎◌, Option, Some, None}
 use Rattle.std.specs.List.{filter, find, list_any}
 use Rattle.std.specs.Option.{option_map_or}
-use Rattle.std.specs.Prelude.{◌==◌, ◌&&◌, nat_le, map, is_some, if◌then◌else◌, ◌++◌, nat_lt}
+use Rattle.std.specs.Prelude.{◌==◌, ◌&&◌, map, is_some, if◌then◌else◌, ◌++◌, nat_lt}
 use Rattle.std.proofs.lemmas.Bool.{cases_Bool, eq-eqb, eqb-true, leb-true, le-leb, lt-leb, ltb-true, lt-ltb}
 use Rattle.std.proofs.lemmas.List.{length-map, length-append, append-nil, append_assoc}
 use Rattle.fsa_types.specs.Rows.{row_of}
@@ -24,10 +24,11 @@ use Rattle.fsa_model.specs.Changes.{seen_from, stream_suffix, with_change_noted}
 use Rattle.fsa_model.specs.Edits.{is_call, with_end, without_oplock}
 use Rattle.fsa_model.specs.Once.{how_many, times, made, IsOnce}
 use Rattle.fsa_model.specs.Outcome.{Outcome, Done, Stay, Hold, refused}
-use Rattle.fsa_model.specs.Volume.{Oplock, Pending, Volume, Change, Watch}
+use Rattle.fsa_model.specs.Volume.{Oplock, Pending, Volume, Change}
 use Rattle.fsa_model.specs.Waiting.{blocker_lives, is_breaking, is_granted_under, is_held}
 pub use Rattle.fsa_model.specs.Waiting.{AreLiving}
 use Rattle.fsa_model.specs.Waits.{waits_for, held_by}
+pub use Rattle.fsa_model.specs.Settling.{Watches, is_given, GrantsNoneHeld}
 use Rattle.fsa_model.proofs.BreakLaws.{broken, told-oplocks, with_breaks-rest}
 use Rattle.fsa_model.proofs.CountLaws.{and_left, and_right, how_many-filter, how_many-filter_le, how_many-in_order, how_many-none, how_many-split, how_many-weaker, only-one, how_many-map, how_many-same, how_many-some, some-how_many, and_true}
 use Rattle.fsa_model.proofs.OnceLaws.{Extends, Extends-same, Extends-next, Extends-equal, is_call_of, times-pending_ends, made-with_end, IsOnce-kept, is_same-refl}
@@ -36,12 +37,6 @@ use Rattle.fsa_model.proofs.RowLaws.{option_cases, find-any}
 use Rattle.fsa_model.proofs.WaitLaws.{is_of, lacks_break, lowered, begun, goes_on_badly, done_to, new-effect, last-effect, badly-rest, chosen-well, or_none, IsNew, HasOneBreakEach, HasOneOplockEach, with_breaks-lives, with_breaks-spends, unbroken, with_breaks-new, with_breaks-last, awaited-live, find-passes}
 
 -- ---- what one volume keeps of another
-
--- changes were only added, and a watch that goes back before them stood there as it is
-pub record Watches (v w : Volume) : Type 0 where
-  pub more : List Change
-  pub changes : w.changes ≡ v.changes ++ more
-  pub watches : (test : Watch → Bool) → how_many (λ watch. test watch && nat_lt watch.from (length v.changes)) w.watches ≤ how_many test v.watches
 
 pub Watches-noted : (v w : Volume) (more : List Change) → w.changes ≡ v.changes ++ more → w.watches ≡ v.watches → Watches v w
 Watches-noted v w more changes watches = record {
@@ -77,15 +72,6 @@ pub record Keeps (v w : Volume) : Type 0 where
   pub made : IsOnce v → made w ≡ made v
   pub ended : Extends v.ended w.ended
   pub seen : Watches v w
-
--- the blocker's number has been given
-abbrev pub is_given : Volume → Blocker → Bool
-is_given v (blocker.Break number) = nat_le number v.last_break
-is_given v (blocker.Lock number) = nat_le number v.last_lock
-
--- a call that an oplock is granted to isn't held
-abbrev pub GrantsNoneHeld : Volume → Type 0
-GrantsNoneHeld v = (turn : ℕ) → 1 ≤ how_many (is_granted_under turn) v.oplocks → how_many (λ entry. entry.0 == turn && is_held entry.1) v.pending ≡ 0
 
 -- each break in progress still has its own number, where each living blocker's number has been given
 abbrev pub KeepsOnes : Volume → Volume → Type 0

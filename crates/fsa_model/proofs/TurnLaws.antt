@@ -9,7 +9,7 @@ use Rattle.std.proofs.lemmas.List.Folds.{list_any_none}
 use Rattle.fsa_types.specs.declared.request.Call.{Call}
 use Rattle.fsa_types.specs.declared.request.CallId.{CallId}
 use Rattle.fsa_types.specs.declared.request.Request.{Request}
-use Rattle.fsa_types.specs.declared.request.Request.TheVariants.{Create, Close, Read, Write, Flush, SetEnd, Lock, Unlock, Oplock, Ack, SetSecurity, Cancel, Notify}
+use Rattle.fsa_types.specs.declared.request.Request.TheVariants.{Close, Unlock, Oplock, Ack, Cancel, Notify}
 use Rattle.fsa_types.specs.declared.request.Level.{Level}
 use Rattle.fsa_types.specs.declared.request.What.{What}
 use Rattle.fsa_types.specs.declared.request.What.TheVariants.{Ask, Tick, WaitFor, Leave}
@@ -28,14 +28,16 @@ use Rattle.fsa_model.specs.Try.{try_request, try_what, try}
 use Rattle.fsa_model.specs.Turn.{Turned, turn_number, answered, ends_between, settlement, turned, turn, volume_after}
 use Rattle.fsa_model.specs.Volume.{Pending, Volume}
 use Rattle.fsa_model.specs.Waiting.{AreLiving, is_held, is_granted_under, is_wait, next_ready, all_wait, is_asked_before, waits_in_order, with_stalled}
+pub use Rattle.fsa_model.specs.Settling.{MayTurn}
 use Rattle.fsa_model.proofs.CountLaws.{and_left, how_many-append, how_many-weaker, how_many-filter_le, how_many-in_order}
 use Rattle.fsa_model.proofs.GrantLaws.{StaysUnder, StaysUnder-kept, GrantsTo, Grants, Grants-refused, try_oplock-grants, try_ack-grants, Answers, Answers-refused, try_ack-ends, EndsNone, EndsNone-refused, try_oplock-ends}
-use Rattle.fsa_model.proofs.KeepLaws.{KeepsAll, KeepsAll-same, KeptTo, Kept, Kept-if, Kept-refused, KeepsAll-calls_ended, try_close-kept, try_leave-kept, try_flush-kept, try_unlock-kept, try_set_security-kept, try_wait-kept, try_cancel-kept, ticks-kept, try_notify-kept}
+use Rattle.fsa_model.proofs.KeepLaws.{KeepsAll, KeepsAll-same, KeptTo, Kept, Kept-if, Kept-refused, KeepsAll-calls_ended, try_close-kept, try_leave-kept, try_unlock-kept, try_wait-kept, try_cancel-kept, ticks-kept, try_notify-kept, Kept-obeys}
 use Rattle.fsa_model.proofs.OnceLaws.{Extends, Extends-next, is_call_of, is_same, is_same-equal, times-with_end, length-filter_split, IsOnce-kept}
 use Rattle.fsa_model.proofs.SettleLaws.{MaySettle-kept, MaySettle-ends, may_be_held, is_under, is_held_wrongly, try-tries, settled-done, some_equal}
 use Rattle.fsa_model.proofs.TakenLaws.{GivesAtMost, GivesAtMost-same, GivesAtMost-ends, is_ungiven, MayTakeUp, GoesOn, taken_up_all-goes}
 use Rattle.fsa_model.proofs.TryLaws.{SameNumbers, FewNumbers, FewNumbers-same, KeepsNumbers, KeepsNumbers-leaves, Leaves, Tries, TriesTo, GrantsNoneHeld, GrantsNoneHeld-kept, HasOneOplockEach-kept, is_given, Watches, Watches-next}
 use Rattle.fsa_model.proofs.WaitLaws.{unbroken, HasOneOplockEach}
+use Rattle.fsa_model.proofs.TryObeys.{has_own_laws, try_request-obeys}
 
 -- ---- a try of any call
 
@@ -95,24 +97,23 @@ try-oplock_ends v call turn handle level is = rw is (go (has_left v call.client)
     go true = EndsNone-refused v InvalidHandle
     go false = try_oplock-ends v call.client handle level turn
 
-try-kept : (v : Volume) (call : Call) (turn : ℕ) → may_be_held call.what ≡ false → may_be_granted call.what ≡ false → Kept v (try v call turn)
-try-kept v call turn isnt no_grant = Kept-if (has_left v call.client) _ _ (λ is. Kept-refused v _) (λ no. of_what call.what isnt no_grant)
+try-kept : (v : Volume) (call : Call) (turn : ℕ) → HasOneOplockEach v → may_be_held call.what ≡ false → may_be_granted call.what ≡ false → Kept v (try v call turn)
+try-kept v call turn one isnt no_grant = Kept-if (has_left v call.client) _ _ (λ is. Kept-refused v _) (λ no. of_what call.what isnt no_grant)
   where
+    of_own : (request : Request) → has_own_laws request ≡ true → may_be_granted (Ask request) ≡ false → Kept v (try_request v turn call.client call.number request)
+    of_own (Oplock handle level) own no_grant = cc
+    of_own (Ack handle level) own no_grant = cc
+    of_own (Close handle) own no_grant = try_close-kept v call.client handle
+    of_own (Unlock handle at count) own no_grant = try_unlock-kept v call.client handle at count
+    of_own (Notify handle filter tree room) own no_grant = try_notify-kept v call.client handle filter tree room
+    of_own (Cancel number) own no_grant = try_cancel-kept v call.client number
+    of_own _ own no_grant = cc
+
     of_request : (request : Request) → may_be_held (Ask request) ≡ false → may_be_granted (Ask request) ≡ false → Kept v (try_request v turn call.client call.number request)
-    of_request (Create path wanted share disposition options attributes key) isnt no_grant = cc
-    of_request (Read handle at count) isnt no_grant = cc
-    of_request (Write handle at bytes) isnt no_grant = cc
-    of_request (SetEnd handle length) isnt no_grant = cc
-    of_request (Lock handle at count exclusive wait) isnt no_grant = cc
-    of_request (Oplock handle level) isnt no_grant = cc
-    of_request (Ack handle level) isnt no_grant = cc
-    of_request (Close handle) isnt no_grant = try_close-kept v call.client handle
-    of_request (Flush handle) isnt no_grant = try_flush-kept v call.client handle
-    of_request (Unlock handle at count) isnt no_grant = try_unlock-kept v call.client handle at count
-    of_request (SetSecurity handle owner dacl) isnt no_grant = try_set_security-kept v call.client handle owner dacl
-    of_request (Notify handle filter tree room) isnt no_grant = try_notify-kept v call.client handle filter tree room
-    of_request (Cancel number) isnt no_grant = try_cancel-kept v call.client number
-    of_request _ isnt no_grant = Kept-refused v _
+    of_request request isnt no_grant = elim (cases_Bool (has_own_laws request)) [
+      | inl own ↦ of_own request own no_grant
+      | inr none ↦ Kept-obeys one isnt (try_request-obeys v turn call.client call.number request none)
+    ]
 
     of_what : (what : What) → may_be_held what ≡ false → may_be_granted what ≡ false → Kept v (try_what v turn call.client call.number what)
     of_what (Ask request) isnt no_grant = of_request request isnt no_grant
@@ -125,17 +126,11 @@ try-keeps v call turn one = elim (cases_Bool (may_be_held call.what)) [
   | inl held ↦ tried_of-tries v turn call.what (try v call turn) held (Tries.so (try-tries v call turn one held))
   | inr isnt ↦ elim (cases_Bool (may_be_granted call.what)) [
     | inl granted ↦ tried_of-grants v turn call.what (try v call turn) (Grants.so (try-grants v call turn one granted))
-    | inr no_grant ↦ tried_of-kept v turn call.what (try v call turn) one (Kept.so (try-kept v call turn isnt no_grant))
+    | inr no_grant ↦ tried_of-kept v turn call.what (try v call turn) one (Kept.so (try-kept v call turn one isnt no_grant))
   ]
 ]
 
 -- ---- what a turn asks of the volume, and keeps
-
-pub record MayTurn (v : Volume) : Type 0 where
-  pub take_up : MayTakeUp v
-  -- no call is pending under a turn that is still to come, and no oplock is granted to one
-  pub turns : how_many (λ e. nat_lt (made v) e.0) v.pending ≡ 0
-  pub granted : (turn : ℕ) → made v < turn → how_many (is_granted_under turn) v.oplocks ≡ 0
 
 MayTakeUp-kept : (v w : Volume) → KeepsNumbers v w → MayTakeUp v → MayTakeUp w
 MayTakeUp-kept v w kept may = record {

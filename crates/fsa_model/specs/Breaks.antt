@@ -1,7 +1,7 @@
 -- The break of oplocks over a volume: which are broken, in what order, what becomes of them, whose
 -- calls are told, and for which breaks a request waits, after [MS-FSA] 'Algorithm to Check for an
 -- Oplock Break'.
-use Rattle.std.specs.Prelude.{ℕ, Bool, List, [], false, ◌&&◌, ◌==◌, not, nat_lt, Option, filter, map, fold, option_and_then, if◌then◌else◌}
+use Rattle.std.specs.Prelude.{ℕ, Bool, List, [], false, ◌&&◌, ◌==◌, not, nat_lt, Option, filter, fold, option_and_then, if◌then◌else◌}
 use Rattle.std.specs.Option.{option_map_or}
 use Rattle.std.specs.Ordering.{is_lt}
 use Rattle.fsa_types.specs.CaseTable.{cmp_name, same_name}
@@ -85,11 +85,6 @@ abbrev pub told : Volume → HandleSet → Class → Option ℕ → ℕ → List
 told v on class acting key = told_among class (chosen v on acting key)
 
 -- ---- parts of it
-
--- the handle's oplock with this change
-abbrev pub with_oplock_changed : Volume → (Oplock → Oplock) → ℕ → Volume
-with_oplock_changed v change handle =
-    record v { oplocks = map (λ oplock. if oplock.handle == handle then change oplock else oplock) v.oplocks }
 
 -- a numbered break of the handle's oplock has begun
 abbrev pub with_break_begun : Volume → ℕ → Level → Volume

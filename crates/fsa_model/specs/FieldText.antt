@@ -1,6 +1,8 @@
--- The text of a line's fields: numbers, masks, texts of units and strings of bytes, each behind a space.
-use Rattle.std.specs.Prelude.{ℕ, ◌+◌, ◌/◌, ◌%◌, nat_lt, Bool, List, [], ◌∷◌, if◌then◌else◌}
+-- The text of a line's fields: numbers, masks, levels, texts of units and strings of bytes, each behind a space.
+use Rattle.std.specs.Prelude.{ℕ, ◌+◌, ◌/◌, ◌%◌, nat_lt, Bool, List, [], ◌∷◌, if◌then◌else◌, codes}
 use Rattle.std.specs.List.{flat_map}
+use Rattle.fsa_types.specs.declared.request.Level.{Level}
+use Rattle.fsa_types.specs.declared.request.Level.TheVariants.{Nil, R, RH, RW, RWH}
 use Rattle.fsa_model.specs.Numbers.{glyph, spelled}
 use Rattle.fsa_model.specs.Words.{is_plain}
 
@@ -14,6 +16,18 @@ mask_text n = 32 ∷ 48 ∷ 120 ∷ spelled 16 n
 -- one of two words, as a field
 abbrev pub choice_text : List ℕ → List ℕ → Bool → List ℕ
 choice_text first second choice = 32 ∷ (if choice then first else second)
+
+-- `none`, `r`, `rh`, `rw` or `rwh`
+abbrev pub level_word : Level → List ℕ
+level_word Nil = codes "none"
+level_word R = codes "r"
+level_word RH = codes "rh"
+level_word RW = codes "rw"
+level_word RWH = codes "rwh"
+
+-- it, as a field
+abbrev pub level_text : Level → List ℕ
+level_text level = 32 ∷ level_word level
 
 -- the upper-case hexadecimal digit of a value
 abbrev pub upper_glyph : ℕ → ℕ

@@ -68,6 +68,17 @@ links_of v file = (
 abbrev pub file_of_link : List (ℕ × Link) → ℕ → Option ℕ
 file_of_link links link = if link == 0 then Some 1 else option_map (λ row. row.file) (row_of links link)
 
+-- the link is marked for deletion
+abbrev pub is_link_marked : Volume → ℕ → Bool
+is_link_marked v link = option_map_or (λ row. row.deleted) (row_of v.links link) false
+
+-- the file of a link, and the directory that the link is in; 0 where there is no such link
+abbrev pub linked_file : Volume → ℕ → ℕ
+linked_file v link = option_map_or (λ row. row.file) (row_of v.links link) 0
+
+abbrev pub parent_of : Volume → ℕ → ℕ
+parent_of v link = option_map_or (λ row. row.parent) (row_of v.links link) 0
+
 -- the times of a file, its attributes and its owner
 abbrev pub creation_time : Volume → ℕ → ℕ
 creation_time v file = option_map_or (λ row. row.creation) (row_of v.files file) 0
@@ -107,6 +118,10 @@ abbrev pub leads_to : ℕ → List (ℕ × Link) → ℕ → ℕ → Bool
 leads_to zero links above dir = dir == above
 leads_to (suc steps) links above dir =
     dir == above || option_map_or (λ entry. leads_to steps links above entry.1.parent) (link_of_file links dir) false
+
+-- the directory is that one or lies below it
+abbrev pub is_at_or_below : List (ℕ × Link) → ℕ → ℕ → Bool
+is_at_or_below links above dir = leads_to (length links) links above dir
 
 -- this link lies below that directory
 abbrev pub is_below : List (ℕ × Link) → ℕ → ℕ → Bool

@@ -1,13 +1,12 @@
 -- The lines of opens and closes: what their fields say, and how they are written.
-use Rattle.std.specs.Prelude.{ℕ, ◌&&◌, not, Bool, nat_le, List, ◌∷◌, ◌++◌, Result, Ok, Err, if◌then◌else◌, codes}
+use Rattle.std.specs.Prelude.{ℕ, ◌&&◌, Bool, nat_le, List, ◌∷◌, ◌++◌, Result, Ok, Err, if◌then◌else◌, codes}
 use Rattle.std.specs.List.{list_all}
-use Rattle.fsa_types.specs.Access.{has_any}
 use Rattle.fsa_types.specs.declared.request.What.{What}
 use Rattle.fsa_types.specs.declared.request.What.TheVariants.{Ask}
 use Rattle.fsa_types.specs.declared.request.Request.TheVariants.{Create, Close}
 use Rattle.fsa_types.specs.declared.request.Disposition.{Disposition}
 use Rattle.fsa_types.specs.declared.request.Disposition.TheVariants.{Supersede, OpenExisting, CreateNew, OpenIf, Overwrite, OverwriteIf}
-use Rattle.fsa_model.specs.Fault.{Kind, BadSyntax, ◌>>=◌, only_if}
+use Rattle.fsa_model.specs.Fault.{Kind, BadSyntax, ◌>>=◌}
 use Rattle.fsa_model.specs.Words.{most_id, most_mask, same, field_at, number_at, mask_at, text_at, ended}
 use Rattle.fsa_model.specs.FieldText.{number_text, mask_text, text_text}
 
@@ -39,10 +38,6 @@ disposition_text OpenIf = 32 ∷ codes "open_if"
 disposition_text Overwrite = 32 ∷ codes "overwrite"
 disposition_text OverwriteIf = 32 ∷ codes "overwrite_if"
 
--- which creates are built: those without DELETE_ON_CLOSE
-abbrev pub is_built_create : ℕ → Bool
-is_built_create options = not (has_any options 0x1000)
-
 -- path, wanted access, share access, disposition, options, attributes, key
 unfoldable pub create_fields : List ℕ → Result What Kind
 create_fields bytes = do
@@ -53,9 +48,7 @@ create_fields bytes = do
   options ← mask_at disposition.1
   attributes ← mask_at options.1
   key ← number_at most_key attributes.1
-  what ← only_if (is_built_create options.0)
-      (Ask (Create path.0 wanted.0 share.0 disposition.0 options.0 attributes.0 key.0))
-  ended key.1 what
+  ended key.1 (Ask (Create path.0 wanted.0 share.0 disposition.0 options.0 attributes.0 key.0))
 
 abbrev pub create_text : List ℕ → ℕ → ℕ → Disposition → ℕ → ℕ → ℕ → List ℕ
 create_text path wanted share disposition options attributes key =
@@ -70,7 +63,6 @@ is_create path wanted share options attributes key =
     && nat_le options most_mask
     && nat_le attributes most_mask
     && nat_le key most_key
-    && is_built_create options
 
 -- handle
 unfoldable pub close_fields : List ℕ → Result What Kind

@@ -10,11 +10,11 @@ use Rattle.fsa_types.specs.declared.request.CallId.{CallId}
 use Rattle.fsa_types.specs.declared.status.Status.TheVariants.{Success, NotifyEnumDir}
 use Rattle.fsa_model.specs.Edits.{with_end}
 use Rattle.fsa_model.specs.Engine.{own_tried}
-use Rattle.fsa_model.specs.Lookups.{handle_of}
+use Rattle.fsa_model.specs.Lookups.{handle_of, is_link_marked}
 use Rattle.fsa_model.specs.Outcome.{Outcome, Done, Stay}
 use Rattle.fsa_model.specs.Settle.{Settling, repeated, settle_step, starves, with_starved}
 use Rattle.fsa_model.specs.Volume.{Handle, Pending, Volume}
-use Rattle.fsa_model.specs.Watching.{packed_changes, due, due_size, is_something_due, is_notify_filter, is_link_marked}
+use Rattle.fsa_model.specs.Watching.{packed_changes, due, due_size, is_something_due, is_notify_filter}
 
 -- ---- one report
 

@@ -3,20 +3,22 @@
 use Rattle.std.specs.Prelude.{ℕ, Bool, true, false, List, Result, Err, if◌then◌else◌, codes}
 use Rattle.fsa_types.specs.declared.request.What.{What}
 use Rattle.fsa_types.specs.declared.request.What.TheVariants.{Ask}
-use Rattle.fsa_types.specs.declared.request.Request.TheVariants.{Create, Close, Read, Write, Flush, SetEnd, Lock, Unlock, SetSecurity, Cancel}
+use Rattle.fsa_types.specs.declared.request.Request.TheVariants.{Oplock, Ack}
+use Rattle.fsa_types.specs.declared.request.Request.TheVariants.{Create, Close, Read, Write, Flush, SetEnd, Lock, Unlock, SetDisposition, Rename, Link, SetSecurity, Cancel}
 use Rattle.fsa_model.specs.Fault.{Kind, BadSyntax}
 use Rattle.fsa_model.specs.Words.{same}
-use Rattle.fsa_model.specs.OpenLines.{is_built_create, create_fields, close_fields}
+use Rattle.fsa_model.specs.OpenLines.{create_fields, close_fields}
 use Rattle.fsa_model.specs.ByteLines.{read_fields, write_fields, flush_fields, set_end_fields}
 use Rattle.fsa_model.specs.LockLines.{lock_fields, unlock_fields}
+use Rattle.fsa_model.specs.OplockLines.{oplock_fields, ack_fields}
+use Rattle.fsa_model.specs.NameLines.{rename_fields, link_fields, set_disposition_fields}
 use Rattle.fsa_model.specs.InformationLines.{set_security_fields}
 use Rattle.fsa_model.specs.ClockLines.{tick_fields}
 use Rattle.fsa_model.specs.WaitLines.{cancel_fields, wait_fields}
 
--- what the calls of a script ask: what its lines can say, and leaving, which has no line. An open with
--- DELETE_ON_CLOSE is none of these
+-- what the calls of a script ask: what its lines can say, and leaving, which has no line
 abbrev pub can_be_asked : What → Bool
-can_be_asked (Ask (Create path wanted share disposition options attributes key)) = is_built_create options
+can_be_asked (Ask (Create path wanted share disposition options attributes key)) = true
 can_be_asked (Ask (Close handle)) = true
 can_be_asked (Ask (Read handle at count)) = true
 can_be_asked (Ask (Write handle at bytes)) = true
@@ -24,6 +26,11 @@ can_be_asked (Ask (Flush handle)) = true
 can_be_asked (Ask (SetEnd handle length)) = true
 can_be_asked (Ask (Lock handle at count exclusive wait)) = true
 can_be_asked (Ask (Unlock handle at count)) = true
+can_be_asked (Ask (Oplock handle level)) = true
+can_be_asked (Ask (Ack handle level)) = true
+can_be_asked (Ask (SetDisposition handle delete)) = true
+can_be_asked (Ask (Rename handle path replace)) = true
+can_be_asked (Ask (Link handle path replace)) = true
 can_be_asked (Ask (SetSecurity handle owner dacl)) = true
 can_be_asked (Ask (Cancel number)) = true
 can_be_asked (Ask _) = false
@@ -50,6 +57,19 @@ lock_line verb fields other =
     else if same verb (codes "unlock") then unlock_fields fields
     else other
 
+abbrev pub oplock_line : List ℕ → List ℕ → Result What Kind → Result What Kind
+oplock_line verb fields other =
+    if same verb (codes "oplock") then oplock_fields fields
+    else if same verb (codes "ack") then ack_fields fields
+    else other
+
+abbrev pub name_line : List ℕ → List ℕ → Result What Kind → Result What Kind
+name_line verb fields other =
+    if same verb (codes "rename") then rename_fields fields
+    else if same verb (codes "link") then link_fields fields
+    else if same verb (codes "setdelete") then set_disposition_fields fields
+    else other
+
 abbrev pub information_line : List ℕ → List ℕ → Result What Kind → Result What Kind
 information_line verb fields other =
     if same verb (codes "setsecurity") then set_security_fields fields
@@ -72,7 +92,9 @@ what_of verb fields =
     open_line verb fields
     (byte_line verb fields
     (lock_line verb fields
+    (oplock_line verb fields
+    (name_line verb fields
     (information_line verb fields
     (clock_line verb fields
     (wait_line verb fields
-    (Err BadSyntax))))))
+    (Err BadSyntax))))))))

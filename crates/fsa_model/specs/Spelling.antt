@@ -3,12 +3,15 @@ use Rattle.std.specs.Prelude.{ℕ, ◌&&◌, true, false, nat_le, Bool, List, []
 use Rattle.std.specs.List.{flat_map, list_all}
 use Rattle.fsa_types.specs.declared.request.What.{What}
 use Rattle.fsa_types.specs.declared.request.What.TheVariants.{Ask, Tick, WaitFor}
-use Rattle.fsa_types.specs.declared.request.Request.TheVariants.{Create, Close, Read, Write, Flush, SetEnd, Lock, Unlock, SetSecurity, Cancel}
+use Rattle.fsa_types.specs.declared.request.Request.TheVariants.{Oplock, Ack}
+use Rattle.fsa_types.specs.declared.request.Request.TheVariants.{Create, Close, Read, Write, Flush, SetEnd, Lock, Unlock, SetDisposition, Rename, Link, SetSecurity, Cancel}
 use Rattle.fsa_model.specs.Words.{most_id, most_mask, is_name}
 use Rattle.fsa_model.specs.FieldText.{number_text, mask_text}
 use Rattle.fsa_model.specs.OpenLines.{create_text, is_create}
 use Rattle.fsa_model.specs.ByteLines.{read_text, is_read, write_text, is_write, set_end_text, is_set_end}
 use Rattle.fsa_model.specs.LockLines.{lock_text, unlock_text, is_range}
+use Rattle.fsa_model.specs.OplockLines.{level_fields_text, is_oplock}
+use Rattle.fsa_model.specs.NameLines.{naming_text, set_disposition_text, is_naming}
 use Rattle.fsa_model.specs.InformationLines.{set_security_text, is_set_security}
 use Rattle.fsa_model.specs.Lines.{Line, Version, DefaultTable, PairTable, Pair, ClientLine, RequestLine}
 use Rattle.fsa_model.specs.Verbs.{verb}
@@ -23,6 +26,11 @@ fields_text (Ask (Flush handle)) = number_text handle
 fields_text (Ask (SetEnd handle length)) = set_end_text handle length
 fields_text (Ask (Lock handle place count exclusive wait)) = lock_text handle place count exclusive wait
 fields_text (Ask (Unlock handle place count)) = unlock_text handle place count
+fields_text (Ask (Oplock handle level)) = level_fields_text handle level
+fields_text (Ask (Ack handle level)) = level_fields_text handle level
+fields_text (Ask (SetDisposition handle delete)) = set_disposition_text handle delete
+fields_text (Ask (Rename handle path replace)) = naming_text handle path replace
+fields_text (Ask (Link handle path replace)) = naming_text handle path replace
 fields_text (Ask (SetSecurity handle owner dacl)) = set_security_text handle owner dacl
 fields_text (Ask (Cancel number)) = number_text number
 fields_text (Tick ticks) = number_text ticks
@@ -39,6 +47,11 @@ is_built (Ask (Flush handle)) = nat_le handle most_id
 is_built (Ask (SetEnd handle length)) = is_set_end handle length
 is_built (Ask (Lock handle place count exclusive wait)) = is_range handle place count
 is_built (Ask (Unlock handle place count)) = is_range handle place count
+is_built (Ask (Oplock handle level)) = is_oplock handle level
+is_built (Ask (Ack handle level)) = nat_le handle most_id
+is_built (Ask (SetDisposition handle delete)) = nat_le handle most_id
+is_built (Ask (Rename handle path replace)) = is_naming handle path
+is_built (Ask (Link handle path replace)) = is_naming handle path
 is_built (Ask (SetSecurity handle owner dacl)) = is_set_security handle owner dacl
 is_built (Ask (Cancel number)) = nat_le number most_id
 is_built (Tick ticks) = nat_le ticks most_id

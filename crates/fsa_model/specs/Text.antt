@@ -4,8 +4,6 @@ use Rattle.std.specs.List.{slice_split, list_any}
 use Rattle.std.specs.Cmp.Lexicographic.{pointwise}
 use Rattle.std.specs.Option.{option_map_or}
 use Rattle.fsa_types.specs.Status.{status_name}
-use Rattle.fsa_types.specs.declared.request.Level.{Level}
-use Rattle.fsa_types.specs.declared.request.Level.TheVariants.{Nil, R, RH, RW, RWH}
 use Rattle.fsa_types.specs.declared.request.Call.{Call}
 use Rattle.fsa_types.specs.declared.reply.Action.{Action}
 use Rattle.fsa_types.specs.declared.reply.Action.TheVariants.{Superseded, Opened as WasOpened, Created, Overwritten}
@@ -19,17 +17,10 @@ use Rattle.fsa_types.specs.declared.reply.Answer.TheVariants.{Ended, Pending}
 use Rattle.fsa_types.specs.declared.reply.EndOf.{EndOf}
 use Rattle.fsa_model.specs.Setup.{Client, Script}
 use Rattle.fsa_model.specs.FieldText.{mask_text, text_text}
+pub use Rattle.fsa_model.specs.FieldText.{level_word}
 use Rattle.fsa_model.specs.Verbs.{verb}
 use Rattle.fsa_model.specs.Outcome.{TurnOut}
 use Rattle.fsa_model.specs.History.{HistoryEntry, run}
-
--- `none`, `r`, `rh`, `rw` or `rwh`
-abbrev pub level_word : Level → List ℕ
-level_word Nil = codes "none"
-level_word R = codes "r"
-level_word RH = codes "rh"
-level_word RW = codes "rw"
-level_word RWH = codes "rwh"
 
 -- a digit below 16, in lower case
 abbrev pub digit : ℕ → ℕ

@@ -13,7 +13,7 @@ use Rattle.fsa_types.specs.declared.reply.PackKind.TheVariants.{Changes}
 use Rattle.fsa_types.specs.declared.reply.Reply.{Reply}
 use Rattle.fsa_types.specs.declared.status.Status.TheVariants.{Success, NotifyEnumDir, InvalidHandle, InvalidParameter, AccessDenied, DeletePending}
 use Rattle.fsa_model.specs.Edits.{with_watch}
-use Rattle.fsa_model.specs.Lookups.{file_of_link, handle_of}
+use Rattle.fsa_model.specs.Lookups.{file_of_link, handle_of, is_link_marked}
 use Rattle.fsa_model.specs.Outcome.{Outcome, Done, Stay, refused}
 use Rattle.fsa_model.specs.Volume.{Change, Handle, Watch, Volume}
 
@@ -90,10 +90,6 @@ with_watch_begun v id filter tree = if is_some (watch_of v id) then v else with_
 -- some of these twelve bits, and no other
 abbrev pub is_notify_filter : ℕ → Bool
 is_notify_filter filter = not (filter == 0) && without filter 0xFFF == 0
-
--- the link is marked for deletion
-abbrev pub is_link_marked : Volume → ℕ → Bool
-is_link_marked v link = option_map_or (λ row. row.deleted) (row_of v.links link) false
 
 -- a directory, READ_DATA, a filter, and no mark
 abbrev pub notify_by : Volume → ℕ → Handle → ℕ → Bool → ℕ → Outcome

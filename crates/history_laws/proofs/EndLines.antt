@@ -14,7 +14,7 @@ use Rattle.fsa_model.specs.Words.{is_name, is_name_byte, same}
 use Rattle.fsa_model.proofs.CountLaws.{and_left, and_right}
 use Rattle.fsa_model.proofs.RowLaws.{option_cases}
 use Rattle.history_laws.specs.Named.{AreNamed}
-use Rattle.history_laws.specs.Starving.{is_no_memory, starved_of}
+use Rattle.fsa_model.specs.Starving.{is_no_memory, starved_of}
 use Rattle.history_laws.proofs.ReadBack.{EndsWord, Free, Free-body, Free-decimal, Free-status, body-ends_word, ends_line, ends_word, or_false, or_left, same_word, status_name-tells}
 
 -- ---- clients' names

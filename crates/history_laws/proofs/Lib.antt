@@ -5,9 +5,6 @@ pub mod LeavingLaws
 pub mod NextLaws
 pub mod OrderLaws
 pub mod PlaceLaws
-pub mod PlainData
-pub mod PlainLaws
-pub mod PlainOpens
 pub mod PlainOplocks
 pub mod PlainText
 pub mod PlainTries

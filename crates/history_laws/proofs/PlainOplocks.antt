@@ -10,8 +10,8 @@ use Rattle.fsa_model.specs.Edits.{without_oplock}
 use Rattle.fsa_model.specs.Grant.{target_of, is_not_granted, with_call_ended, with_switched, switched, with_granted, oplock_on, oplock_by, oplock_at, try_oplock, ack_with, ack_at, try_ack}
 use Rattle.fsa_model.specs.Lookups.{handle_of}
 use Rattle.fsa_model.specs.Volume.{Handle, Oplock, Volume}
-use Rattle.history_laws.specs.Starving.{EndsPlain, TriesPlain, is_no_memory}
-use Rattle.history_laws.proofs.PlainLaws.{EndsPlain-same, EndsPlain-next, EndsPlain-end, TriesPlain-refused, TriesPlain-done, TriesPlain-if, TriesPlain-option}
+use Rattle.fsa_model.specs.Starving.{EndsPlain, TriesPlain, is_no_memory}
+use Rattle.fsa_model.proofs.PlainLaws.{EndsPlain-same, EndsPlain-next, EndsPlain-end, TriesPlain-refused, TriesPlain-done, TriesPlain-if, TriesPlain-option}
 use Rattle.fsa_model.proofs.RowLaws.{option_cases}
 
 -- ---- a call that ends, and an oplock that goes

@@ -28,7 +28,7 @@ use Rattle.fsa_model.proofs.CountLaws.{and_left, how_many-length, how_many-weake
 use Rattle.fsa_model.proofs.HistoryLaws.{run-push}
 use Rattle.fsa_model.proofs.SettleLaws.{some_equal}
 use Rattle.history_laws.specs.Named.{AreNamed, IsRead}
-use Rattle.history_laws.specs.Starving.{is_no_memory, starved_of}
+use Rattle.fsa_model.specs.Starving.{is_no_memory, starved_of}
 use Rattle.history_laws.proofs.CallsOfRuns.{GoesOn, GoesOn-scheduled}
 use Rattle.history_laws.proofs.EndLines.{line_words, name-ends_word}
 use Rattle.history_laws.proofs.ReadBack.{Free, Free-append, Free-body, Free-decimal, Free-line, Free-status, body-begins, ends_line, ends_word, or_false, or_left, or_right, status_name-tells}

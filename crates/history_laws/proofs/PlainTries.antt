@@ -1,38 +1,36 @@
--- No try ends a call for want of memory: closes, leavings, owners and access lists, notifications, cancellations,
+-- No try ends a call for want of memory: closes, leavings, unlocks, notifications, cancellations,
 -- waits and the clock, and then all calls.
-use Rattle.std.proofs.Common.{◌≡◌, ℕ, Bool, true, false, not, List, [], ◌∷◌, refl, inl, inr, Option, Some, None}
+use Rattle.std.proofs.Common.{◌≡◌, ℕ, Bool, true, false, not, List, [], ◌∷◌, refl, inl, inr, Some, None}
 use Rattle.std.specs.List.{filter}
 use Rattle.std.specs.Prelude.{◌==◌}
 use Rattle.std.proofs.lemmas.Bool.{cases_Bool}
 use Rattle.fsa_types.specs.Rows.{row_of, without_row}
 use Rattle.fsa_types.specs.declared.reply.Body.TheVariants.{Nothing}
 use Rattle.fsa_types.specs.declared.request.Call.{Call}
-use Rattle.fsa_types.specs.declared.request.DaclChange.{DaclChange}
-use Rattle.fsa_types.specs.declared.request.DaclChange.TheVariants.{Keep, Remove, Put}
 use Rattle.fsa_types.specs.declared.request.Request.{Request}
-use Rattle.fsa_types.specs.declared.request.Request.TheVariants.{Create, Close, Read, Write, Flush, SetEnd, Lock, Unlock, Oplock as OplockOf, Ack, SetSecurity, Notify, Cancel}
+use Rattle.fsa_types.specs.declared.request.Request.TheVariants.{Close, Unlock, Oplock as OplockOf, Ack, Notify, Cancel}
 use Rattle.fsa_types.specs.declared.request.What.{What}
 use Rattle.fsa_types.specs.declared.request.What.TheVariants.{Ask, Tick, WaitFor, Leave}
 use Rattle.fsa_types.specs.declared.status.Status.{Status}
-use Rattle.fsa_types.specs.declared.status.Status.TheVariants.{Success, InvalidHandle, InvalidParameter, InvalidDeviceRequest, AccessDenied, QuotaExceeded, Cancelled}
+use Rattle.fsa_types.specs.declared.status.Status.TheVariants.{Success, InvalidHandle, InvalidParameter, AccessDenied, Cancelled, RangeNotLocked}
 use Rattle.fsa_model.specs.Close.{is_call_on, closed_status, is_left_behind, pending_by_turn, with_calls_ended, named_stream, is_link_of_parent, with_mark_on_close, is_stream_over, with_stream_swept, is_link_over, name_bit, with_link_swept, with_swept, with_closed, close_at, try_close, handles_of_client, with_all_closed, with_client_gone, try_leave}
-use Rattle.fsa_model.specs.Edits.{with_end, with_left, with_stream_marked, with_ticks, without_file_unless_linked, without_handle, without_link, is_call}
-use Rattle.fsa_model.specs.Lookups.{file_of_link, handle_of, has_left, has_row, number_of}
+use Rattle.fsa_model.specs.Edits.{with_end, with_left, with_stream_marked, with_ticks, without_file_unless_linked, without_handle, without_link, is_call, is_lock_on, without_lock}
+use Rattle.fsa_model.specs.Lookups.{handle_of, has_left, has_row, is_link_marked, number_of}
 use Rattle.fsa_model.specs.Outcome.{ends_with}
-use Rattle.fsa_model.specs.Security.{asks_something, lacks_right, is_foreign, passes_limit, with_owner_asked, with_dacl_asked, with_change_time, with_security, set_security_of, set_security_by, set_security_at, try_set_security}
 use Rattle.fsa_model.specs.Try.{try_request, try_what, try}
 use Rattle.fsa_model.specs.Volume.{Handle, Link, Pending, Volume}
 use Rattle.fsa_model.specs.Waiting.{has_ended, is_pending, try_wait, with_oplock_given_up, with_cancelled, try_cancel}
 use Rattle.std.specs.Prelude.{is_some}
 use Rattle.fsa_types.specs.Access.{has_any}
 use Rattle.fsa_types.specs.declared.status.Status.TheVariants.{DeletePending}
-use Rattle.fsa_model.specs.Watching.{due_size, is_link_marked, is_notify_filter, is_something_due, notify_at, notify_by, notify_due, report, try_notify, watch_of, with_watch_begun, with_watch_seen}
+use Rattle.fsa_model.specs.Watching.{due_size, is_notify_filter, is_something_due, notify_at, notify_by, notify_due, report, try_notify, watch_of, with_watch_begun, with_watch_seen}
 use Rattle.std.specs.Prelude.{nat_le}
-use Rattle.history_laws.specs.Starving.{EndsPlain, TriesPlain, is_no_memory}
-use Rattle.history_laws.proofs.PlainData.{try_read-plain, try_write-plain, try_flush-plain, try_set_end-plain, try_lock-plain, try_unlock-plain}
-use Rattle.history_laws.proofs.PlainLaws.{EndsPlain-same, EndsPlain-next, EndsPlain-end, EndsPlain-if, EndsPlain-option, EndsPlain-noted, TriesPlain-refused, TriesPlain-done, TriesPlain-ends, TriesPlain-if, TriesPlain-option}
+use Rattle.fsa_model.specs.Starving.{EndsPlain, TriesPlain, is_no_memory}
+use Rattle.fsa_model.proofs.PlainLaws.{EndsPlain-same, EndsPlain-next, EndsPlain-end, EndsPlain-if, EndsPlain-option, EndsPlain-noted, TriesPlain-refused, TriesPlain-done, TriesPlain-ends, TriesPlain-if, TriesPlain-option}
 use Rattle.history_laws.proofs.PlainOplocks.{try_oplock-plain, try_ack-plain}
-use Rattle.history_laws.proofs.PlainOpens.{try_create-plain}
+use Rattle.fsa_model.proofs.ObeyLaws.{Obeys}
+use Rattle.fsa_model.proofs.TryObeys.{has_own_laws, try_request-obeys}
+use Rattle.fsa_model.specs.Locking.{unlock_range, unlock_by, unlock_at, try_unlock}
 
 -- ---- closes, and clients that leave
 
@@ -107,49 +105,27 @@ try_leave-plain v client =
     (EndsPlain-next (EndsPlain-calls_ended (λ _. Cancelled) (λ what. refl) (pending_by_turn (is_left_behind client) v) v)
     (EndsPlain-next (EndsPlain-all_closed (handles_of_client v client) ended) (EndsPlain-same {v = closed} refl))) refl
 
--- ---- owners and access lists
+-- ---- unlocks
 
-EndsPlain-owner_asked : (v : Volume) (file : ℕ) (owner : Option ℕ) → EndsPlain v (with_owner_asked v file owner)
-EndsPlain-owner_asked v file None = EndsPlain-same refl
-EndsPlain-owner_asked v file (Some sid) = EndsPlain-same refl
+unlock_range-plain : (v : Volume) (id at count : ℕ) → TriesPlain v (unlock_range v id at count)
+unfolding unlock_range
+unlock_range-plain v id at count =
+    TriesPlain-option (number_of (is_lock_on id at count) v.locks) (λ _. ends_with (without_lock v id at count) Success) _
+    (λ number found. TriesPlain-ends v (without_lock v id at count) Success (EndsPlain-same refl) refl) (TriesPlain-refused v RangeNotLocked refl)
 
-EndsPlain-dacl_asked : (v : Volume) (file : ℕ) (dacl : DaclChange) → EndsPlain v (with_dacl_asked v file dacl)
-EndsPlain-dacl_asked v file Keep = EndsPlain-same refl
-EndsPlain-dacl_asked v file Remove = EndsPlain-same refl
-EndsPlain-dacl_asked v file (Put dacl) = EndsPlain-same refl
+unlock_by-plain : (v : Volume) (id : ℕ) (handle : Handle) (at count : ℕ) → TriesPlain v (unlock_by v id handle at count)
+unfolding unlock_by
+unlock_by-plain v id handle at count = TriesPlain-option handle.stream (λ _. unlock_range v id at count) _ (λ stream is. unlock_range-plain v id at count) (TriesPlain-refused v InvalidParameter refl)
 
-EndsPlain-security : (v : Volume) (link file : ℕ) (owner : Option ℕ) (dacl : DaclChange) → EndsPlain v (with_security v link file owner dacl)
-EndsPlain-security v link file owner dacl =
-    let own : Volume = with_owner_asked v file owner in
-    let listed : Volume = with_dacl_asked own file dacl in
-    let timed : Volume = with_change_time listed file in
-    EndsPlain-next (EndsPlain-owner_asked v file owner) (EndsPlain-next (EndsPlain-dacl_asked own file dacl)
-    (EndsPlain-next (EndsPlain-same {v = listed} {w = timed} refl)
-    (EndsPlain-if (asks_something owner dacl) _ timed (EndsPlain-noted timed link 3 0x100 None) (EndsPlain-same refl))))
+unlock_at-plain : (v : Volume) (id at count : ℕ) → TriesPlain v (unlock_at v id at count)
+unfolding unlock_at
+unlock_at-plain v id at count =
+    TriesPlain-option (row_of v.handles id) (λ handle. unlock_by v id handle at count) _ (λ handle found. unlock_by-plain v id handle at count) (TriesPlain-refused v InvalidHandle refl)
 
-set_security_of-plain : (v : Volume) (client link file : ℕ) (owner : Option ℕ) (dacl : DaclChange) → TriesPlain v (set_security_of v client link file owner dacl)
-unfolding set_security_of
-set_security_of-plain v client link file owner dacl =
-    TriesPlain-if (is_foreign v client owner) _ _ (λ is. TriesPlain-refused v AccessDenied refl)
-    (λ no. TriesPlain-if (passes_limit v file owner) _ _ (λ is. TriesPlain-refused v QuotaExceeded refl)
-    (λ no. TriesPlain-ends v _ Success (EndsPlain-security v link file owner dacl) refl))
-
-set_security_by-plain : (v : Volume) (client : ℕ) (handle : Handle) (owner : Option ℕ) (dacl : DaclChange) → TriesPlain v (set_security_by v client handle owner dacl)
-unfolding set_security_by
-set_security_by-plain v client handle owner dacl =
-    TriesPlain-if (lacks_right handle.access owner dacl) _ _ (λ is. TriesPlain-refused v AccessDenied refl)
-    (λ no. TriesPlain-option (file_of_link v.links handle.link) (λ file. set_security_of v client handle.link file owner dacl) _
-    (λ file found. set_security_of-plain v client handle.link file owner dacl) (TriesPlain-refused v InvalidHandle refl))
-
-set_security_at-plain : (v : Volume) (client id : ℕ) (owner : Option ℕ) (dacl : DaclChange) → TriesPlain v (set_security_at v client id owner dacl)
-unfolding set_security_at
-set_security_at-plain v client id owner dacl =
-    TriesPlain-option (row_of v.handles id) (λ handle. set_security_by v client handle owner dacl) _ (λ handle found. set_security_by-plain v client handle owner dacl) (TriesPlain-refused v InvalidHandle refl)
-
-pub try_set_security-plain : (v : Volume) (client handle : ℕ) (owner : Option ℕ) (dacl : DaclChange) → TriesPlain v (try_set_security v client handle owner dacl)
-unfolding try_set_security
-try_set_security-plain v client handle owner dacl =
-    TriesPlain-option (handle_of v client handle) (λ id. set_security_at v client id owner dacl) _ (λ id found. set_security_at-plain v client id owner dacl) (TriesPlain-refused v InvalidHandle refl)
+pub try_unlock-plain : (v : Volume) (client handle at count : ℕ) → TriesPlain v (try_unlock v client handle at count)
+unfolding try_unlock
+try_unlock-plain v client handle at count =
+    TriesPlain-option (handle_of v client handle) (λ id. unlock_at v id at count) _ (λ id found. unlock_at-plain v id at count) (TriesPlain-refused v InvalidHandle refl)
 
 -- ---- waits, cancellations and the clock
 
@@ -200,21 +176,20 @@ try_notify-plain v client handle filter whole room =
 
 -- ---- any call
 
+try_own-plain : (v : Volume) (turn client number : ℕ) (request : Request) → has_own_laws request ≡ true → TriesPlain v (try_request v turn client number request)
+try_own-plain v turn client number (Close handle) own = try_close-plain v client handle
+try_own-plain v turn client number (Unlock handle at count) own = try_unlock-plain v client handle at count
+try_own-plain v turn client number (OplockOf handle level) own = try_oplock-plain v client handle level turn
+try_own-plain v turn client number (Ack handle level) own = try_ack-plain v client handle level turn
+try_own-plain v turn client number (Notify handle filter whole room) own = try_notify-plain v client handle filter whole room
+try_own-plain v turn client number (Cancel cancelled) own = try_cancel-plain v client cancelled
+try_own-plain v turn client number _ own = cc
+
 try_request-plain : (v : Volume) (turn client number : ℕ) (request : Request) → TriesPlain v (try_request v turn client number request)
-try_request-plain v turn client number (Create path wanted share disposition options attributes key) = try_create-plain v _
-try_request-plain v turn client number (Close handle) = try_close-plain v client handle
-try_request-plain v turn client number (Read handle at count) = try_read-plain v client handle at count
-try_request-plain v turn client number (Write handle at bytes) = try_write-plain v client handle at bytes
-try_request-plain v turn client number (Flush handle) = try_flush-plain v client handle
-try_request-plain v turn client number (SetEnd handle length) = try_set_end-plain v client handle length
-try_request-plain v turn client number (Lock handle at count exclusive wait) = try_lock-plain v client handle at count exclusive wait
-try_request-plain v turn client number (Unlock handle at count) = try_unlock-plain v client handle at count
-try_request-plain v turn client number (OplockOf handle level) = try_oplock-plain v client handle level turn
-try_request-plain v turn client number (Ack handle level) = try_ack-plain v client handle level turn
-try_request-plain v turn client number (SetSecurity handle owner dacl) = try_set_security-plain v client handle owner dacl
-try_request-plain v turn client number (Notify handle filter whole room) = try_notify-plain v client handle filter whole room
-try_request-plain v turn client number (Cancel cancelled) = try_cancel-plain v client cancelled
-try_request-plain v turn client number _ = TriesPlain-refused v InvalidDeviceRequest refl
+try_request-plain v turn client number request = elim (cases_Bool (has_own_laws request)) [
+  | inl own ↦ try_own-plain v turn client number request own
+  | inr none ↦ Obeys.plain (try_request-obeys v turn client number request none)
+]
 
 try_what-plain : (v : Volume) (turn client number : ℕ) (what : What) → TriesPlain v (try_what v turn client number what)
 try_what-plain v turn client number (Ask request) = try_request-plain v turn client number request

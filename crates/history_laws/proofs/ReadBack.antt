@@ -20,7 +20,7 @@ use Rattle.fsa_model.specs.FieldText.{mask_text, text_text, unit_text, upper_gly
 use Rattle.fsa_model.specs.Numbers.{glyph, spelled}
 use Rattle.fsa_model.specs.Text.{action_text, body_text, bytes_text, digit, hex_digits, level_word, wanted_text}
 use Rattle.fsa_model.specs.Words.{is_plain}
-use Rattle.history_laws.specs.Starving.{is_no_memory}
+use Rattle.fsa_model.specs.Starving.{is_no_memory}
 
 -- ---- words
 

@@ -19,7 +19,7 @@ use Rattle.fsa_model.proofs.HistoryLaws.{turns_text-push}
 use Rattle.fsa_model.proofs.RowLaws.{option_cases}
 use Rattle.fsa_model.proofs.SettleLaws.{some_equal}
 use Rattle.history_laws.specs.Named.{IsRead}
-use Rattle.history_laws.specs.Starving.{starved_of}
+use Rattle.fsa_model.specs.Starving.{starved_of}
 use Rattle.history_laws.proofs.CallsOfRuns.{GoesOn, GoesOn-scheduled}
 use Rattle.history_laws.proofs.EndLines.{FollowsTurn, same_starved}
 use Rattle.history_laws.proofs.SettlePlain.{GivesStarved, turn-starved}

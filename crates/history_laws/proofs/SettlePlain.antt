@@ -24,8 +24,8 @@ use Rattle.fsa_model.proofs.CountLaws.{and_left, and_right, how_many-append}
 use Rattle.fsa_model.specs.Once.{how_many}
 use Rattle.fsa_model.proofs.RowLaws.{option_cases}
 use Rattle.fsa_model.proofs.SettleLaws.{some_equal}
-use Rattle.history_laws.specs.Starving.{EndsPlain, EndsPlainly, TriesPlain, starved_of}
-use Rattle.history_laws.proofs.PlainLaws.{EndsPlain-end, EndsPlain-next, EndsPlain-same, starved_of-append}
+use Rattle.fsa_model.specs.Starving.{EndsPlain, EndsPlainly, TriesPlain, starved_of}
+use Rattle.fsa_model.proofs.PlainLaws.{EndsPlain-end, EndsPlain-next, EndsPlain-same, starved_of-append}
 use Rattle.history_laws.proofs.PlainTries.{EndsPlain-calls_ended, report-plain, try-plain}
 
 -- ---- one step

@@ -1,4 +1,3 @@
 pub mod Cursors
 pub mod Named
-pub mod Starving
 pub mod Whole

@@ -12,7 +12,7 @@ ghost use Rattle.fsa_model.specs.Text.{shows_no_memory, text};
 ghost use Rattle.fsa_model.specs.Turn.{Turned, try, turn};
 ghost use Rattle.fsa_model.specs.Volume.{Volume};
 ghost use Rattle.history_laws.specs.Named.{IsRead};
-ghost use Rattle.history_laws.specs.Starving.{TriesPlain, starved_of};
+ghost use Rattle.fsa_model.specs.Starving.{TriesPlain, starved_of};
 
 /// No try ends a call, its own or another, with the status NoMemory: only a settlement does.
 pub fn tries_end_for_no_want_of_memory()

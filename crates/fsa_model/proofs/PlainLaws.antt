@@ -20,7 +20,7 @@ use Rattle.fsa_model.specs.Volume.{Oplock, Volume}
 use Rattle.fsa_model.specs.Waits.{waits_for, held_by}
 use Rattle.fsa_model.proofs.BreakLaws.{broken}
 use Rattle.fsa_model.proofs.RowLaws.{option_cases}
-use Rattle.history_laws.specs.Starving.{is_no_memory, starved_of, EndsPlain, EndsPlainly, TriesPlain}
+use Rattle.fsa_model.specs.Starving.{is_no_memory, starved_of, EndsPlain, EndsPlainly, TriesPlain}
 
 -- ---- lists of ends
 

@@ -1,0 +1,98 @@
+-- The walk of a path, and a reparse point that stops it, as every try of a request with a path has them.
+use Rattle.std.proofs.Common.{◌≡◌, ℕ, zero, suc, ◌+◌, ◌≤◌, false, List, [], ◌∷◌, length, length-append, drop, refl, ap, arith, inl, inr, Some, None}
+use Rattle.std.specs.List.{join_with_byte}
+use Rattle.std.specs.Prelude.{◌==◌, is_some}
+use Rattle.std.proofs.lemmas.Bool.{cases_Bool}
+use Rattle.std.proofs.lemmas.List.{length-drop}
+use Rattle.std.proofs.lemmas.List.Splits.{join_with_byte-slice_split}
+use Rattle.fsa_types.specs.Paths.{rest_of, pieces}
+use Rattle.fsa_types.specs.Rows.{row_of}
+use Rattle.fsa_types.specs.declared.request.Call.{Call}
+use Rattle.fsa_types.specs.declared.status.Status.TheVariants as status
+use Rattle.fsa_model.specs.Frame.{most_reply_bytes, most_reply_units, PointsFit}
+use Rattle.fsa_model.specs.Lookups.{child_of, is_directory}
+use Rattle.fsa_model.specs.Open.{stop_status, stopped}
+use Rattle.fsa_model.specs.Sound.{PointFits}
+use Rattle.fsa_model.specs.Starving.{is_no_memory}
+use Rattle.fsa_model.specs.Volume.{File, Volume}
+use Rattle.fsa_model.specs.Walk.{Walked, Reached, Barred, Diverted, point_of, through, by_link, into, then_walk, walk_from}
+use Rattle.fsa_model.proofs.ObeyLaws.{Obeys, Obeys-option, Obeys-refused, Obeys-replies_fit}
+use Rattle.fsa_model.proofs.RowLaws.{option_cases, row_of-all}
+
+-- ---- what is left of a path
+
+join-drop : (parts : List (List ℕ)) (n : ℕ) → length (join_with_byte 92 (drop n parts)) ≤ length (join_with_byte 92 parts)
+join-drop parts zero = omega arith
+join-drop [] (suc n) = omega arith
+join-drop (part ∷ []) (suc n) = few n
+  where
+    few : (k : ℕ) → length (join_with_byte 92 (drop k [])) ≤ length part
+    few zero = omega arith
+    few (suc k) = omega arith
+join-drop (part ∷ next ∷ parts) (suc n) =
+    let rest = join-drop (next ∷ parts) n in
+    let whole = length-append part (92 ∷ join_with_byte 92 (next ∷ parts)) in
+    omega arith
+
+pub length-rest_of : (path : List ℕ) (next : ℕ) → length (rest_of path next) ≤ length path
+length-rest_of path next =
+    let fewer = join-drop (pieces path) next in
+    let whole = ap (λ (units : List ℕ). length units) (join_with_byte-slice_split 92 (drop 1 path)) in
+    let tail = length-drop 1 path in
+    omega arith
+
+-- ---- the walk of a path
+
+-- a walk that is barred isn't so for want of memory
+abbrev pub BarsPlainly : Walked → Type 0
+BarsPlainly (Reached dir) = Unit {0}
+BarsPlainly (Barred why) = is_no_memory why ≡ false
+BarsPlainly (Diverted file next) = Unit {0}
+
+then_walk-plain : (go_on : ℕ → Walked) (walked : Walked) → ((dir : ℕ) → BarsPlainly (go_on dir)) → BarsPlainly walked → BarsPlainly (then_walk go_on walked)
+then_walk-plain go_on (Reached dir) on plain = on dir
+then_walk-plain go_on (Barred why) on plain = plain
+then_walk-plain go_on (Diverted file next) on plain = plain
+
+through-plain : (v : Volume) (file next : ℕ) → BarsPlainly (through v file next)
+through-plain v file next = elim (cases_Bool (is_some (point_of v file))) [
+  | inl point ↦ rw point tt
+  | inr none ↦ elim (cases_Bool (is_directory v.files file)) [ inl is ↦ rw (none, is) tt | inr isnt ↦ rw (none, isnt) refl ]
+]
+
+by_link-plain : (v : Volume) (link next : ℕ) → BarsPlainly (by_link v link next)
+by_link-plain v link next = elim (option_cases (row_of v.links link)) [
+  | inl none ↦ rw none refl
+  | inr some ↦ elim (cases_Bool some.0.deleted) [ inl is ↦ rw (some.1, is) refl | inr isnt ↦ rw (some.1, isnt) (through-plain v some.0.file next) ]
+]
+
+into-plain : (v : Volume) (dir : ℕ) (name : List ℕ) (next : ℕ) → BarsPlainly (into v dir name next)
+into-plain v dir name next = elim (option_cases (child_of v dir name)) [ inl none ↦ rw none refl | inr some ↦ rw some.1 (by_link-plain v some.0 next) ]
+
+pub walk_from-plain : (v : Volume) (dir place : ℕ) (names : List (List ℕ)) → BarsPlainly (walk_from v dir place names)
+walk_from-plain v dir place [] = tt
+walk_from-plain v dir place (name ∷ more) = elim (cases_Bool (length more == 0)) [
+  | inl last ↦ rw last tt
+  | inr inner ↦ rw inner (then_walk-plain (λ next. walk_from v next (place + 1) more) (into v dir name (place + 1)) (λ next. walk_from-plain v next (place + 1) more) (into-plain v dir name (place + 1)))
+]
+
+-- ---- a reparse point
+
+stop_status-plain : (tag : ℕ) → is_no_memory (stop_status tag) ≡ false
+stop_status-plain tag = elim (cases_Bool (tag == 0xA000000C)) [ inl is ↦ rw is refl | inr isnt ↦ rw isnt refl ]
+
+-- what is there to be said of a point fits a reply
+short : (v : Volume) (file : ℕ) (point : ℕ × List ℕ) → PointsFit v → point_of v file ≡ Some point → length point.1 ≤ 16376
+short v file point fit is = elim (option_cases (row_of v.files file)) [
+  | inl none ↦ (let impossible : None ≡ Some point = rw none at is in cc)
+  | inr some ↦ (let here : some.0.point ≡ Some point = rw some.1 at is in
+      let fits : PointFits some.0 = row_of-all (λ (row : File). PointFits row) v.files file some.0 some.1 fit in rw here at fits)
+]
+
+-- a reparse point stops it
+pub stopped-obeys : (call : Call) (v : Volume) (file : ℕ) (rest : List ℕ) → 16376 ≤ most_reply_bytes call.what → length rest ≤ most_reply_units call.what → Obeys call v (stopped v file rest)
+unfolding stopped
+stopped-obeys call v file rest bytes units =
+    Obeys-option (point_of v file) _ _
+    (λ point is. Obeys-replies_fit call v _ (λ fit. record { bytes = (let few = short v file point fit is in omega arith); units = units }) (stop_status-plain point.0))
+    (Obeys-refused call v status.ObjectPathNotFound refl)
