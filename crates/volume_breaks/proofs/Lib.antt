@@ -1,3 +1,4 @@
 pub mod BreakLemmas
 pub mod CallLemmas
+pub mod GrantLemmas
 pub mod ReleaseLemmas

@@ -2,13 +2,14 @@
 //! to Check for an Oplock Break'.
 
 ghost use Rattle.std.specs.Prelude.{ℕ, ◌≡◌, ◌≤◌, ◌<◌, ◌+◌, ◌++◌, ◌∷◌, ◌^◌, ◌&&◌, [], not, true, length, filter, fold, is_some, option_map, option_and_then, All, if◌then◌else◌};
+ghost use Rattle.std.specs.Option.{option_map_or};
 ghost use Rattle.fsa_types.specs.OplockLists.{OplockState, after_effect, effect_on, is_told, told_among, CanHave, IsCopy, IsOplock};
 ghost use Rattle.fsa_types.specs.Oplocks.{effect};
 ghost use Rattle.fsa_types.specs.Rows.{row_of};
 ghost use Rattle.fsa_types.specs.declared.reply.Body.TheVariants.{Broken};
 ghost use Rattle.fsa_types.specs.declared.status.Status.TheVariants.{Success};
 ghost use Rattle.fsa_model.specs.Breaks.{with_effect, with_told};
-ghost use Rattle.fsa_model.specs.Edits.{is_call};
+ghost use Rattle.fsa_model.specs.Edits.{is_call, with_end};
 ghost use Rattle.fsa_model.specs.Volume.{Volume};
 ghost use Rattle.object_tables.specs.Series.{HoldsAsMany};
 ghost use Rattle.volume_rows.specs.Effects.{effect_of};
@@ -58,6 +59,26 @@ fn pending_call(pending: &[(u64, PendingRow)], turn: Option<u64>) -> Option<(u32
     }
 }
 
+/// The call that is pending under this turn ends with this reply, where there is one.
+pub fn end_pending(
+    pending: &mut PendingCalls,
+    ended: &mut Series<EndOf>,
+    turn: Option<u64>,
+    reply: Reply,
+)
+    requires room { is_some turn ≡ true → 1 ≤ ended.old.room }
+    ensures done { (v : Volume) → with_calls v pending.new.items ended.new.items ≡ option_map_or (λ row. with_end (with_calls v pending.old.items ended.old.items) row.call.client row.call.number reply) (option_and_then (row_of pending.old.items) turn) (with_calls v pending.old.items ended.old.items) }
+    ensures held { StayHeld pending.old pending.new }
+    ensures room { (pending.new.room ≡ pending.old.room) × (pending.new.blockers ≡ pending.old.blockers) }
+    ensures left { ended.old.room ≤ ended.new.room + (if is_some turn then 1 else 0) }
+    ensures ends { HoldsAsMany ended.old ended.new }
+{
+    let Some((client, number)) = pending_call(pending.as_slice(), turn) else {
+        return;
+    };
+    end_call(pending, ended, client, number, reply);
+}
+
 // The call that is pending under this turn as granted ends, where there is one: it is told the level
 // that may stay, and whether that has to be acknowledged.
 fn tell(
@@ -74,19 +95,11 @@ fn tell(
     ensures left { ended.old.room ≤ ended.new.room + (if is_some turn then 1 else 0) }
     ensures ends { HoldsAsMany ended.old ended.new }
 {
-    let Some((client, number)) = pending_call(pending.as_slice(), turn) else {
-        return;
+    let reply = Reply {
+        status: Status::Success,
+        body: Body::Broken { level, ack },
     };
-    end_call(
-        pending,
-        ended,
-        client,
-        number,
-        Reply {
-            status: Status::Success,
-            body: Body::Broken { level, ack },
-        },
-    );
+    end_pending(pending, ended, turn, reply);
 }
 
 // What the effect on an oplock does.

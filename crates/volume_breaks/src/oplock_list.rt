@@ -1,9 +1,11 @@
 //! The oplocks of a volume, with room for what a break of them sets aside.
 
-ghost use Rattle.std.specs.Prelude.{ℕ, ◌≡◌, ◌≤◌, ◌<◌, ◌+◌, ◌^◌, ◌==◌, not, [], List, Some, None, length, map, filter, OnOk, if◌then◌else◌, slice_index_or};
+ghost use Rattle.std.specs.Prelude.{ℕ, ◌≡◌, ◌≤◌, ◌<◌, ◌+◌, ◌++◌, ◌∷◌, ◌^◌, ◌==◌, not, false, All, [], List, Some, None, length, map, filter, OnOk, if◌then◌else◌, slice_index_or};
 ghost use Rattle.fsa_types.specs.Sorting.{in_order};
+ghost use Rattle.fsa_types.specs.OplockGrants.{after_answer, as_answered, as_granted, switched_among};
 ghost use Rattle.fsa_types.specs.OplockLists.{awaited_among, begun, lowered, without_oplock_of, CanBegin, CanGoOn};
 ghost use Rattle.fsa_model.specs.Breaks.{is_broken_before, is_chosen};
+ghost use Rattle.fsa_model.specs.Grant.{is_oplock_on};
 ghost use Rattle.fsa_model.specs.Volume.{Oplock};
 ghost use Rattle.fsa_model.specs.Waiting.{is_granted_under};
 ghost use Rattle.volume_breaks.specs.Oplocks.{Held};
@@ -11,10 +13,11 @@ ghost use Rattle.std.specs.Vec.{vec_capacity};
 
 use crate::awaiting::await_breaks;
 use crate::choosing::{Tree, choose};
+use crate::granting::{Opened, choose_switched};
 use fsa_types::{Class, HandleSet, Level, NoMemory};
 use std::alloc::Global;
 use std::marker::Model;
-use volume_rows::{OplockRow, is_oplock_of};
+use volume_rows::{OplockRow, has_read, is_oplock_of};
 
 /// The oplocks of a volume, in the order in which they were granted. A break of them takes no memory:
 /// there is room for copies of all of them, and for the numbers of as many breaks. There are fewer
@@ -111,6 +114,13 @@ impl Oplocks {
         choose(tree, on, acting, key, &self.rows, &mut self.chosen);
     }
 
+    /// Sets aside copies of those that a grant to this handle switches, in order.
+    pub fn choose_switched(&mut self, tree: &Tree, opened: Opened)
+        ensures { self.new ≡ record self.old { chosen = switched_among (is_oplock_on tree.now opened.stream) opened.handle opened.key self.old.rows } }
+    {
+        choose_switched(tree, opened, &self.rows, &mut self.chosen);
+    }
+
     /// How many are chosen.
     pub fn chosen_len(&self) -> usize
         ensures { result ≡ length self.now.chosen }
@@ -138,6 +148,36 @@ impl Oplocks {
         ensures { self.new ≡ record self.old { rows = filter (λ oplock. not (is_granted_under turn oplock)) self.old.rows } }
     {
         drop_granted(&mut self.rows, turn);
+    }
+
+    /// Adds an oplock of this handle, which has this key and no oplock yet; its call is pending under this
+    /// turn. Room has to be reserved.
+    pub fn grant(&mut self, handle: u64, key: u64, level: Level, turn: u64)
+        requires room { 1 ≤ self.old.room }
+        requires new { All (λ oplock. (oplock.handle == handle) ≡ false) self.old.rows }
+        ensures rows { self.new ≡ record self.old { rows = self.old.rows ++ as_granted handle key level turn ∷ []; room = self.new.room } }
+        ensures left { self.old.room ≤ self.new.room + 1 }
+    {
+        let Ok(()) = self.rows.push(OplockRow {
+            handle,
+            key,
+            level,
+            target: None,
+            number: 0,
+            call: Some(turn),
+        })
+        else {
+            unreachable!()
+        };
+        self.room -= 1;
+    }
+
+    /// The break of the oplock of this handle has ended, and this level stays, of which the call that is
+    /// pending under this turn is told; or none, and the oplock ends.
+    pub fn answer(&mut self, handle: u64, level: Level, turn: u64)
+        ensures { self.new ≡ record self.old { rows = after_answer handle level turn self.old.rows } }
+    {
+        answer(&mut self.rows, handle, level, turn);
     }
 
     /// A numbered break begins of the oplock of this handle, to a level that is no more than it has, and
@@ -262,5 +302,45 @@ fn lower(rows: &mut [OplockRow], handle: u64, level: Level)
 {
     for row in rows.iter_mut() {
         *row = with_target(*row, handle, level);
+    }
+}
+
+// The oplock as it is once its break has ended and this level stays, where it is this handle's.
+fn with_answer(oplock: OplockRow, handle: u64, level: Level, turn: u64) -> OplockRow
+    ensures { result ≡ as_answered handle level turn oplock }
+{
+    if oplock.handle == handle {
+        OplockRow {
+            handle: oplock.handle,
+            key: oplock.key,
+            level,
+            target: None,
+            number: 0,
+            call: Some(turn),
+        }
+    } else {
+        oplock
+    }
+}
+
+// This level stays of the oplock of this handle, whose break has ended.
+fn keep_of(rows: &mut [OplockRow], handle: u64, level: Level, turn: u64)
+    ensures { rows.new ≡ map (as_answered handle level turn) rows.old }
+{
+    for row in rows.iter_mut() {
+        *row = with_answer(*row, handle, level, turn);
+    }
+}
+
+// The break of the oplock of this handle has ended, and this level stays, or none.
+fn answer(rows: &mut Vec<OplockRow>, handle: u64, level: Level, turn: u64)
+    ensures rows { rows.new.items ≡ after_answer handle level turn rows.old.items }
+    ensures few { length rows.new.items ≤ length rows.old.items }
+    ensures room { vec_capacity rows.new ≡ vec_capacity rows.old }
+{
+    if has_read(level) {
+        keep_of(rows, handle, level, turn);
+    } else {
+        drop_of(rows, handle);
     }
 }

@@ -86,6 +86,13 @@ impl PendingCalls {
         Ok(())
     }
 
+    /// For how many more calls there is room.
+    pub fn room(&self) -> usize
+        ensures { result ≡ self.now.room }
+    {
+        self.room
+    }
+
     /// All pending calls, each under its turn, in the order in which they came.
     pub fn as_slice(&self) -> &[(u64, PendingRow)]
         ensures { result.now ≡ self.now.items }

@@ -20,8 +20,8 @@ pub enum BreakEffect {
     Lowers(Level),
 }
 
-// Whether a level has read caching.
-fn has_read(level: Level) -> bool
+/// Whether a level has read caching.
+pub fn has_read(level: Level) -> bool
     ensures { result ≡ has_read level }
 {
     match level {
@@ -33,8 +33,8 @@ fn has_read(level: Level) -> bool
     }
 }
 
-// Whether it has write caching.
-fn has_write(level: Level) -> bool
+/// Whether it has write caching.
+pub fn has_write(level: Level) -> bool
     ensures { result ≡ has_write level }
 {
     match level {
@@ -71,8 +71,8 @@ fn level_with(write: bool, handle: bool) -> Level
     }
 }
 
-// What is in both levels.
-fn in_both(a: Level, b: Level) -> Level
+/// What is in both levels.
+pub fn in_both(a: Level, b: Level) -> Level
     ensures { result ≡ in_both a b }
 {
     if has_read(a) && has_read(b) {
@@ -82,8 +82,8 @@ fn in_both(a: Level, b: Level) -> Level
     }
 }
 
-// Whether all that is in the first level is in the second.
-fn is_within(a: Level, b: Level) -> bool
+/// Whether all that is in the first level is in the second.
+pub fn is_within(a: Level, b: Level) -> bool
     ensures { result ≡ is_within a b }
 {
     (!has_read(a) || has_read(b))

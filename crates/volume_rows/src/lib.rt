@@ -13,12 +13,13 @@
 //! changes.note(links, 1, name, None, action, bits);   // takes no memory
 //! ```
 //!
-//! The calls group so: links (`find_child`,
-//! `find_link_of`, `find_link_number`, `has_link`, `has_child`); files (`has_directory`, `FileRow::set_basic`,
+//! The calls group so: links (`find_child`, `find_link_of`, `find_link_number`, `has_link`, `has_child`,
+//! `count_links`, `count_unmarked_links`, `is_at_or_below`); files (`has_directory`, `FileRow::set_basic`,
 //! `set_owner`, `set_dacl`); handles (`find_handle`, `find_next`,
-//! `count_on`, `is_one_of`, `some_clashes`); streams (`find_stream`, `is_stream_of`, and `StreamRow` with
+//! `count_on`, `is_one_of`, `some_clashes`, `is_open_by_others`); streams (`find_stream`, `is_stream_of`, and `StreamRow` with
 //! its bytes); the space that streams take (`charge_for`, `sum_of_clusters`) and what an owner may be
-//! charged (`find_limit`); oplocks (`effect`, `is_awaited`, `is_same_key`, `is_oplock_of`, `find_break`);
+//! charged (`find_limit`); oplocks (`effect`, `is_awaited`, `in_both`, `is_within`, `is_same_key`, `is_oplock_of`,
+//! `find_break`, `find_target`);
 //! pending calls (`find_pending`, `find_next_pending`, `is_call`) and watches (`is_watch_of`); and
 //! changes noted (`Changes`).
 //!
@@ -29,7 +30,8 @@
 //!   is found is the first row that passes.
 //! - Room for bytes and changes has to be reserved, and a sum of clusters has to fit 64 bits.
 //! - A scan takes time linear in the rows; one of handles below a directory, the next handle of a
-//!   client, or the next pending call, takes that for each row.
+//!   client, or the next pending call, takes that for each row, and `is_at_or_below` for each directory
+//!   above.
 #![tactic(auto)]
 
 mod bytes;
@@ -47,16 +49,21 @@ mod streams;
 mod waiting;
 
 pub use changes::{ChangeLog, Entry};
-pub use effects::{BreakEffect, effect, is_awaited, is_same_key};
+pub use effects::{
+    BreakEffect, effect, has_read, has_write, in_both, is_awaited, is_same_key, is_within,
+};
 pub use growth::{charge_for, sum_of_clusters};
 pub use handles::find_handle;
 pub use kinds::has_directory;
-pub use links::{find_child, find_link_number, find_link_of, has_child, has_link};
+pub use links::{
+    count_links, count_unmarked_links, find_child, find_link_number, find_link_of, has_child,
+    has_link,
+};
 pub use noting::Changes;
-pub use opens::{count_on, find_next, is_one_of, some_clashes};
+pub use opens::{count_on, find_next, is_at_or_below, is_one_of, is_open_by_others, some_clashes};
 pub use rows::{Cursor, Enumeration, FileRow, HandleRow, LinkRow, Need, StreamInfo, StreamRow};
 pub use streams::{find_stream, is_stream_of};
 pub use waiting::{
     OplockRow, PendingRow, WatchRow, find_break, find_limit, find_next_pending, find_pending,
-    is_call, is_oplock_of, is_watch_of,
+    find_target, is_call, is_oplock_of, is_watch_of,
 };

@@ -1,6 +1,6 @@
 //! Links: the names of files in directories.
 
-ghost use Rattle.std.specs.Prelude.{ℕ, ◌≡◌, ◌==◌, ◌&&◌, option_map, find};
+ghost use Rattle.std.specs.Prelude.{ℕ, ◌≡◌, ◌==◌, ◌&&◌, not, length, filter, option_map, find};
 ghost use Rattle.std.specs.List.{list_any};
 ghost use Rattle.std.specs.Option.{option_copied};
 ghost use Rattle.fsa_model.specs.Lookups.{has_child, has_row, is_named, link_of_file};
@@ -69,6 +69,33 @@ pub fn has_link(links: &[(u64, LinkRow)], file: u64) -> bool
     ensures { result ≡ has_row (λ link. link.file == file) links.now }
 {
     links.iter().any(|entry| is_link_of(&entry.1, file))
+}
+
+// Whether a link is one of this file and isn't marked.
+fn is_unmarked_of(link: &LinkRow, file: u64) -> bool
+    ensures { result ≡ (link.now.file == file && not link.now.deleted) }
+{
+    link.file == file && !link.deleted
+}
+
+/// How many links of this file there are, marked or not.
+pub fn count_links(links: &[(u64, LinkRow)], file: u64) -> usize
+    ensures { result ≡ length (filter (λ entry. entry.1.file == file) links.now) }
+{
+    links
+        .iter()
+        .filter(|entry| is_link_of(&entry.1, file))
+        .count()
+}
+
+/// How many links of this file aren't marked for deletion.
+pub fn count_unmarked_links(links: &[(u64, LinkRow)], file: u64) -> usize
+    ensures { result ≡ length (filter (λ entry. entry.1.file == file && not entry.1.deleted) links.now) }
+{
+    links
+        .iter()
+        .filter(|entry| is_unmarked_of(&entry.1, file))
+        .count()
 }
 
 /// Whether there is a link in this directory.

@@ -1,19 +1,22 @@
 //! Handles of a stream, of a link, or below a directory.
 
-ghost use Rattle.std.specs.Prelude.{ℕ, ◌≡◌, ◌==◌, ◌&&◌, not, nat_lt, length, filter, find, option_map};
+ghost use Rattle.std.specs.Prelude.{ℕ, ◌≡◌, ◌==◌, ◌&&◌, not, nat_lt, length, filter, find, option_map, Some};
+ghost use Rattle.std.specs.List.{list_any};
 ghost use Rattle.std.specs.Option.{option_copied};
+ghost use Rattle.fsa_types.specs.Oplocks.{is_same_key};
 ghost use Rattle.fsa_types.specs.Rows.{row_of};
 ghost use Rattle.fsa_types.specs.Sharing.{clash};
-ghost use Rattle.fsa_model.specs.Lookups.{has_row, is_after, is_below, is_one_of, leads_to};
+ghost use Rattle.fsa_model.specs.Lookups.{has_row, is_after, is_at_or_below, is_below, is_one_of, is_open_on, leads_to};
 
+use crate::effects::is_same_key;
 use crate::links::find_link_of;
 use crate::rows::{HandleRow, LinkRow};
 use crate::sharing::clash;
 use fsa_types::HandleSet;
 
-// Whether links lead from this directory up to that one.
-fn leads_to(links: &[(u64, LinkRow)], above: u64, dir: u64) -> bool
-    ensures { result ≡ leads_to (length links.now) links.now above dir }
+/// Whether a directory is that one or lies below it.
+pub fn is_at_or_below(links: &[(u64, LinkRow)], above: u64, dir: u64) -> bool
+    ensures { result ≡ is_at_or_below links.now above dir }
 {
     let mut at = dir;
     let mut more = links.len();
@@ -38,7 +41,7 @@ fn is_below(links: &[(u64, LinkRow)], above: u64, link: u64) -> bool
 {
     match find_row(links, link) {
         None => false,
-        Some(row) => leads_to(links, above, row.parent),
+        Some(row) => is_at_or_below(links, above, row.parent),
     }
 }
 
@@ -99,6 +102,29 @@ pub fn some_clashes(
     handles
         .iter()
         .any(|entry| is_clashing(links, on, access, share, &entry.1))
+}
+
+// Whether a handle is open on this stream.
+fn is_open_on(stream: u64, handle: &HandleRow) -> bool
+    ensures { result ≡ is_open_on stream handle.now }
+{
+    handle.stream == Some(stream)
+}
+
+// Whether a handle is open on this stream, and has another key than that handle.
+fn is_open_by_other(stream: u64, entry: &(u64, HandleRow), handle: u64, key: u64) -> bool
+    ensures { result ≡ (is_open_on stream entry.now.1 && not (is_same_key entry.now.0 entry.now.1.key (Some handle) key)) }
+{
+    is_open_on(stream, &entry.1) && !is_same_key(entry.0, entry.1.key, Some(handle), key)
+}
+
+/// Whether a handle of another key than this one is open on the stream.
+pub fn is_open_by_others(handles: &[(u64, HandleRow)], handle: u64, key: u64, stream: u64) -> bool
+    ensures { result ≡ list_any (λ entry. is_open_on stream entry.1 && not (is_same_key entry.0 entry.1.key (Some handle) key)) handles.now }
+{
+    handles
+        .iter()
+        .any(|entry| is_open_by_other(stream, entry, handle, key))
 }
 
 // Whether a handle is the client's, with a number above this one.

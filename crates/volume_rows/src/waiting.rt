@@ -3,6 +3,7 @@
 ghost use Rattle.std.specs.Prelude.{ℕ, ◌≡◌, ◌==◌, ◌&&◌, not, nat_lt, find, option_map};
 ghost use Rattle.std.specs.List.{list_any};
 ghost use Rattle.std.specs.Option.{option_copied};
+ghost use Rattle.fsa_types.specs.OplockGrants.{target_among};
 ghost use Rattle.fsa_types.specs.Rows.{row_of};
 ghost use Rattle.fsa_model.specs.Edits.{is_call};
 
@@ -103,6 +104,24 @@ pub fn find_break(oplocks: &[OplockRow], handle: u64) -> Option<u64>
         .iter()
         .find(|oplock| is_oplock_of(oplock, handle))
         .map(|oplock| oplock.number)
+}
+
+// The oplock of this handle.
+fn find_oplock(oplocks: &[OplockRow], handle: u64) -> Option<&OplockRow>
+    ensures { option_copied result ≡ find (λ oplock. oplock.handle == handle) oplocks.now }
+{
+    oplocks.iter().find(|oplock| is_oplock_of(oplock, handle))
+}
+
+/// The most that may stay of the oplock of this handle; `None` exactly where no break of it is in
+/// progress.
+pub fn find_target(oplocks: &[OplockRow], handle: u64) -> Option<Level>
+    ensures { result ≡ target_among handle oplocks.now }
+{
+    match find_oplock(oplocks, handle) {
+        None => None,
+        Some(oplock) => oplock.target,
+    }
 }
 
 /// Whether a watch is of this handle.

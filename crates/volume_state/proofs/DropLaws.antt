@@ -1,20 +1,22 @@
 -- Where rows go, a note of a link takes no more than it took.
-use Rattle.std.proofs.Common.{◌≡◌, ℕ, zero, suc, ◌<◌, ◌≤◌, Bool, true, false, not, List, [], ◌∷◌, length, get_or, refl, sym, subst, ◌∙◌, arith, inl, inr, ◌⊎◌, Option, Some, None}
+use Rattle.std.proofs.Common.{◌≡◌, ℕ, zero, suc, ◌<◌, ◌≤◌, Bool, true, false, not, List, [], ◌∷◌, length, get_or, refl, ap, sym, subst, ◌∙◌, arith, inl, inr, ◌⊎◌, Option, Some, None}
 use Rattle.std.specs.List.{All, AllPairs, filter, find}
-use Rattle.std.specs.Prelude.{◌==◌, ◌&&◌}
+use Rattle.std.specs.Prelude.{◌==◌, ◌&&◌, IfSome}
 use Rattle.std.proofs.lemmas.Bool.{cases_Bool, eqb-true, ne_eqb, and_left, and_right}
 use Rattle.std.proofs.lemmas.List.Folds.{list_any_none}
 use Rattle.fsa_types.specs.Rows.{row_of, without_row, IsNumbered}
 use Rattle.fsa_types.proofs.RowLemmas.{length-filter_le}
 use Rattle.fsa_model.specs.Changes.{stream_suffix, units_noted, dirs_noted}
 use Rattle.fsa_model.specs.Edits.{without_link, without_stream}
-use Rattle.fsa_model.specs.Lookups.{has_row, is_directory, link_of_file}
+use Rattle.fsa_model.specs.Lookups.{child_of, has_child, has_row, is_directory, is_named, link_of_file, number_of}
 use Rattle.fsa_model.specs.Sound.{IsSound}
 use Rattle.fsa_model.specs.Volume.{File, Link, Stream, Volume}
-use Rattle.fsa_model.proofs.RowLaws.{any-filter_none, find-all, option_cases, row_of-all}
+use Rattle.fsa_model.proofs.ReplacementLaws.{directory-without, files-without, leads-without, links_without, no_directory-without, others-without, table_without, unmarked-without, unnamed-without}
+use Rattle.fsa_model.proofs.RowLaws.{any-filter_none, find-all, lives-found, option_cases, row_of-all}
 use Rattle.fsa_model.proofs.SoundLaws.{without_link-last, without_link-other}
+use Rattle.volume_state.specs.Living.{CanHold, StaysWithout}
 use Rattle.volume_state.specs.Paths.{units_above, dirs_above}
-use Rattle.volume_state.proofs.OpenLaws.{find-no, units_noted-found, dirs_noted-found}
+use Rattle.volume_state.proofs.OpenLaws.{find-no, number-lives, number-none, units_noted-found, dirs_noted-found}
 
 -- where at most one item passes, a filter keeps what is found, or nothing is found
 find-thin : {X : Type 0} (p q : X → Bool) (xs : List X) → AllPairs (λ a b. (p a && p b) ≡ false) xs → (find p (filter q xs) ≡ None) ⊎ (find p (filter q xs) ≡ find p xs)
@@ -190,3 +192,37 @@ units_noted-without_stream v stream sound w is = units_noted-thin v w sound (sub
 pub dirs_noted-without_stream : (v : Volume) (stream : ℕ) → IsSound v → (w : Volume) → w ≡ without_stream v stream
     → (other : ℕ) (of : Option ℕ) → dirs_noted w other of ≤ dirs_noted v other of
 dirs_noted-without_stream v stream sound w is = dirs_noted-thin v w sound (subst (IsThinner v) (sym is) (IsThinner-without_stream v stream sound))
+
+-- ---- a link that goes
+
+-- the name is free
+free-without_link : (v : Volume) (link dir : ℕ) (name : List ℕ) → IsSound v → child_of v dir name ≡ Some link → child_of (without_link v link) dir name ≡ None
+free-without_link v link dir name sound named =
+    elim (option_cases (row_of v.links link)) [
+      | inl none ↦ (let living = number-lives (is_named v.table dir name) v.links in
+          absurd (lives-found v.links link (rw named at living) none))
+      | inr some ↦ ap (λ links. number_of (is_named (without_link v link).table dir name) links) (links_without v link some.0 some.1)
+          ∙ ap (λ table. number_of (is_named table dir name) (without_row v.links link)) (table_without v link some.0 some.1)
+          ∙ number-none (is_named v.table dir name) (without_row v.links link) (unnamed-without v link dir name some.0 sound some.1 named)
+    ]
+
+-- what stays where a link that is empty goes
+pub StaysWithout-without_link : (v : Volume) (link : ℕ) → IsSound v → IfSome (row_of v.links link) (λ row. has_child v.links row.file ≡ false)
+    → (w : Volume) → w ≡ without_link v link → StaysWithout v w link
+StaysWithout-without_link v link sound empty w is =
+    let thin : IsThinner v (without_link v link) = IsThinner-without_link v link sound in
+    subst (λ w. StaysWithout v w link) (sym is) (record {
+      others = others-without v link;
+      files = files-without v link;
+      no_directory = no_directory-without v link;
+      holds = λ dir name named holds. record {
+        directory = directory-without v link dir name empty named holds.directory;
+        leads = leads-without v link dir name sound empty named holds.leads;
+        unmarked = unmarked-without v link dir holds.unmarked;
+      };
+      free = λ dir name named. free-without_link v link dir name sound named;
+      units = λ dir units directory. (let above = units_above-thin (length (without_link v link).links) (length v.links) v.files v.links (without_link v link).links
+          sound.tree.parents_are_directories thin.up thin.few dir directory in omega arith);
+      dirs = λ dir directory. (let above = dirs_above-thin (length (without_link v link).links) (length v.links) v.files v.links (without_link v link).links
+          sound.tree.parents_are_directories thin.up thin.few dir directory in omega arith);
+    })

@@ -1,7 +1,9 @@
 pub mod DropLaws
+pub mod GrantLaws
 pub mod GrowthLemmas
 pub mod HandleLaws
 pub mod MarkLaws
+pub mod MovedLaws
 pub mod OpenLaws
 pub mod PathLaws
 pub mod PendingLaws

@@ -15,10 +15,11 @@ use Rattle.fsa_model.specs.Edits.{with_link, with_stream}
 use Rattle.fsa_model.specs.Lookups.{has_child, link_of_file, is_directory, has_row, number_of, is_stream_named}
 use Rattle.fsa_model.specs.Sound.{IsSound, LeadsUp, is_stream_of_link, is_link_of_directory}
 use Rattle.fsa_model.specs.Volume.{File, Link, Stream, Volume}
+use Rattle.fsa_model.proofs.MoveLaws.{is_at_or_below-all}
 use Rattle.fsa_model.proofs.RowLaws.{found-all, lives-found, find-any, any-weaker, lives-given, option_cases, or_right, or-false}
 use Rattle.volume_state.specs.Living.{is_link_to}
 use Rattle.volume_state.specs.Paths.{units_above, dirs_above, units_in, dirs_in}
-use Rattle.volume_state.proofs.PathLaws.{path_units-ancestors, length-ancestors, leads_to-links, ancestors-push}
+use Rattle.volume_state.proofs.PathLaws.{path_units-ancestors, length-ancestors, ancestors-push}
 
 pub find-no : {X : Type 0} (p : X → Bool) (xs : List X) → list_any p xs ≡ false → find p xs ≡ None
 find-no p [] none = refl
@@ -89,7 +90,7 @@ ancestors-new v parent row name sound up not_root =
     let old = no_link_of_root v.links sound.tree.root_has_no_link in
     let new : link_of_file (v.links ++ (v.last_link + 1, row) ∷ []) 1 ≡ None
     = rw (find-append (λ (entry : ℕ × Link). entry.1.file == 1) v.links ((v.last_link + 1, row) ∷ []), old, not_root) refl in
-    let leads = leads_to-links up.steps v.links 1 parent up.leads in
+    let leads = is_at_or_below-all v.links 1 parent up.steps up.leads in
     rw (length-append v.links ((v.last_link + 1, row) ∷ []), add-one (length v.links + 1), add-one (length v.links))
     (ancestors-push (length v.links) (suc (length v.links)) (length v.links) v.links ((v.last_link + 1, row) ∷ []) parent name old new (omega arith) (omega arith) leads)
 

@@ -144,7 +144,7 @@ filter-any p q (x ∷ xs) = elim (cases_Bool (q x)) [
     none false b = refl
 
 -- of those that pass, of which there is one at most, none is left where it goes
-gone-with : {X : Type 0} (p q : X → Bool) (xs : List X) → how_many p xs ≤ 1 → (list_any p xs && not (list_any (λ x. q x && p x) xs)) ≡ list_any p (filter (λ x. not (q x)) xs)
+pub gone-with : {X : Type 0} (p q : X → Bool) (xs : List X) → how_many p xs ≤ 1 → (list_any p xs && not (list_any (λ x. q x && p x) xs)) ≡ list_any p (filter (λ x. not (q x)) xs)
 gone-with p q xs one =
     let turned : list_any (λ x. q x && p x) xs ≡ list_any (λ x. p x && q x) xs = any-same (λ x. q x && p x) (λ x. p x && q x) xs (λ x. swapped (q x) (p x)) in
     rw (turned, filter-any p q xs, split-any p q xs) (elim (cases_Bool (list_any (λ x. p x && q x) xs)) [
@@ -165,7 +165,7 @@ one-lock locks last number numbered = at-most-one (λ e. e.0 == number) locks (�
     let second = eqb-true _ number other in
     omega arith)
 
-one-break : (oplocks : List Oplock) (last number : ℕ) → AreOplocks oplocks last → how_many (is_breaking number) oplocks ≤ 1
+pub one-break : (oplocks : List Oplock) (last number : ℕ) → AreOplocks oplocks last → how_many (is_breaking number) oplocks ≤ 1
 one-break oplocks last number are = at-most-one (is_breaking number) oplocks (λ i j d below within one other.
     let a : Oplock = get_or oplocks i d in
     let b : Oplock = get_or oplocks j d in

@@ -19,3 +19,8 @@ abbrev pub HasHoldRoom : Tried → Spare → Type 0
 HasHoldRoom (tried.Hold blockers interim) spare = (1 ≤ spare.pending) × (length blockers.items ≤ spare.blockers)
 HasHoldRoom (tried.Stay interim) spare = 1 ≤ spare.pending
 HasHoldRoom _ spare = Unit {0}
+
+-- it didn't find that there was no memory
+abbrev pub HasAnswer : Tried → Type 0
+HasAnswer tried.NoMemory = ⊥
+HasAnswer _ = Unit {0}

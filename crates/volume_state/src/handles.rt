@@ -1,11 +1,12 @@
 //! Handles: the opens of clients.
 
-ghost use Rattle.std.specs.Prelude.{ℕ, ◌≡◌, ◌≤◌, ◌<◌, ◌+◌, ◌-◌, ◌^◌, ◌==◌, ◌&&◌, not, IsTrue, IsSome, IfSome, None, true, option_map, find, length, nat_lt, filter};
+ghost use Rattle.std.specs.Prelude.{ℕ, ◌≡◌, ◌≤◌, ◌<◌, ◌+◌, ◌-◌, ◌^◌, ◌==◌, ◌&&◌, not, IsTrue, IsSome, IfSome, None, is_some, true, option_map, find, length, nat_lt, filter};
 ghost use Rattle.std.specs.Option.{option_copied};
 ghost use Rattle.fsa_types.specs.Rows.{row_of, lives};
 ghost use Rattle.fsa_model.specs.Edits.{with_handle, without_handle};
-ghost use Rattle.fsa_model.specs.Lookups.{handle_of, is_opened_by, next_handle_of, handles_on};
+ghost use Rattle.fsa_model.specs.Lookups.{handle_of, is_opened_by, linked_file, next_handle_of, handles_on};
 ghost use Rattle.fsa_model.specs.Sound.{is_of_living, has_its_stream};
+ghost use Rattle.volume_state.specs.Living.{CanBeLinked};
 ghost use Rattle.volume_state.specs.Room.{IsNoLess};
 
 use crate::volume::Volume;
@@ -20,6 +21,9 @@ impl Volume {
         ensures living { IfSome result (λ row. IsTrue (is_of_living self.now.content.links self.now.content.streams row.now)) }
         ensures client { IfSome result (λ row. row.now.client < length self.now.content.clients) }
         ensures stream { IfSome result (λ row. IsTrue (has_its_stream self.now.content.files self.now.content.links row.now)) }
+
+        // What has a stream is a file's, of which there can be a further link.
+        ensures linked { IfSome result (λ row. is_some row.now.stream ≡ true → CanBeLinked self.now.content (linked_file self.now.content row.now.link)) }
     {
         self.handles.get(id)
     }

@@ -16,12 +16,14 @@
 //!
 //! The calls group so: making and room (`new`, `reserve`, `reserve_bytes`); what is there (`file`,
 //! `link`, `stream`, `handle`, `pending`, `ended`, each by number, and `child`, `stream_of`,
-//! `handle_of`, `next_handle_of`, `next_pending`, `pending_calls`, `root`, `is_directory`, `dir_link`,
-//! `has_child`, `handles_on`, `clashes`, `locks_of`, `bytes_of`, `clock`, `has_left`, `table`, `sids`,
+//! `handle_of`, `next_handle_of`, `next_pending`, `pending_calls`, `pending_room`, `root`, `is_directory`,
+//! `dir_link`, `has_child`, `links_of`, `is_at_or_below`, `handles_on`, `clashes`, `locks_of`, `bytes_of`,
+//! `clock`, `has_left`, `table`, `sids`,
 //! `oplocks`); waits for calls (`waits`, `all_wait`, `next_over`, `list_waits`); the space that streams
 //! take, and what an owner is charged for it and may be (`clusters`, `charge`, `charge_of_file`, `limit`); the room that a note takes (`note_room`, `note_room_in`);
-//! changes of one table (`add_..`, `drop_..`, `mark_..`, `put_bytes`, `set_..`, `end`, `leave`,
-//! `advance`); changes noted (`note`); and the break of oplocks (`begin`, `waited`).
+//! changes of one table (`add_..`, `move_link`, `drop_..`, `mark_..`, `put_bytes`, `set_..`, `end`, `leave`,
+//! `advance`); changes noted (`note`); and oplocks: their grant (`is_not_granted`, `grant`), their break
+//! (`begin`, `waited`), the answer to it (`answer_break`), and their end (`give_up`, `drop_oplock`).
 //!
 //! Contracts see a volume as three things: its content, which is the record of plain lists of
 //! `fsa_model`; what stands beside it, the breaks that the last `begin` waits for among it; and the
@@ -34,16 +36,16 @@
 //!
 //! A file, a link, a stream or a handle is found by its number in time logarithmic in the rows of its
 //! table; any other look-up costs time linear in them. The next handle of a client, the next pending
-//! call, the handles below a directory and an owner's charge cost that for each row, and a note costs a
-//! look through the links for each directory above. A break costs what `volume_breaks` says.
+//! call, the handles below a directory and an owner's charge cost that for each row, and a note and
+//! `is_at_or_below` cost a look through the links for each directory above. A break costs what `volume_breaks` says.
 //!
 //! A call that is held waits for breaks and locks; whatever ends one of these tells the queue of held calls,
 //! in time linear in what they wait for, and `next_held` asks nothing but the queue. `next_over` looks through
 //! the pending calls for each wait among them, and never through the calls that have ended; `list_waits` puts
 //! each wait in its place among the others.
 //!
-//! Caveats: no call puts an oplock, a watch or a limit in yet. The calls that look for them, break them and
-//! take them out are whole all the same, for any that there are.
+//! Caveats: no call puts a watch or a limit in yet. The calls that look for them and take them out are whole
+//! all the same, for any that there are.
 #![tactic(auto)]
 
 mod files;
@@ -67,6 +69,7 @@ mod volume;
 mod waits;
 
 pub use fsa_types::{Class, HandleSet};
+pub use oplocks::Grant;
 pub use room::NoteRoom;
 pub use tried::Tried;
 pub use volume::Volume;

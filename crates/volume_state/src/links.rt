@@ -5,17 +5,20 @@ ghost use Rattle.std.specs.List.{list_any};
 ghost use Rattle.std.specs.Option.{option_copied};
 ghost use Rattle.fsa_types.specs.Rows.{row_of, lives, with_row_changed};
 ghost use Rattle.fsa_model.specs.Changes.{units_noted, dirs_noted, stream_suffix};
-ghost use Rattle.fsa_model.specs.Edits.{with_link, with_link_marked, without_link};
-ghost use Rattle.fsa_model.specs.Lookups.{child_of, dir_link, has_child, has_row, is_directory, is_named, is_open_by, link_of_file};
+ghost use Rattle.fsa_model.specs.Edits.{with_link, with_link_marked, with_link_moved, without_link};
+ghost use Rattle.fsa_model.specs.Lookups.{child_of, dir_link, has_child, has_row, is_at_or_below, is_directory, is_named, is_open_by, link_of_file, linked_file, links_of};
 ghost use Rattle.fsa_model.specs.Sound.{LeadsUp, is_link_of_directory};
-ghost use Rattle.volume_state.specs.Living.{is_link_to};
+ghost use Rattle.volume_state.specs.Living.{StaysWithout, is_link_to};
 ghost use Rattle.volume_state.specs.Paths.{units_in, dirs_in};
 ghost use Rattle.volume_state.specs.Seen.{room_for};
 
 use crate::streams::drop_streams_of;
 use crate::volume::Volume;
 use fsa_types::Name;
-use volume_rows::{LinkRow, find_child, find_link_number, has_child, has_link};
+use volume_rows::{
+    LinkRow, count_links, count_unmarked_links, find_child, find_link_number, has_child, has_link,
+    is_at_or_below,
+};
 
 impl Volume {
     /// The link of this number; `None` exactly where there is none.
@@ -60,6 +63,22 @@ impl Volume {
         has_child(self.links.as_slice(), dir)
     }
 
+    /// How many links of a file aren't marked for deletion, and how many there are.
+    pub fn links_of(&self, file: u64) -> (u32, u32)
+        ensures { result ≡ links_of self.now.content file }
+    {
+        let links = self.links.as_slice();
+        let unmarked = count_unmarked_links(links, file) as u32;
+        (unmarked, count_links(links, file) as u32)
+    }
+
+    /// Whether a directory is that one or lies below it.
+    pub fn is_at_or_below(&self, above: u64, dir: u64) -> bool
+        ensures { result ≡ is_at_or_below self.now.content.links above dir }
+    {
+        is_at_or_below(self.links.as_slice(), above, dir)
+    }
+
     /// Adds a link of a file to a directory, and gives its number.
     pub fn add_link(&mut self, parent: u64, name: Name, file: u64) -> u64
         requires room { 1 ≤ room_for self.old.spare.links parent }
@@ -95,6 +114,28 @@ impl Volume {
         self.links.add(row)
     }
 
+    /// Gives a link another name, in this directory or in another one. A directory may not go into itself, nor
+    /// below itself, and no other link may have the name there. Of a link that isn't there nothing changes.
+    pub fn move_link(&mut self, link: u64, parent: u64, name: Name)
+        requires room { 1 ≤ room_for self.old.spare.links parent }
+        requires parent { IsTrue (is_directory self.old.content.files parent) }
+        requires leads { LeadsUp self.old.content.links parent }
+        requires unmarked { has_row (λ link. link.file == parent && link.deleted) self.old.content.links ≡ false }
+        requires not_below { (is_directory self.old.content.files (linked_file self.old.content link) && is_at_or_below self.old.content.links (linked_file self.old.content link) parent) ≡ false }
+        requires free { IfSome (child_of self.old.content parent name) (λ other. IsTrue (other == link)) }
+        ensures content { self.new.content ≡ with_link_moved self.old.content link parent name }
+        ensures beside { self.new.beside ≡ self.old.beside }
+        ensures others { self.new.spare ≡ record self.old.spare { links = self.new.spare.links } }
+        ensures left { room_for self.old.spare.links parent ≤ room_for self.new.spare.links parent + 1 }
+        ensures kept { (dir : ℕ) → (dir == parent) ≡ false → room_for self.old.spare.links dir ≤ room_for self.new.spare.links dir }
+
+        // A note of it takes no more than the room that was told for the parent.
+        ensures units { (stream : Option ℕ) → units_noted self.new.content link stream ≤ units_in self.old.content parent (length name + length (stream_suffix self.old.content.streams stream)) }
+        ensures dirs { (stream : Option ℕ) → dirs_noted self.new.content link stream ≤ dirs_in self.old.content parent }
+    {
+        self.links.move_to(link, parent, name);
+    }
+
     /// Marks a link for deletion, or clears its mark. A directory that is marked has to be empty.
     pub fn mark_link(&mut self, link: u64, deleted: bool)
         requires empty { deleted ≡ true → IfSome (row_of self.old.content.links link) (λ row. has_child self.old.content.links row.file ≡ false) }
@@ -125,6 +166,9 @@ impl Volume {
         // A note takes no more room than it took.
         ensures units { (other : ℕ) (of : Option ℕ) → units_noted self.new.content other of ≤ units_noted self.old.content other of }
         ensures dirs { (other : ℕ) (of : Option ℕ) → dirs_noted self.new.content other of ≤ dirs_noted self.old.content other of }
+
+        // Another link can go where it was.
+        ensures stays { StaysWithout self.old.content self.new.content link }
     {
         let Some(row) = self.links.remove(link) else {
             return;

@@ -1,24 +1,43 @@
-//! The break of oplocks.
+//! Oplocks: their grant, their break, and what is answered to a break.
 
-ghost use Rattle.std.specs.Prelude.{ℕ, ◌≡◌, ◌≤◌, ◌<◌, ◌+◌, ◌-◌, ◌^◌, ◌++◌, length, map, []};
+ghost use Rattle.std.specs.Prelude.{ℕ, ◌≡◌, ◌≤◌, ◌<◌, ◌+◌, ◌-◌, ◌^◌, ◌++◌, length, map, [], false, Some, IsSome, option_map};
+ghost use Rattle.std.specs.Option.{option_map_or, ForSome};
+ghost use Rattle.fsa_types.specs.Oplocks.{in_both};
 ghost use Rattle.fsa_types.specs.declared.reply.Blocker.{Blocker};
 ghost use Rattle.fsa_types.specs.declared.reply.Blocker.TheVariants.{Break};
 ghost use Rattle.fsa_types.specs.declared.oplock.Class.{Class};
 ghost use Rattle.fsa_types.specs.declared.oplock.HandleSet.{HandleSet};
 ghost use Rattle.fsa_model.specs.Breaks.{with_breaks, awaited, told};
+ghost use Rattle.fsa_model.specs.Edits.{without_oplock};
+ghost use Rattle.fsa_model.specs.Grant.{is_not_granted, switched, target_of, with_answer, with_granted};
 ghost use Rattle.fsa_model.specs.Waiting.{with_oplock_given_up};
 ghost use Rattle.std.specs.Prelude.{Option};
-ghost use Rattle.volume_state.specs.Room.{KeepsEnds};
+ghost use Rattle.volume_state.specs.Oplocks.{Grants, key_of_handle};
+ghost use Rattle.volume_state.specs.Room.{KeepsEnds, stream_of_handle};
+ghost use Rattle.volume_state.specs.Seen.{room_for};
 
 use crate::volume::Volume;
-use fsa_types::{BlockerList, Class, HandleSet};
-use volume_breaks::{Tree, break_chosen, push_breaks};
+use fsa_types::{BlockerList, Class, HandleSet, Level};
+use volume_breaks::{
+    Opened, Tree, break_chosen, is_refused_among, push_breaks, release_breaks, switch_chosen,
+};
+use volume_rows::{find_target, in_both, is_open_by_others};
+
+/// Whether an oplock was granted.
+#[derive(Clone, Copy, Debug, PartialEq, Eq)]
+pub enum Grant {
+    /// It was, and the call is to be pending as granted.
+    Granted,
+    /// It wasn't, and nothing has changed.
+    Refused,
+}
 
 impl Volume {
     /// How many oplocks there are. Each `begin` tells at most so many calls, and waits for at most so
-    /// many breaks.
+    /// many breaks; each `grant` ends at most so many calls.
     pub fn oplocks(&self) -> u32
         ensures count { result ≡ length self.now.content.oplocks }
+        ensures switched { (handle key stream : ℕ) → length (switched self.now.content handle key stream) ≤ result }
         ensures told { (on : HandleSet) (class : Class) (handle : Option ℕ) (key : ℕ) → length (told self.now.content on class handle key) ≤ result }
         ensures awaited { (on : HandleSet) (class : Class) (handle : Option ℕ) (key : ℕ) → length (awaited self.now.content on class handle key) ≤ result }
     {
@@ -51,6 +70,132 @@ impl Volume {
         self.oplocks.choose(&tree, handles, handle, key);
         break_chosen(&mut self.oplocks, &mut self.pending, &mut self.ended, class);
         self.oplocks.await_breaks(class)
+    }
+
+    /// Whether no oplock of this level is granted to a handle with this key on its stream.
+    pub fn is_not_granted(&self, handle: u64, key: u64, stream: u64, level: Level) -> bool
+        ensures { result ≡ is_not_granted self.now.content handle key stream level }
+    {
+        let handles = self.handles.as_slice();
+        let others = is_open_by_others(handles, handle, key, stream);
+        let locked = self.handles.locks_of(stream).len() != 0;
+        let tree = Tree {
+            table: &self.table,
+            links: &self.links,
+            streams: &self.streams,
+            handles: &self.handles,
+        };
+        let opened = Opened {
+            handle,
+            key,
+            stream,
+        };
+        is_refused_among(
+            &tree,
+            opened,
+            level,
+            others,
+            locked,
+            self.oplocks.as_slice(),
+        )
+    }
+
+    /// Grants an oplock of this level to a handle on its stream, unless it is refused; the call that is
+    /// pending under this turn, or will be, is its own. Oplocks of handles of the same key on the stream
+    /// end, and the calls that are pending as granted with them. The handle has to have a stream. Room has
+    /// to be reserved for one oplock on it, and for the ends of these calls.
+    pub fn grant(&mut self, handle: u64, level: Level, turn: u64) -> Grant
+        requires stream { IsSome (stream_of_handle self.old.content handle) }
+        requires room { ForSome (stream_of_handle self.old.content handle) (λ stream. 1 ≤ room_for self.old.spare.oplocks stream) }
+        requires ends { ForSome (stream_of_handle self.old.content handle) (λ stream. length (switched self.old.content handle (key_of_handle self.old.content handle) stream) ≤ self.old.spare.ends) }
+        ensures grants { ForSome (stream_of_handle self.old.content handle) (λ stream. Grants self.old.content handle (key_of_handle self.old.content handle) stream level turn self.new.content result) }
+        ensures numbers { self.new.content.last_break ≡ self.old.content.last_break }
+        ensures beside { self.new.beside ≡ self.old.beside }
+        ensures others { self.new.spare ≡ record self.old.spare { oplocks = self.new.spare.oplocks; ends = self.new.spare.ends } }
+        ensures left { ForSome (stream_of_handle self.old.content handle) (λ stream. room_for self.old.spare.oplocks stream ≤ room_for self.new.spare.oplocks stream + 1) }
+        ensures ends_left { ForSome (stream_of_handle self.old.content handle) (λ stream. self.old.spare.ends ≤ self.new.spare.ends + length (switched self.old.content handle (key_of_handle self.old.content handle) stream)) }
+        ensures ends { KeepsEnds self.old self.new }
+    {
+        let Some(opened) = self.opened(handle) else {
+            unreachable!()
+        };
+        let Opened {
+            handle,
+            key,
+            stream,
+        } = opened;
+        if self.is_not_granted(handle, key, stream, level) {
+            return Grant::Refused;
+        }
+        self.grant_to(opened, level, turn);
+        Grant::Granted
+    }
+
+    // The handle with its key and its stream, where it has one.
+    fn opened(&self, handle: u64) -> Option<Opened>
+        ensures { result ≡ option_map (λ stream. record { handle = handle; key = key_of_handle self.now.content handle; stream = stream }) (stream_of_handle self.now.content handle) }
+    {
+        let row = self.handles.get(handle)?;
+        let stream = row.stream?;
+        Some(Opened {
+            handle,
+            key: row.key,
+            stream,
+        })
+    }
+
+    // Grants an oplock that isn't refused.
+    fn grant_to(&mut self, opened: Opened, level: Level, turn: u64)
+        requires stream { stream_of_handle self.old.content opened.handle ≡ Some opened.stream }
+        requires key { opened.key ≡ key_of_handle self.old.content opened.handle }
+        requires free { is_not_granted self.old.content opened.handle opened.key opened.stream level ≡ false }
+        requires room { 1 ≤ room_for self.old.spare.oplocks opened.stream }
+        requires ends { length (switched self.old.content opened.handle opened.key opened.stream) ≤ self.old.spare.ends }
+        ensures content { self.new.content ≡ with_granted self.old.content opened.handle opened.key opened.stream level turn }
+        ensures numbers { self.new.content.last_break ≡ self.old.content.last_break }
+        ensures beside { self.new.beside ≡ self.old.beside }
+        ensures others { self.new.spare ≡ record self.old.spare { oplocks = self.new.spare.oplocks; ends = self.new.spare.ends } }
+        ensures left { room_for self.old.spare.oplocks opened.stream ≤ room_for self.new.spare.oplocks opened.stream + 1 }
+        ensures ends_left { self.old.spare.ends ≤ self.new.spare.ends + length (switched self.old.content opened.handle opened.key opened.stream) }
+        ensures ends { KeepsEnds self.old self.new }
+    {
+        let tree = Tree {
+            table: &self.table,
+            links: &self.links,
+            streams: &self.streams,
+            handles: &self.handles,
+        };
+        self.oplocks.choose_switched(&tree, opened);
+        switch_chosen(&mut self.oplocks, &mut self.pending, &mut self.ended);
+        self.oplocks.grant(opened.handle, opened.key, level, turn);
+    }
+
+    /// Answers the break in progress on a handle: what is in this level and in the one that it was told
+    /// stays, and is given; the call that is pending under this turn, or will be, is its own then. Where
+    /// nothing stays the oplock ends. `None` exactly where no break of it is in progress, and then nothing
+    /// changes. No call waits for the break any more.
+    pub fn answer_break(&mut self, handle: u64, level: Level, turn: u64) -> Option<Level>
+        ensures kept { result ≡ option_map (λ target. in_both level target) (target_of self.old.content handle) }
+        ensures content { self.new.content ≡ option_map_or (λ kept. with_answer self.old.content handle kept turn) result self.old.content }
+        ensures beside { self.new.beside ≡ self.old.beside }
+        ensures room { self.new.spare ≡ self.old.spare }
+    {
+        let target = find_target(self.oplocks.as_slice(), handle)?;
+        let kept = in_both(level, target);
+        release_breaks(&mut self.pending, self.oplocks.as_slice(), handle);
+        self.oplocks.answer(handle, kept, turn);
+        Some(kept)
+    }
+
+    /// Takes the oplock of a handle out, with its break; where there is none nothing changes. No call waits
+    /// for the break any more. The call that is pending as granted stays pending.
+    pub fn drop_oplock(&mut self, handle: u64)
+        ensures content { self.new.content ≡ without_oplock self.old.content handle }
+        ensures beside { self.new.beside ≡ self.old.beside }
+        ensures room { self.new.spare ≡ self.old.spare }
+    {
+        release_breaks(&mut self.pending, self.oplocks.as_slice(), handle);
+        self.oplocks.drop_of(handle);
     }
 
     /// Takes the oplock out that is granted to the call that is pending under this turn, where there is one.

@@ -33,6 +33,13 @@ impl Volume {
         self.pending.as_slice().len()
     }
 
+    /// How many more calls can be made pending without taking memory.
+    pub fn pending_room(&self) -> usize
+        ensures { result ≡ self.now.spare.pending }
+    {
+        self.pending.room()
+    }
+
     /// The least turn above `after` under which a call is pending; `None` exactly where there is none.
     pub fn next_pending(&self, after: u64) -> Option<u64>
         ensures found { result ≡ next_pending self.now.content after }

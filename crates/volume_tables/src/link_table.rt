@@ -6,7 +6,7 @@ ghost use Rattle.fsa_types.specs.Rows.{row_of, without_row, with_row_changed, Is
 ghost use Rattle.volume_tables.specs.Rooms.{room_in};
 
 use crate::room_list::RoomList;
-use fsa_types::NoMemory;
+use fsa_types::{Name, NoMemory};
 use object_tables::Table;
 use std::alloc::Global;
 use std::marker::Model;
@@ -106,6 +106,16 @@ impl LinkTable {
         mark(&mut self.table, id, deleted);
     }
 
+    /// Gives a link another name, in this directory or in another one. It takes no memory, and leaves the
+    /// room of each directory.
+    pub fn move_to(&mut self, id: u64, parent: u64, name: Name)
+        ensures rows { self.new.rows ≡ with_row_changed (λ row. record row { parent = parent; name = name }) self.old.rows id }
+        ensures last { self.new.last ≡ self.old.last }
+        ensures rooms { self.new.rooms ≡ self.old.rooms }
+    {
+        move_to(&mut self.table, id, parent, name);
+    }
+
     /// Takes the link of this number out; `None` exactly where there is none. It takes no memory, and
     /// leaves the room of each directory.
     pub fn remove(&mut self, id: u64) -> Option<LinkRow>
@@ -126,5 +136,17 @@ fn mark(links: &mut Table<LinkRow>, id: u64, deleted: bool)
 {
     if let Some(row) = links.get_mut(id) {
         row.deleted = deleted;
+    }
+}
+
+// Gives a link another name, in this directory or in another one.
+fn move_to(links: &mut Table<LinkRow>, id: u64, parent: u64, name: Name)
+    ensures rows { links.new.rows ≡ with_row_changed (λ row. record row { parent = parent; name = name }) links.old.rows id }
+    ensures last { links.new.last ≡ links.old.last }
+    ensures room { links.new.room ≡ links.old.room }
+{
+    if let Some(row) = links.get_mut(id) {
+        row.parent = parent;
+        row.name = name;
     }
 }

@@ -8,7 +8,7 @@ use Rattle.fsa_model.proofs.RowLaws.{without_row-none}
 use Rattle.fsa_model.proofs.SoundLaws.{IsSound-without_link, without_link-last, without_link-other}
 use Rattle.volume_state.specs.Inside.{content_of}
 use Rattle.volume_state.specs.Seen.{Seen}
-use Rattle.volume_state.proofs.DropLaws.{units_noted-without_link, dirs_noted-without_link}
+use Rattle.volume_state.proofs.DropLaws.{StaysWithout-without_link, units_noted-without_link, dirs_noted-without_link}
 use Rattle.std.proofs.Common.{◌≡◌}
 use Rattle.fsa_types.proofs.RowLemmas.{lives-map}
 use Rattle.volume_state.proofs.StreamLemmas.{row_of-filter, rooms-same, AreRising-seen}
@@ -118,3 +118,16 @@ returns-clause-units c =
 pub returns-clause-dirs : goal.returns-clause-dirs
 returns-clause-dirs c =
     dirs_noted-without_link c.args.self.now.content c.args.link (subst (λ (s : Seen). IsSound s.content) c.self.view_is c.self.invariant.0) _ (returns-clause-content c)
+
+-- what stays
+pub returns-in_default-clause-stays : goal.returns-in_default-clause-stays
+returns-in_default-clause-stays c =
+    StaysWithout-without_link c.args.self.now.content c.args.link (subst (λ (s : Seen). IsSound s.content) c.self.view_is c.self.invariant.0) c.requires.empty _ (returns-in_default-clause-content c)
+
+pub returns-then-not-has_link-clause-stays : goal.returns-then-not-has_link-clause-stays
+returns-then-not-has_link-clause-stays c =
+    StaysWithout-without_link c.args.self.now.content c.args.link (subst (λ (s : Seen). IsSound s.content) c.self.view_is c.self.invariant.0) c.requires.empty _ (returns-then-not-has_link-clause-content c)
+
+pub returns-clause-stays : goal.returns-clause-stays
+returns-clause-stays c =
+    StaysWithout-without_link c.args.self.now.content c.args.link (subst (λ (s : Seen). IsSound s.content) c.self.view_is c.self.invariant.0) c.requires.empty _ (returns-clause-content c)

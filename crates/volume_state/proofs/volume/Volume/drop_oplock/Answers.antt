@@ -1,0 +1,12 @@
+use Rattle.fsa_model.proofs.SoundWaits.{IsSound-without_oplock}
+use Rattle.volume_state.specs.Inside.{content_of}
+use Rattle.volume_state.proofs.GrantLaws.{held-without_oplock}
+use Rattle.volume_state.proofs.volume.Volume.drop_oplock.Goals as goal
+
+pub invariant_of-self : goal.invariant_of-self
+invariant_of-self c = (
+  rw (c.drop_of.ensures, c.release_breaks.ensures.others) (IsSound-without_oplock (content_of c.self.inside) c.args.handle c.self.invariant.0),
+  rw c.drop_of.ensures (
+      held-without_oplock c.self.inside.oplocks.rows c.self.inside.handles.locks c.self.inside.pending c.release_breaks.new.pending c.args.handle c.self.inside.oplocks.last
+      c.self.invariant.0.oplocks (rw c.as_slice.ensures at c.release_breaks.ensures.held) c.self.invariant.1),
+)
