@@ -11,6 +11,7 @@ use Rattle.fsa_model.specs.Write.{try_write}
 use Rattle.fsa_model.specs.Flush.{try_flush}
 use Rattle.fsa_model.specs.Locking.{try_lock, try_unlock}
 use Rattle.fsa_model.specs.SetEnd.{try_set_end}
+pub use Rattle.volume_state.specs.Tried.{HasAnswer}
 use Rattle.volume_state.specs.declared.tried.Tried.{Tried}
 use Rattle.volume_state.specs.declared.tried.Tried.TheVariants as tried
 
@@ -78,8 +79,3 @@ asked_unlock v client _ = refused v InvalidDeviceRequest
 abbrev pub IsDone : Tried → Type 0
 IsDone (tried.Done reply) = Unit {0}
 IsDone _ = ⊥
-
--- it didn't find that there was no memory
-abbrev pub HasAnswer : Tried → Type 0
-HasAnswer tried.NoMemory = ⊥
-HasAnswer _ = Unit {0}

@@ -1,4 +1,5 @@
 pub mod CloseLaws
+pub mod DispositionLaws
 pub mod EndLaws
 pub mod LeaveLaws
 pub mod ListLaws

@@ -43,14 +43,6 @@ pub filter-none : {T : Type 0} (test : T → Bool) (items : List T) → All (λ 
 filter-none test [] none = refl
 filter-none test (item ∷ items) none = let here : test item ≡ false = none 0 item (omega arith) in rw here (filter-none test items (λ k d within. none (suc k) d (omega arith)))
 
--- some item passes exactly where those that do are more than none
-pub any-count : {T : Type 0} (test : T → Bool) (items : List T) → not (length (filter test items) == 0) ≡ list_any test items
-any-count test [] = refl
-any-count test (item ∷ items) = elim (cases_Bool (test item)) [
-  | inl passes ↦ rw (passes, ne_eqb (suc (length (filter test items))) 0 (λ e. absurd (omega arith))) refl
-  | inr fails ↦ rw fails (any-count test items)
-]
-
 -- without one that was there are fewer
 pub fewer : {T : Type 0} (test kept : T → Bool) (items : List T) (item : T) → find test items ≡ Some item → kept item ≡ false → length (filter kept items) < length items
 fewer test kept [] item found gone = cc

@@ -1,5 +1,6 @@
-//! Closing a handle, and leaving, over a volume, after [MS-FSA] 'Server Requests Closing an Open': one try
-//! of a Close, and one of a client that leaves.
+//! Marking for deletion, closing a handle, and leaving, over a volume, after [MS-FSA] 'Server Requests
+//! Setting of File Information', FileDispositionInformation, and 'Server Requests Closing an Open': one try
+//! of a SetDisposition, of a Close, and of a client that leaves.
 //!
 //! ```text
 //! match try_close(alloc, &mut volume, &call, turn) {
@@ -7,21 +8,29 @@
 //!     Tried::NoMemory => ..          // nothing has changed, not even a pending call has ended
 //!     _ => ..                        // a close is never held and never stays; nor is a leaving
 //! }
+//! match try_set_disposition(alloc, &mut volume, &call, turn) {
+//!     Tried::Hold { blockers, .. } => ..     // an oplock has to be broken first
+//!     _ => ..                                // as a close; it never stays
+//! }
 //! ```
 //!
-//! The definition is `Close` of `fsa_model`. The files here follow it: the pending calls that end with a
-//! handle or a client (`ends`), what DELETE_ON_CLOSE marks (`marks`), what goes with its last handle
-//! (`sweep`), the room that is taken first (`room`), a close (`close`), and a leaving (`leave`).
+//! The definitions are `SetDisposition` and `Close` of `fsa_model`. The files here follow them: what is
+//! marked (`marks`), a SetDisposition (`disposition`); the pending calls that end with a handle or a client
+//! (`ends`), what goes with its last handle (`sweep`), the room that is taken first (`room`), a close
+//! (`close`), and a leaving (`leave`).
 //!
-//! - The call has to be a Close, or a `Leave`, and its client one of the volume's. Pending calls, locks,
-//!   oplocks, watches and marks may be there.
-//! - All room is taken before the first change: as many ends as calls are pending, and two notes for each
-//!   handle that is closed. What is noted later takes no more room than it would have taken then.
+//! - The call has to be a SetDisposition, a Close or a `Leave`. Of the last two the client has to be one of
+//!   the volume's; a SetDisposition needs numbers for breaks. Pending calls, locks, oplocks, watches and
+//!   marks may be there.
+//! - All room is taken before the first change: for a SetDisposition that of a call that is held; for a close
+//!   as many ends as calls are pending, and two notes for each handle that is closed. What is noted later
+//!   takes no more room than it would have taken then.
 //! - A close costs a look through the pending calls for each of them, and a few through the other tables;
 //!   a leaving costs that for each handle of the client.
 #![tactic(auto)]
 
 mod close;
+mod disposition;
 mod ends;
 mod leave;
 mod marks;
@@ -31,4 +40,5 @@ mod sweep;
 mod tests;
 
 pub use close::try_close;
+pub use disposition::try_set_disposition;
 pub use leave::try_leave;

@@ -1,33 +1,18 @@
-//! What DELETE_ON_CLOSE marks for deletion.
+//! What is marked for deletion, by DELETE_ON_CLOSE and by a SetDisposition.
 
 ghost use Rattle.std.specs.Prelude.{◌≡◌, ◌≤◌, ◌==◌, not, true, false, length, IfSome, if◌then◌else◌};
 ghost use Rattle.fsa_types.specs.Rows.{row_of};
 ghost use Rattle.fsa_model.specs.Close.{is_link_of_parent, named_stream, with_mark_on_close};
 ghost use Rattle.fsa_model.specs.Edits.{with_link_marked};
 ghost use Rattle.fsa_model.specs.Lookups.{has_child};
+ghost use Rattle.fsa_model.specs.SetDisposition.{marked_handles, with_mark};
 ghost use Rattle.op_delete.specs.Room.{NotesTakeNoMore};
 
-use op_parts::is_named_stream;
-use volume_state::{HandleRow, Volume};
+use op_parts::named_stream;
+use volume_state::{HandleRow, HandleSet, Volume};
 
-// The stream of a handle, where it is a named one.
-fn named_stream(volume: &Volume, handle: &HandleRow) -> Option<u64>
-    ensures { result ≡ named_stream volume.now.content handle.now }
-{
-    match handle.stream {
-        None => None,
-        Some(stream) => {
-            if is_named_stream(volume, stream) {
-                Some(stream)
-            } else {
-                None
-            }
-        }
-    }
-}
-
-// Whether the link is that of a directory with a link in it, marked or not.
-fn is_link_of_parent(volume: &Volume, link: u64) -> bool
+/// Whether the link is that of a directory with a link in it, marked or not.
+pub fn is_link_of_parent(volume: &Volume, link: u64) -> bool
     ensures of_parent { result ≡ is_link_of_parent volume.now.content link }
     ensures empty { result ≡ false → IfSome (row_of volume.now.content.links link) (λ row. has_child volume.now.content.links row.file ≡ false) }
 {
@@ -63,5 +48,29 @@ pub fn mark_on_close(volume: &mut Volume, handle: &HandleRow)
     match named_stream(volume, handle) {
         Some(stream) => volume.mark_stream(stream, true),
         None => mark_empty(volume, handle.link),
+    }
+}
+
+/// The handles of what a SetDisposition by this handle marks: of its stream, where it is a named one, or
+/// else those that were opened by its link.
+pub fn marked_handles(volume: &Volume, handle: &HandleRow) -> HandleSet
+    ensures { result ≡ marked_handles volume.now.content handle.now }
+{
+    match named_stream(volume, handle) {
+        Some(stream) => HandleSet::Stream(stream),
+        None => HandleSet::Link(handle.link),
+    }
+}
+
+/// Marks the stream of a handle, where it is a named one, or else its link, or clears that mark. A
+/// directory that is marked has to be empty. The root has no link and no mark.
+pub fn set_mark(volume: &mut Volume, handle: &HandleRow, delete: bool)
+    requires empty { delete ≡ true → IfSome (row_of volume.old.content.links handle.now.link) (λ row. has_child volume.old.content.links row.file ≡ false) }
+    ensures content { volume.new.content ≡ with_mark volume.old.content handle.now delete }
+    ensures room { volume.new.spare ≡ volume.old.spare }
+{
+    match named_stream(volume, handle) {
+        Some(stream) => volume.mark_stream(stream, delete),
+        None => volume.mark_link(handle.link, delete),
     }
 }

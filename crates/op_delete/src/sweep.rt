@@ -10,22 +10,15 @@ ghost use Rattle.op_delete.specs.Room.{HasSweepRoom, KeepsRoom, NotesTakeNoMore,
 
 use bitflags::Flags;
 use fsa_types::{FILE_ACTION_REMOVED, FILE_ACTION_REMOVED_STREAM, NotifyFilter};
-use op_parts::is_marked;
+use op_parts::{is_any_open, is_link_marked, is_marked, name_bit};
 use volume_state::{HandleRow, HandleSet, Volume};
-
-// Whether there is a handle of the set.
-fn has_handle(volume: &Volume, on: HandleSet) -> bool
-    ensures { result ≡ has_row (is_on volume.now.content on) volume.now.content.handles }
-{
-    volume.handles_on(on) != 0
-}
 
 // Whether a stream is marked and has no handle.
 fn is_stream_over(volume: &Volume, stream: u64) -> bool
     ensures over { result ≡ is_stream_over volume.now.content stream }
     ensures unopened { result ≡ true → has_row (is_open_on stream) volume.now.content.handles ≡ false }
 {
-    is_marked(volume, stream) && !has_handle(volume, HandleSet::Stream(stream))
+    is_marked(volume, stream) && !is_any_open(volume, HandleSet::Stream(stream))
 }
 
 // A stream that is marked and has no handle is noted, under this link, and taken out.
@@ -66,40 +59,13 @@ fn sweep_own_stream(volume: &mut Volume, handle: &HandleRow)
     }
 }
 
-// Whether a link is marked for deletion.
-fn is_link_marked(volume: &Volume, link: u64) -> bool
-    ensures marked { result ≡ option_map_or (λ row. row.deleted) (row_of volume.now.content.links link) false }
-    ensures empty { result ≡ true → IfSome (row_of volume.now.content.links link) (λ row. has_child volume.now.content.links row.file ≡ false) }
-{
-    match volume.link(link) {
-        None => false,
-        Some(row) => row.deleted,
-    }
-}
-
 // Whether a link is marked and has no handle.
 fn is_link_over(volume: &Volume, link: u64) -> bool
     ensures over { result ≡ is_link_over volume.now.content link }
     ensures empty { result ≡ true → IfSome (row_of volume.now.content.links link) (λ row. has_child volume.now.content.links row.file ≡ false) }
     ensures unopened { result ≡ true → has_row (is_open_by link) volume.now.content.handles ≡ false }
 {
-    is_link_marked(volume, link) && !has_handle(volume, HandleSet::Link(link))
-}
-
-// The filter bit under which a link's removal is seen.
-fn name_bit(volume: &Volume, link: u64) -> u32
-    ensures { result ≡ name_bit volume.now.content link }
-{
-    match volume.link(link) {
-        None => NotifyFilter::FILE_NAME.bits(),
-        Some(row) => {
-            if volume.is_directory(row.file) {
-                NotifyFilter::DIR_NAME.bits()
-            } else {
-                NotifyFilter::FILE_NAME.bits()
-            }
-        }
-    }
+    is_link_marked(volume, link) && !is_any_open(volume, HandleSet::Link(link))
 }
 
 // A link that is marked and has no handle is noted and taken out, and with a file's last link the file.

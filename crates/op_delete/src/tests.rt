@@ -1,11 +1,11 @@
-//! One close and one leaving each of a volume with one file, with ample memory.
+//! One close, one leaving and one mark for deletion each of a volume with one file, with ample memory.
 
 ghost use Rattle.std.specs.Prelude.{◌≡◌, ◌<◌, ◌-◌, ◌^◌, [], All, IfOk, OnOk, None, false, length};
 ghost use Rattle.fsa_model.specs.Lookups.{child_of, handle_of};
-ghost use Rattle.op_delete.specs.Calls.{IsClose, IsLeave};
-ghost use Rattle.op_delete.specs.Conditions.{MayEnd};
+ghost use Rattle.op_delete.specs.Calls.{IsClose, IsLeave, IsSetDisposition};
+ghost use Rattle.op_delete.specs.Conditions.{MayEnd, MayMark};
 
-use crate::{try_close, try_leave};
+use crate::{try_close, try_leave, try_set_disposition};
 use fsa_types::{
     Bytes, Call, Client, ClientList, Name, NoMemory, Request, Setup, SidList, Status, UpcaseTable,
     What,
@@ -33,6 +33,7 @@ fn fresh_volume(alloc: Global) -> Result<Volume, NoMemory>
     ensures numbers { IfOk result (λ v. (v.content.last_file ≡ 1) × (v.content.last_link ≡ 0) × (v.content.last_stream ≡ 0) × (v.content.last_handle ≡ 0)) }
     ensures rows { IfOk result (λ v. v.content.handles ≡ []) }
     ensures client { IfOk result (λ v. length v.content.clients ≡ 1) }
+    ensures breaks { IfOk result (λ v. v.content.last_break ≡ 0) }
 {
     let setup = setup(alloc)?;
     Volume::new(alloc, setup)
@@ -62,6 +63,7 @@ fn open_file(volume: &mut Volume, name: Name, default: Name) -> Result<(), NoMem
     requires client { length volume.old.content.clients ≡ 1 }
     requires new { child_of volume.old.content 1 name ≡ None }
     ensures client { OnOk result (length volume.new.content.clients ≡ 1) }
+    ensures breaks { OnOk result (volume.new.content.last_break ≡ volume.old.content.last_break) }
 {
     let root = volume.root();
     volume.reserve(&Need {
@@ -93,6 +95,7 @@ fn open_file(volume: &mut Volume, name: Name, default: Name) -> Result<(), NoMem
 // A volume with the file `\f`, so opened.
 fn volume_with_file(alloc: Global) -> Result<Volume, Fail>
     ensures may { IfOk result (λ v. MayEnd v.content 0) }
+    ensures mark { IfOk result (λ v. MayMark v.content) }
 {
     let mut volume = fresh_volume(alloc)?;
     let name = Name::copy_of(alloc, &[102])?;
@@ -145,5 +148,31 @@ fn a_leaving_has_its_answer_where_memory_is_there(rt: HostRuntime) -> Result<(),
     assert!(rt; volume.has_left(0));
     assert!(rt; volume.handle_of(0, 1).is_none());
     assert!(rt; volume.child(1, &[102]).is_none());
+    Ok(())
+}
+
+// How a mark by the handle of this number ends, or its clearing, and whether `\f` is marked then.
+fn marked(alloc: Global, handle: u32, delete: bool) -> Result<(Status, bool), Fail> {
+    let mut volume = volume_with_file(alloc)?;
+    let call = call_of(What::Ask(Request::SetDisposition { handle, delete }));
+    let Tried::Done(reply) = try_set_disposition(alloc, &mut volume, &call, 1) else {
+        return Err(Fail::from("the call hasn't ended"));
+    };
+    let Some(link) = volume.child(1, &[102]) else {
+        return Err(Fail::from("the file is gone"));
+    };
+    let is_marked = match volume.link(link) {
+        None => false,
+        Some(row) => row.deleted,
+    };
+    Ok((reply.status, is_marked))
+}
+
+#[test]
+fn a_mark_has_its_answer_where_memory_is_there(rt: HostRuntime) -> Result<(), Fail> {
+    let alloc = rt.alloc();
+    assert_eq!(rt; marked(alloc, 1, true)?, (Status::Success, true));
+    assert_eq!(rt; marked(alloc, 1, false)?, (Status::Success, false));
+    assert_eq!(rt; marked(alloc, 3, true)?, (Status::InvalidHandle, false));
     Ok(())
 }

@@ -9,7 +9,7 @@ ghost use Rattle.volume_state.specs.Room.{KeepsEnds};
 use crate::asked::asks_something;
 use bitflags::Flags;
 use fsa_types::{Dacl, DaclChange, FILE_ACTION_MODIFIED, NotifyFilter};
-use op_parts::{access_time, attributes_of, creation_time, write_time};
+use op_parts::set_change_time;
 use volume_state::Volume;
 
 // The owner that is asked for is set.
@@ -35,20 +35,6 @@ fn set_dacl_asked(volume: &mut Volume, file: u64, dacl: &DaclChange, list: Optio
         DaclChange::Keep => {}
         DaclChange::Remove | DaclChange::Put(_) => volume.set_dacl(file, list),
     }
-}
-
-// The change time of a file is this moment.
-fn set_change_time(volume: &mut Volume, file: u64)
-    ensures content { volume.new.content ≡ with_change_time volume.old.content file }
-    ensures rest { volume.new.content ≡ record volume.old.content { files = volume.new.content.files } }
-    ensures spare { volume.new.spare ≡ volume.old.spare }
-{
-    let creation = creation_time(volume, file);
-    let access = access_time(volume, file);
-    let write = write_time(volume, file);
-    let attributes = attributes_of(volume, file);
-    let now = volume.clock();
-    volume.set_basic(file, creation, access, write, now, attributes);
 }
 
 // The change is noted, where something is asked.

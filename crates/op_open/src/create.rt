@@ -10,22 +10,20 @@ ghost use Rattle.fsa_model.specs.Open.{access_of, create_at, create_by_link, cre
 ghost use Rattle.fsa_model.specs.Walk.{last_name};
 ghost use Rattle.op_open.specs.Calls.{IsCreate, asked_try};
 ghost use Rattle.op_open.specs.Conditions.{IsOpenBy, IsThere, MayOpen};
-ghost use Rattle.op_open.specs.Walks.{CanHold, IsIn, ReachesHolder, walked_of};
-ghost use Rattle.volume_state.specs.Living.{is_link_to};
+ghost use Rattle.op_parts.specs.Walks.{IsIn, ReachesHolder, walked_of};
+ghost use Rattle.volume_state.specs.Living.{CanHold, is_link_to};
 ghost use Rattle.volume_state.specs.Room.{KeepsEnds};
 ghost use Rattle.volume_state.specs.Tried.{Gives, HasHoldRoom};
 
 use crate::asked::{Asked, only_makes, overwrites};
-use crate::ends::stopped;
 use crate::make::{create_missing, create_stream};
 use crate::open::{open_directory, open_stream};
 use crate::opening::Opening;
-use crate::rights::{grants, is_readonly, uncovers};
-use crate::walk::{Walked, has_point, walk};
+use crate::rights::uncovers;
 use bitflags::Flags;
 use fsa_types::{AccessMask, Call, Disposition, Request, Status, What};
 use names::{PathParts, split_path};
-use op_parts::{attributes_of, is_marked};
+use op_parts::{Walked, attributes_of, grants, has_point, is_marked, is_readonly, stopped, walk};
 use std::alloc::Global;
 use volume_state::{Tried, Volume};
 

@@ -11,10 +11,10 @@
 //! ```
 //!
 //! The definition is `Open` of `fsa_model`, with `Walk` for the path: the checks of the public standard in
-//! this project's order. The files here follow it: what is asked for (`asked`, `opening`), the walk
-//! (`walk`), what a file grants and forbids (`rights`), what is made (`make`), what is there and is opened
+//! this project's order. The files here follow it: what is asked for (`asked`, `opening`), the owner of what
+//! is made, and what an overwrite may not uncover (`rights`), what is made (`make`), what is there and is opened
 //! or overwritten (`open`), the checks in order (`create`), the break of a clash (`breaks`) and how it ends
-//! (`ends`). The break itself is that of `op_parts`.
+//! (`ends`). The break itself, the walk along the path and what a file grants are those of `op_parts`.
 //!
 //! - The call has to be a Create, its client one of the volume's with no handle of the call's number, and
 //!   numbers have to be left for a file, a link, two streams, a handle and breaks.
@@ -34,6 +34,5 @@ mod rights;
 mod room;
 #[cfg(test)]
 mod tests;
-mod walk;
 
 pub use create::try_create;

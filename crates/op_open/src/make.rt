@@ -11,9 +11,8 @@ ghost use Rattle.fsa_model.specs.Sound.{PointFits, is_link_of_directory};
 ghost use Rattle.op_open.specs.Conditions.{MayOpen};
 ghost use Rattle.volume_state.specs.Room.{KeepsEnds};
 ghost use Rattle.volume_state.specs.Seen.{room_for};
-ghost use Rattle.op_open.specs.Walks.{CanHold};
 ghost use Rattle.fsa_model.specs.Changes.{units_noted, dirs_noted};
-ghost use Rattle.volume_state.specs.Living.{is_link_to};
+ghost use Rattle.volume_state.specs.Living.{CanHold, is_link_to};
 ghost use Rattle.volume_state.specs.Paths.{units_in, dirs_in};
 ghost use Rattle.volume_state.specs.Tried.{Gives, HasHoldRoom};
 ghost use Rattle.fsa_types.specs.declared.reply.Action.TheVariants as action;
@@ -23,12 +22,13 @@ use crate::asked::{Asked, has_attribute, only_opens};
 use crate::ends::{open_handle, opens};
 use crate::open::{file_attributes, kept_attributes};
 use crate::opening::Opening;
-use crate::rights::{first_sid, grants, is_readonly};
+use crate::rights::first_sid;
 use bitflags::Flags;
 use fsa_types::{
     AccessMask, Action, FILE_ACTION_ADDED, FILE_ACTION_ADDED_STREAM, FileAttributes, Name,
     NoMemory, NotifyFilter, Status,
 };
+use op_parts::{grants, is_readonly};
 use std::alloc::Global;
 use volume_state::{FileRow, Need, Tried, Volume};
 

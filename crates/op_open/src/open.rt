@@ -11,14 +11,13 @@ ghost use Rattle.volume_state.specs.Tried.{Gives, HasHoldRoom};
 use crate::asked::{Asked, overwrites};
 use crate::breaks::clashed;
 use crate::ends::{open_handle, opens};
-use crate::rights::{grants, is_readonly};
 use crate::room::{room_to_open, room_to_overwrite};
 use bitflags::Flags;
 use fsa_types::{
     Action, BlockerList, Disposition, FILE_ACTION_MODIFIED, FILE_ACTION_MODIFIED_STREAM,
     FileAttributes, NotifyFilter, Status,
 };
-use op_parts::{access_time, break_for, creation_time, held};
+use op_parts::{access_time, break_for, creation_time, grants, held, is_readonly};
 use std::alloc::Global;
 use volume_state::{Class, HandleSet, Tried, Volume};
 

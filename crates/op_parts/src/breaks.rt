@@ -1,6 +1,6 @@
 //! The break of oplocks by a request, and a call that is held.
 
-ghost use Rattle.std.specs.Prelude.{◌≡◌, ◌<◌, ◌^◌, map};
+ghost use Rattle.std.specs.Prelude.{◌≡◌, ◌≤◌, ◌<◌, ◌+◌, ◌^◌, length, map};
 ghost use Rattle.fsa_types.specs.declared.reply.Blocker.TheVariants.{Break};
 ghost use Rattle.fsa_model.specs.Breaks.{awaited, with_breaks};
 ghost use Rattle.fsa_model.specs.Waits.{waits_for};
@@ -32,6 +32,12 @@ pub fn break_for(
     ensures ends { KeepsEnds volume.old volume.new }
     ensures waits { result ≡ waits_for volume.old.content on class handle key }
     ensures blockers { blockers.new.items ≡ map Break (awaited volume.old.content on class handle key) }
+
+    // So that one break can follow another.
+    ensures list { blockers.new.room ≡ blockers.old.room }
+    ensures left { volume.old.spare.ends ≤ volume.new.spare.ends + length volume.old.content.oplocks }
+    ensures few { length volume.new.content.oplocks ≤ length volume.old.content.oplocks }
+    ensures last { volume.new.content.last_break ≤ volume.old.content.last_break + length volume.old.content.oplocks }
 {
     let count = volume.begin(on, class, handle, key);
     volume.waited(blockers);

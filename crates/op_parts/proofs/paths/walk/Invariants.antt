@@ -1,8 +1,8 @@
 use Rattle.std.proofs.Common.{◌≡◌, ◌+◌, length}
 use Rattle.fsa_types.specs.Paths.{components}
 use Rattle.fsa_model.specs.Walk.{walk_from}
-use Rattle.op_open.specs.Walks.{CanHold}
-use Rattle.op_open.proofs.walk.walk.Given as goal
+use Rattle.volume_state.specs.Living.{CanHold}
+use Rattle.op_parts.proofs.paths.walk.Given as goal
 
 abbrev pub invariant-loop-name : goal.invariant-loop-name
 invariant-loop-name l = record {

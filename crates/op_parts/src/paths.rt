@@ -4,7 +4,8 @@ ghost use Rattle.std.specs.Prelude.{◌≡◌, ◌+◌, ◌<◌, ◌^◌, true, 
 ghost use Rattle.fsa_types.specs.Paths.{components};
 ghost use Rattle.fsa_model.specs.Lookups.{is_directory};
 ghost use Rattle.fsa_model.specs.Walk.{by_link, into, point_of, through, walk};
-ghost use Rattle.op_open.specs.Walks.{CanHold, IsIn, ReachesHolder, walked_of};
+ghost use Rattle.op_parts.specs.Walks.{IsIn, ReachesHolder, walked_of};
+ghost use Rattle.volume_state.specs.Living.{CanHold};
 
 use fsa_types::Status;
 use names::PathParts;
