@@ -7,7 +7,9 @@ mod LeastLemmas
 mod LineLemmas
 mod LockLineLemmas
 mod NameLemmas
+mod NameLineLemmas
 mod OpenLineLemmas
+mod OplockLineLemmas
 mod PairLemmas
 mod ReadLemmas
 mod RunLemmas

@@ -8,7 +8,7 @@ use Rattle.fsa_types.specs.declared.request.Disposition.{Disposition}
 use Rattle.fsa_types.specs.declared.request.Disposition.TheVariants.{Supersede, OpenExisting, CreateNew, OpenIf, Overwrite, OverwriteIf}
 use Rattle.fsa_model.specs.Words.{most_id}
 use Rattle.fsa_model.specs.FieldText.{number_text, mask_text}
-use Rattle.fsa_model.specs.OpenLines.{most_key, disposition_at, disposition_text, is_built_create, create_fields, create_text, is_create, close_fields}
+use Rattle.fsa_model.specs.OpenLines.{most_key, disposition_at, disposition_text, create_fields, create_text, is_create, close_fields}
 use Rattle.fsa_model.specs.Spelled.{SpellsUnits}
 use Rattle.script_read.proofs.SpellLemmas.{both, at_most, EndsWord, field_at-again, number_at-last, mask_at-again}
 use Rattle.script_read.proofs.TextLemmas.{text_at-again, text_at-spelled}
@@ -43,8 +43,7 @@ pub create_fields-again : (path : List ℕ) (wanted share : ℕ) (disposition : 
 unfolding create_fields
 create_fields-again path wanted share disposition options attributes key built =
     let units = list_all (λ unit. nat_le unit 65535) path in
-    let form = both _ (is_built_create options) built in
-    let k = both _ (nat_le key most_key) form.0 in
+    let k = both _ (nat_le key most_key) built in
     let a = both _ (nat_le attributes 4294967295) k.0 in
     let o = both _ (nat_le options 4294967295) a.0 in
     let s = both _ (nat_le share 4294967295) o.0 in
@@ -62,7 +61,6 @@ create_fields-again path wanted share disposition options attributes key built =
       mask_at-again options from_attributes (at_most options 4294967295 o.1) refl,
       mask_at-again attributes from_key (at_most attributes 4294967295 a.1) refl,
       number_at-last most_key key (at_most key most_key k.1),
-      form.1,
     ) refl
 
 pub create_fields-spelled : (path text : List ℕ) (wanted share : ℕ) (disposition : Disposition) (options attributes key : ℕ)
@@ -71,8 +69,7 @@ pub create_fields-spelled : (path text : List ℕ) (wanted share : ℕ) (disposi
 unfolding create_fields
 create_fields-spelled path text wanted share disposition options attributes key spells built =
     let units = list_all (λ unit. nat_le unit 65535) path in
-    let form = both _ (is_built_create options) built in
-    let k = both _ (nat_le key most_key) form.0 in
+    let k = both _ (nat_le key most_key) built in
     let a = both _ (nat_le attributes 4294967295) k.0 in
     let o = both _ (nat_le options 4294967295) a.0 in
     let s = both _ (nat_le share 4294967295) o.0 in
@@ -90,7 +87,6 @@ create_fields-spelled path text wanted share disposition options attributes key 
       mask_at-again options from_attributes (at_most options 4294967295 o.1) refl,
       mask_at-again attributes from_key (at_most attributes 4294967295 a.1) refl,
       number_at-last most_key key (at_most key most_key k.1),
-      form.1,
     ) refl
 
 pub close_fields-again : (handle : ℕ) → handle ≤ most_id → close_fields (number_text handle) ≡ Ok (Ask (Close handle))

@@ -3,7 +3,8 @@ use Rattle.std.proofs.Common.{◌≡◌, ℕ, true, List, refl}
 use Rattle.std.specs.Prelude.{Ok}
 use Rattle.fsa_types.specs.declared.request.What.{What}
 use Rattle.fsa_types.specs.declared.request.What.TheVariants.{Ask, Tick, WaitFor}
-use Rattle.fsa_types.specs.declared.request.Request.TheVariants.{Create, Close, Read, Write, Flush, SetEnd, Lock, Unlock, SetSecurity, Cancel}
+use Rattle.fsa_types.specs.declared.request.Request.TheVariants.{Oplock, Ack}
+use Rattle.fsa_types.specs.declared.request.Request.TheVariants.{Create, Close, Read, Write, Flush, SetEnd, Lock, Unlock, SetDisposition, Rename, Link, SetSecurity, Cancel}
 use Rattle.fsa_model.specs.Words.{most_id}
 use Rattle.fsa_model.specs.Verbs.{verb}
 use Rattle.fsa_model.specs.Requests.{what_of}
@@ -13,6 +14,8 @@ use Rattle.script_read.proofs.SpellLemmas.{at_most, NoSpace, EndsWord}
 use Rattle.script_read.proofs.OpenLineLemmas.{create_fields-again, create_fields-spelled, close_fields-again}
 use Rattle.script_read.proofs.ByteLineLemmas.{read_fields-again, write_fields-again, flush_fields-again, set_end_fields-again}
 use Rattle.script_read.proofs.LockLineLemmas.{lock_fields-again, unlock_fields-again}
+use Rattle.script_read.proofs.OplockLineLemmas.{oplock_fields-again, ack_fields-again}
+use Rattle.script_read.proofs.NameLineLemmas.{rename_fields-again, rename_fields-spelled, link_fields-again, link_fields-spelled, set_disposition_fields-again}
 use Rattle.script_read.proofs.InformationLineLemmas.{set_security_fields-again}
 use Rattle.script_read.proofs.ClockLineLemmas.{tick_fields-again}
 use Rattle.script_read.proofs.WaitLineLemmas.{cancel_fields-again, wait_fields-again}
@@ -27,6 +30,11 @@ what_of-again (Ask (Flush handle)) built = flush_fields-again handle (at_most ha
 what_of-again (Ask (SetEnd handle length)) built = set_end_fields-again handle length built
 what_of-again (Ask (Lock handle place count exclusive wait)) built = lock_fields-again handle place count exclusive wait built
 what_of-again (Ask (Unlock handle place count)) built = unlock_fields-again handle place count built
+what_of-again (Ask (Oplock handle level)) built = oplock_fields-again handle level built
+what_of-again (Ask (Ack handle level)) built = ack_fields-again handle level (at_most handle most_id built)
+what_of-again (Ask (SetDisposition handle delete)) built = set_disposition_fields-again handle delete (at_most handle most_id built)
+what_of-again (Ask (Rename handle path replace)) built = rename_fields-again handle path replace built
+what_of-again (Ask (Link handle path replace)) built = link_fields-again handle path replace built
 what_of-again (Ask (SetSecurity handle owner dacl)) built = set_security_fields-again handle owner dacl built
 what_of-again (Ask (Cancel number)) built = cancel_fields-again number (at_most number most_id built)
 what_of-again (Tick ticks) built = tick_fields-again ticks (at_most ticks most_id built)
@@ -45,6 +53,11 @@ what_of-spelled (Ask (Flush handle)) fields is built = rw is (flush_fields-again
 what_of-spelled (Ask (SetEnd handle length)) fields is built = rw is (set_end_fields-again handle length built)
 what_of-spelled (Ask (Lock handle place count exclusive wait)) fields is built = rw is (lock_fields-again handle place count exclusive wait built)
 what_of-spelled (Ask (Unlock handle place count)) fields is built = rw is (unlock_fields-again handle place count built)
+what_of-spelled (Ask (Oplock handle level)) fields is built = rw is (oplock_fields-again handle level built)
+what_of-spelled (Ask (Ack handle level)) fields is built = rw is (ack_fields-again handle level (at_most handle most_id built))
+what_of-spelled (Ask (SetDisposition handle delete)) fields is built = rw is (set_disposition_fields-again handle delete (at_most handle most_id built))
+what_of-spelled (Ask (Rename handle path replace)) fields spells built = rw spells.2 (rename_fields-spelled handle path spells.0 replace spells.1 built)
+what_of-spelled (Ask (Link handle path replace)) fields spells built = rw spells.2 (link_fields-spelled handle path spells.0 replace spells.1 built)
 what_of-spelled (Ask (SetSecurity handle owner dacl)) fields is built = rw is (set_security_fields-again handle owner dacl built)
 what_of-spelled (Ask (Cancel number)) fields is built = rw is (cancel_fields-again number (at_most number most_id built))
 what_of-spelled (Tick ticks) fields is built = rw is (tick_fields-again ticks (at_most ticks most_id built))
@@ -61,6 +74,11 @@ NoSpace-verb (Ask (Flush handle)) built = (refl, (refl, (refl, (refl, (refl, tt)
 NoSpace-verb (Ask (SetEnd handle length)) built = (refl, (refl, (refl, (refl, (refl, (refl, tt))))))
 NoSpace-verb (Ask (Lock handle place count exclusive wait)) built = (refl, (refl, (refl, (refl, tt))))
 NoSpace-verb (Ask (Unlock handle place count)) built = (refl, (refl, (refl, (refl, (refl, (refl, tt))))))
+NoSpace-verb (Ask (Oplock handle level)) built = (refl, (refl, (refl, (refl, (refl, (refl, tt))))))
+NoSpace-verb (Ask (Ack handle level)) built = (refl, (refl, (refl, tt)))
+NoSpace-verb (Ask (SetDisposition handle delete)) built = (refl, (refl, (refl, (refl, (refl, (refl, (refl, (refl, (refl, tt)))))))))
+NoSpace-verb (Ask (Rename handle path replace)) built = (refl, (refl, (refl, (refl, (refl, (refl, tt))))))
+NoSpace-verb (Ask (Link handle path replace)) built = (refl, (refl, (refl, (refl, tt))))
 NoSpace-verb (Ask (Cancel number)) built = (refl, (refl, (refl, (refl, (refl, (refl, tt))))))
 NoSpace-verb (WaitFor number) built = (refl, (refl, (refl, (refl, tt))))
 NoSpace-verb (Tick ticks) built = (refl, (refl, (refl, (refl, tt))))
@@ -75,6 +93,11 @@ EndsWord-fields (Ask (Flush handle)) built = refl
 EndsWord-fields (Ask (SetEnd handle length)) built = refl
 EndsWord-fields (Ask (Lock handle place count exclusive wait)) built = refl
 EndsWord-fields (Ask (Unlock handle place count)) built = refl
+EndsWord-fields (Ask (Oplock handle level)) built = refl
+EndsWord-fields (Ask (Ack handle level)) built = refl
+EndsWord-fields (Ask (SetDisposition handle delete)) built = refl
+EndsWord-fields (Ask (Rename handle path replace)) built = refl
+EndsWord-fields (Ask (Link handle path replace)) built = refl
 EndsWord-fields (Ask (SetSecurity handle owner dacl)) built = refl
 EndsWord-fields (Ask (Cancel number)) built = refl
 EndsWord-fields (Tick ticks) built = refl
@@ -90,6 +113,11 @@ EndsWord-spelled (Ask (Flush handle)) fields is built = rw is refl
 EndsWord-spelled (Ask (SetEnd handle length)) fields is built = rw is refl
 EndsWord-spelled (Ask (Lock handle place count exclusive wait)) fields is built = rw is refl
 EndsWord-spelled (Ask (Unlock handle place count)) fields is built = rw is refl
+EndsWord-spelled (Ask (Oplock handle level)) fields is built = rw is refl
+EndsWord-spelled (Ask (Ack handle level)) fields is built = rw is refl
+EndsWord-spelled (Ask (SetDisposition handle delete)) fields is built = rw is refl
+EndsWord-spelled (Ask (Rename handle path replace)) fields spells built = rw spells.2 refl
+EndsWord-spelled (Ask (Link handle path replace)) fields spells built = rw spells.2 refl
 EndsWord-spelled (Ask (SetSecurity handle owner dacl)) fields is built = rw is refl
 EndsWord-spelled (Ask (Cancel number)) fields is built = rw is refl
 EndsWord-spelled (Tick ticks) fields is built = rw is refl

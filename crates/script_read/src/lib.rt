@@ -20,8 +20,9 @@
 //! the script has, beside two lists with room for as many clients and calls as there are lines.
 //!
 //! Caveats. The verbs are `create`, `close`, `read`, `write`, `flush`, `setend`, `lock`, `unlock`,
-//! `setsecurity`, `cancel`, `tick` and `wait`; another one, or a `create` with DELETE_ON_CLOSE, is
-//! `Syntax`. So is an access list of more than 32 entries. The number of requests has no bound here.
+//! `oplock`, `ack`, `rename`, `link`, `setdelete`, `setsecurity`, `cancel`, `tick` and `wait`; another
+//! one is `Syntax`. So is an access list of more than 32 entries. The number of requests has no bound
+//! here.
 //!
 //! To add a verb: in the definitions of the lines of its group what its fields say and how they are
 //! written, and the verb itself in that group's `.._line`; here a function of the same name and its branch.
@@ -37,9 +38,11 @@ mod information_lines;
 mod law;
 mod line;
 mod lock_lines;
+mod name_lines;
 mod names;
 mod number;
 mod open_lines;
+mod oplock_lines;
 mod pairs;
 mod read;
 mod reading;

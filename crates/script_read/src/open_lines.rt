@@ -1,15 +1,14 @@
 //! The lines of opens and closes.
 
 ghost use Rattle.std.specs.Prelude.{◌≡◌};
-ghost use Rattle.fsa_model.specs.OpenLines.{is_built_create, disposition_of, disposition_at, create_fields, close_fields};
+ghost use Rattle.fsa_model.specs.OpenLines.{disposition_of, disposition_at, create_fields, close_fields};
 ghost use Rattle.fsa_model.specs.Requests.{open_line};
 ghost use Rattle.script_read.specs.ReadsAs.{ReadsAs, ReadsOr};
 
 use crate::fault::{LineFault, SYNTAX};
 use crate::text::text_at;
 use crate::word::{ended, field_at, id_at, mask_at, number_at};
-use bitflags::Flags;
-use fsa_types::{CreateOptions, Disposition, Request, What};
+use fsa_types::{Disposition, Request, What};
 use std::alloc::Global;
 
 // The disposition that a word names.
@@ -43,13 +42,6 @@ fn disposition_at(bytes: &[u8]) -> Result<(Disposition, &[u8]), LineFault>
     Ok((disposition, rest))
 }
 
-// Whether a create with these options is built: one without DELETE_ON_CLOSE.
-fn is_built_create(options: u32) -> bool
-    ensures { result ≡ is_built_create options }
-{
-    !CreateOptions::from_bits_retain(options).intersects(CreateOptions::DELETE_ON_CLOSE)
-}
-
 // The fields of `create`.
 #[tactic(auto, unfolding(fsa_model::specs::OpenLines::create_fields))]
 fn create_fields(alloc: Global, fields: &[u8]) -> Result<What, LineFault>
@@ -62,9 +54,7 @@ fn create_fields(alloc: Global, fields: &[u8]) -> Result<What, LineFault>
     let (options, rest) = mask_at(rest)?;
     let (attributes, rest) = mask_at(rest)?;
     let (key, rest) = number_at(u64::MAX, rest)?;
-    if !is_built_create(options) || !rest.is_empty() {
-        return Err(SYNTAX);
-    }
+    ended(rest)?;
     Ok(What::Ask(Request::Create {
         path,
         wanted,

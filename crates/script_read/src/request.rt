@@ -9,7 +9,9 @@ use crate::clock_lines::clock_line;
 use crate::fault::{LineFault, SYNTAX};
 use crate::information_lines::information_line;
 use crate::lock_lines::lock_line;
+use crate::name_lines::name_line;
 use crate::open_lines::open_line;
+use crate::oplock_lines::oplock_line;
 use crate::wait_lines::wait_line;
 use fsa_types::What;
 use std::alloc::Global;
@@ -26,6 +28,12 @@ pub fn what_of(alloc: Global, verb: &[u8], fields: &[u8]) -> Result<What, LineFa
         return Ok(what);
     }
     if let Some(what) = lock_line(verb, fields)? {
+        return Ok(what);
+    }
+    if let Some(what) = oplock_line(verb, fields)? {
+        return Ok(what);
+    }
+    if let Some(what) = name_line(alloc, verb, fields)? {
         return Ok(what);
     }
     if let Some(what) = information_line(alloc, verb, fields)? {

@@ -79,6 +79,11 @@ script fsa 1/table pairs/up 0x61 0x41/up 0x62 0x41/client a 7/\n\
 3Syntax fsa 1/client a 7/a 1 setsecurity 1 keep acl,+7:0x1 /\n\
 3Syntax fsa 1/client a 7/a 1 lock 1 0 1 ex now /\n\
 3Syntax fsa 1/client a 7/a 1 unlock 1 0 /\n\
+3Syntax fsa 1/client a 7/a 1 oplock 1 r /\n\
+3Syntax fsa 1/client a 7/a 1 ack 1 none /\n\
+3Syntax fsa 1/client a 7/a 1 rename 1 =\\x keep /\n\
+3Syntax fsa 1/client a 7/a 1 link 1 =\\x replace /\n\
+3Syntax fsa 1/client a 7/a 1 setdelete 1 yes /\n\
 ";
 
 // Requests that are taken (`+`) and refused (`-`): creates, by their path, masks, options, disposition,
@@ -99,7 +104,7 @@ const REQUESTS: &str = r#"+ create =\d 0x1 0x7 create 0x1 0x0 0
 - create \d 0x3 0x0 open 0x0 0x0 0
 + create =\d 0x2 0x0 open 0x0 0x0 0
 + create =\d 0x0 0x8 open 0x0 0x0 0
-+ create =\d 0xffffffff 0xffffffff open 0xffffefff 0xffffffff 0
++ create =\d 0xffffffff 0xffffffff open 0xffffffff 0xffffffff 0
 - create =\d 0x100000000 0x0 open 0x0 0x0 0
 - create =\d 0x1 0x100000000 open 0x0 0x0 0
 - create =\d 0x1 0x0 open 0x100000000 0x0 0
@@ -112,9 +117,8 @@ const REQUESTS: &str = r#"+ create =\d 0x1 0x7 create 0x1 0x0 0
 + create =\d 0x1 0x0 open 0x41 0x0 0
 + create =\d 0x1 0x0 open 0x800 0x0 0
 + create =\d 0x1 0x0 open 0x2000 0x0 0
-- create =\d 0x10001 0x0 open 0x1000 0x0 0
-- create =\d 0x10001 0x0 open 0x1001 0x0 0
-- create =\d 0x10001 0x0 open 0xffffffff 0x0 0
++ create =\d 0x10001 0x0 open 0x1000 0x0 0
++ create =\d 0x10001 0x0 open 0x1001 0x0 0
 + create =\d 0x1 0x0 supersede 0x0 0x0 0
 + create =\d 0x1 0x0 open 0x0 0x0 0
 + create =\d 0x1 0x0 create 0x0 0x0 0
@@ -188,6 +192,63 @@ const REQUESTS: &str = r#"+ create =\d 0x1 0x7 create 0x1 0x0 0
 - unlock 1 0
 - unlock 1 0 01
 - unlock 1 0 1 ex
++ oplock 4294967295 r
++ oplock 0 rh
++ oplock 1 rw
++ oplock 1 rwh
+- oplock 4294967296 r
+- oplock 01 r
+- oplock 1 none
+- oplock 1 rhw
+- oplock 1 h
+- oplock 1 RWH
+- oplock 1
+- oplock r
+- oplock 1 r 1
+- oplock 1  r
++ ack 4294967295 none
++ ack 0 r
++ ack 1 rh
++ ack 1 rw
++ ack 1 rwh
+- ack 4294967296 none
+- ack 00 none
+- ack 1 nil
+- ack 1 None
+- ack 1 0
+- ack 1
+- ack none
+- ack 1 none none
++ rename 4294967295 =\d\x:s replace
++ rename 0 = keep
+- rename 4294967296 =\x keep
+- rename 01 =\x keep
+- rename 1 \x keep
+- rename 1 =%d83d keep
+- rename 1 =\a b keep
+- rename 1 =\x
+- rename 1 keep
+- rename 1 keep =\x
+- rename 1 =\x Keep
+- rename 1 =\x yes
+- rename 1 =\x keep 0
++ link 4294967295 =%0041 keep
++ link 0 =\ replace
+- link 4294967296 =\x keep
+- link 1 =% keep
+- link 1 =\x
+- link 1 =\x overwrite
+- link 1 =\x keep replace
+- link 1  =\x keep
++ setdelete 4294967295 yes
++ setdelete 0 no
+- setdelete 4294967296 yes
+- setdelete 00 yes
+- setdelete 1
+- setdelete yes
+- setdelete 1 true
+- setdelete 1 YES
+- setdelete 1 yes no
 + cancel 4294967295
 - cancel 4294967296
 - cancel 01
@@ -284,6 +345,52 @@ fn what_locks_and_waits_say(rt: HostRuntime) -> Result<(), Fail> {
         Call { client: 0, number: 7, what: Ask(Unlock { handle: 7, at: 8, count: 9 }) }, \
         Call { client: 0, number: 8, what: Ask(Cancel { number: 9 }) }, \
         Call { client: 0, number: 9, what: WaitFor(10) }]"
+    );
+    Ok(())
+}
+
+#[test]
+fn what_names_and_marks_say(rt: HostRuntime) -> Result<(), Fail> {
+    let text = "fsa 1\nclient a 7\n\
+                a 1 rename 1 =\\%D800 replace\na 2 rename 2 = keep\na 3 link 3 =a:b keep\n\
+                a 4 link 4 =\\ replace\na 5 setdelete 5 yes\na 6 setdelete 6 no\n\
+                a 7 create =\\ 0x10000 0x0 open 0x1000 0x0 0\n";
+    let script = read_script(rt.alloc(), text.as_bytes())?;
+    let said = format!(in rt.alloc(); "{:?}", script.lines().as_slice())?;
+    assert_eq!(rt;
+        said.as_str(),
+        "[\
+        Call { client: 0, number: 1, what: Ask(Rename { handle: 1, path: Name { units: [92, 55296] }, replace: true }) }, \
+        Call { client: 0, number: 2, what: Ask(Rename { handle: 2, path: Name { units: [] }, replace: false }) }, \
+        Call { client: 0, number: 3, what: Ask(Link { handle: 3, path: Name { units: [97, 58, 98] }, replace: false }) }, \
+        Call { client: 0, number: 4, what: Ask(Link { handle: 4, path: Name { units: [92] }, replace: true }) }, \
+        Call { client: 0, number: 5, what: Ask(SetDisposition { handle: 5, delete: true }) }, \
+        Call { client: 0, number: 6, what: Ask(SetDisposition { handle: 6, delete: false }) }, \
+        Call { client: 0, number: 7, what: Ask(Create { path: Name { units: [92] }, \
+        wanted: 65536, share: 0, disposition: OpenExisting, options: 4096, attributes: 0, key: 0 }) }]"
+    );
+    Ok(())
+}
+
+#[test]
+fn what_oplock_lines_say(rt: HostRuntime) -> Result<(), Fail> {
+    let text = "fsa 1\nclient a 7\n\
+                a 1 oplock 1 r\na 2 oplock 2 rh\na 3 oplock 3 rw\na 4 oplock 4 rwh\n\
+                a 5 ack 5 none\na 6 ack 6 r\na 7 ack 7 rh\na 8 ack 8 rw\na 9 ack 9 rwh\n";
+    let script = read_script(rt.alloc(), text.as_bytes())?;
+    let said = format!(in rt.alloc(); "{:?}", script.lines().as_slice())?;
+    assert_eq!(rt;
+        said.as_str(),
+        "[\
+        Call { client: 0, number: 1, what: Ask(Oplock { handle: 1, level: R }) }, \
+        Call { client: 0, number: 2, what: Ask(Oplock { handle: 2, level: RH }) }, \
+        Call { client: 0, number: 3, what: Ask(Oplock { handle: 3, level: RW }) }, \
+        Call { client: 0, number: 4, what: Ask(Oplock { handle: 4, level: RWH }) }, \
+        Call { client: 0, number: 5, what: Ask(Ack { handle: 5, level: Nil }) }, \
+        Call { client: 0, number: 6, what: Ask(Ack { handle: 6, level: R }) }, \
+        Call { client: 0, number: 7, what: Ask(Ack { handle: 7, level: RH }) }, \
+        Call { client: 0, number: 8, what: Ask(Ack { handle: 8, level: RW }) }, \
+        Call { client: 0, number: 9, what: Ask(Ack { handle: 9, level: RWH }) }]"
     );
     Ok(())
 }
