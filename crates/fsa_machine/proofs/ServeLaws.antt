@@ -1,10 +1,13 @@
 -- What a volume is between tries stays so over each try and each end.
-use Rattle.std.proofs.Common.{◌≡◌, ℕ, ◌+◌, ◌*◌, ◌≤◌, Bool, true, false, not, List, [], ◌∷◌, ◌++◌, length, refl, ap, sym, subst, ◌∙◌, arith, append-nil, inl, inr, IsTrue, All, length-append, lt-ltb, ltb-true, leb-true}
-use Rattle.std.specs.Prelude.{◌==◌, ◌&&◌, nat_lt, map, filter}
+use Rattle.std.proofs.Common.{◌≡◌, ℕ, ◌+◌, ◌*◌, ◌≤◌, Bool, true, false, not, List, [], ◌∷◌, ◌++◌, length, refl, ap, sym, subst, ◌∙◌, arith, append-nil, inl, inr, ◌⊎◌, zero, suc, IsTrue, All, length-append, lt-ltb, ltb-true, le-leb, leb-true}
+use Rattle.std.specs.List.{list_any}
+use Rattle.std.specs.Prelude.{◌==◌, ◌&&◌, is_some, nat_le, nat_lt, map, filter}
+use Rattle.std.proofs.lemmas.List.{length-map}
 use Rattle.std.proofs.lemmas.Bool.{cases_Bool, and_parts, eq-eqb}
 use Rattle.std.proofs.lemmas.List.Elements.{All-nil, All-cons, All-head, All-tail}
 use Rattle.fsa_types.specs.Request.{what_fits}
 use Rattle.fsa_types.specs.declared.reply.Blocker.{Blocker}
+use Rattle.fsa_types.specs.declared.reply.Blocker.TheVariants.{Break}
 use Rattle.fsa_types.specs.declared.reply.EndOf.{EndOf}
 use Rattle.fsa_types.specs.declared.reply.Reply.{Reply}
 use Rattle.fsa_types.specs.declared.request.Call.{Call}
@@ -12,25 +15,27 @@ use Rattle.fsa_types.specs.declared.request.Request.TheVariants.{Oplock as Oploc
 use Rattle.fsa_types.specs.declared.request.What.{What}
 use Rattle.fsa_types.specs.declared.request.What.TheVariants.{Ask, Tick, WaitFor}
 use Rattle.fsa_model.specs.Edits.{is_call, with_blockers, with_end, with_pending}
-use Rattle.fsa_model.specs.Frame.{FitsReply, FramedTo, InFrame, KeepsFrame, OnlyBreaks, PointsFit, StaysTo, lasting, ticks_of, unenumerated}
+use Rattle.fsa_model.specs.Frame.{FitsReply, FramedTo, InFrame, KeepsFrame, OnlyBreaks, OnlyOplocks, OnlyWatches, PointsFit, StaysTo, lasting, ticks_of, unenumerated}
 use Rattle.fsa_model.specs.LineCalls.{IsLineCall, ticks_fit}
-use Rattle.fsa_model.specs.Once.{IsOnce, how_many, is_end, times}
+use Rattle.fsa_model.specs.Once.{IsOnce, how_many, is_end, made, times}
 use Rattle.fsa_model.specs.Outcome.{Outcome, Done, Stay, Hold}
 use Rattle.fsa_model.specs.Requests.{can_be_asked}
+use Rattle.fsa_model.specs.Settling.{Extends, HasGiven, HasOneOplockEach, is_call_of, unbroken}
 use Rattle.fsa_model.specs.Try.{try}
 use Rattle.fsa_model.specs.Setup.{Setup}
 use Rattle.fsa_model.specs.Sound.{PointFits}
 use Rattle.fsa_model.specs.Volume.{File, Handle, Oplock, Pending, Volume, fresh, root}
-use Rattle.fsa_model.specs.Waiting.{has_ended}
-use Rattle.fsa_model.proofs.CountLaws.{how_many-append, how_many-filter_le, how_many-map, how_many-same, how_many-some, some-how_many}
+use Rattle.fsa_model.specs.Waiting.{blocker_lives, has_ended, is_breaking}
+use Rattle.fsa_model.proofs.CountLaws.{and_right, how_many-append, how_many-filter_le, how_many-map, how_many-none, how_many-same, how_many-some, how_many-split, how_many-weaker, some-how_many}
 use Rattle.fsa_model.proofs.FrameLaws.{AddsNothing, AddsNothing-only_breaks}
-use Rattle.fsa_model.proofs.OnceLaws.{Extends, Extends-length, IsOnce-kept, is_same-refl}
+use Rattle.fsa_model.proofs.GrantLaws.{StaysUnder}
+use Rattle.fsa_model.proofs.OnceLaws.{Extends-length, IsOnce-kept, is_same-refl, length-filter_split}
 use Rattle.fsa_model.proofs.RowLaws.{change_at}
 use Rattle.fsa_model.proofs.TryFrame.{try-frame}
 use Rattle.fsa_model.proofs.TryLaws.{AreLiving, FewNumbers, KeepsNumbers, SameNumbers}
 use Rattle.fsa_model.proofs.TurnLaws.{TriedTo, try-keeps}
-use Rattle.fsa_model.proofs.WaitLaws.{HasOneOplockEach, is_of, unbroken}
-use Rattle.fsa_machine.specs.Serves.{GivesUpTo, SameBase, Serves, awaits_made, is_line_call}
+use Rattle.fsa_model.proofs.WaitLaws.{some_item}
+use Rattle.fsa_machine.specs.Serves.{BreaksUpTo, GivesUpTo, SameBase, Serves, ServesWithin, awaits_made, is_line_call}
 
 -- ---- lists
 
@@ -95,32 +100,86 @@ GivesUpTo-more v few many more gives =
     let streams : v.last_stream ≤ few * 2 = gives.streams in
     let handles : v.last_handle ≤ few = gives.handles in
     let locks : v.last_lock ≤ few = gives.locks in
-    let breaks : v.last_break ≤ few = gives.breaks in
-    let oplocks : length v.oplocks ≤ few = gives.oplocks in
     let clock : v.clock ≤ few * 4294967296 = gives.clock in
-    record { files = omega arith; links = omega arith; streams = omega arith; handles = omega arith; locks = omega arith; breaks = omega arith; oplocks = omega arith; clock = omega arith }
+    record { files = omega arith; links = omega arith; streams = omega arith; handles = omega arith; locks = omega arith; clock = omega arith }
 
--- ---- no oplock comes
-
-none-of : (oplocks : List Oplock) → ((handle : ℕ) → how_many (is_of handle) oplocks ≤ 0) → oplocks ≡ []
-none-of [] none = refl
-none-of (oplock ∷ oplocks) none = absurd (let here : is_of oplock.handle oplock ≡ true = eq-eqb oplock.handle oplock.handle refl in
-    let few : how_many (is_of oplock.handle) (oplock ∷ oplocks) ≤ 0 = none oplock.handle in
-    let some : 1 + how_many (is_of oplock.handle) oplocks ≤ 0 = rw here at few in omega arith)
-
-record NoOplocks (v : Volume) : Type 0 where
-  oplocks : v.oplocks ≡ []
-  breaks : v.last_break ≡ 0
-
-NoOplocks-kept : (v w : Volume) → NoOplocks v → KeepsNumbers v w → NoOplocks w
-NoOplocks-kept v w none kept = record {
-  oplocks = none-of w.oplocks (λ handle. (let fewer = kept.keeps.oplocks handle in
-      let before : how_many (is_of handle) v.oplocks ≡ 0 = ap (λ (oplocks : List Oplock). how_many (is_of handle) oplocks) none.oplocks in omega arith));
-  breaks = (let fewer = kept.breaks in let before : unbroken v ≡ 0 = rw none.oplocks refl in let last = none.breaks in omega arith);
+pub ServesWithin-more : (v : Volume) (few many : ℕ) → few ≤ many → ServesWithin v few → ServesWithin v many
+ServesWithin-more v few many more serves = record {
+  points = serves.points;
+  once = serves.once;
+  asked = serves.asked;
+  numbered = serves.numbered;
+  waited = serves.waited;
+  handles = serves.handles;
+  opened = serves.opened;
+  gives = serves.gives;
+  breaks = (let least = serves.breaks in omega arith);
 }
 
-pub one-each : (v : Volume) → v.oplocks ≡ [] → HasOneOplockEach v
-one-each v none handle = (let before : how_many (is_of handle) v.oplocks ≡ 0 = ap (λ (oplocks : List Oplock). how_many (is_of handle) oplocks) none in omega arith)
+-- one more end takes away no call but its own, so no fewer were made
+made-ends : (v : Volume) (client number : ℕ) (reply : Reply) → IsOnce v → made v ≤ made (with_end v client number reply)
+made-ends v client number reply once =
+    (let kept = length-filter_split (is_call_of client number) v.pending in
+    let more = length-append v.ended (record { client = client; number = number; reply = reply } ∷ []) in
+    let few : times client number v ≤ 1 = once client number in omega arith)
+
+-- ---- few oplocks
+
+-- a break is in progress on it; one of a number up to this
+abbrev is_broken : Oplock → Bool
+is_broken oplock = is_some oplock.target
+
+abbrev is_broken_upto : ℕ → Oplock → Bool
+is_broken_upto most oplock = is_some oplock.target && nat_le oplock.number most
+
+-- each break has its own number, so there are few of them
+few-broken : (oplocks : List Oplock) → ((number : ℕ) → how_many (is_breaking number) oplocks ≤ 1) → (most : ℕ) → how_many (is_broken_upto most) oplocks ≤ most + 1
+few-broken oplocks ones zero =
+    (let one = ones 0 in
+    let weaker = how_many-weaker (is_broken_upto 0) (is_breaking 0) oplocks (λ o upto. first (is_some o.target) o.number upto) in omega arith)
+  where
+    first : (broken : Bool) (number : ℕ) → (broken && nat_le number 0) ≡ true → (broken && number == 0) ≡ true
+    first true number is = (let least = leb-true number 0 is in eq-eqb number 0 (omega arith))
+    first false number is = is
+few-broken oplocks ones (suc most) =
+    (let one = ones (suc most) in
+    let rest = few-broken oplocks ones most in
+    let split = how_many-split (is_broken_upto (suc most)) (is_breaking (suc most)) oplocks in
+    let here = how_many-weaker (λ o. is_broken_upto (suc most) o && is_breaking (suc most) o) (is_breaking (suc most)) oplocks (λ o both. and_right (is_broken_upto (suc most) o) (is_breaking (suc most) o) both) in
+    let below = how_many-weaker (λ o. is_broken_upto (suc most) o && not (is_breaking (suc most) o)) (is_broken_upto most) oplocks (λ o both. less (is_some o.target) o.number both) in omega arith)
+  where
+    less : (broken : Bool) (number : ℕ) → ((broken && nat_le number (suc most)) && not (broken && number == suc most)) ≡ true → (broken && nat_le number most) ≡ true
+    less true number is =
+        let parts = and_parts (nat_le number (suc most)) (not (number == suc most)) is in
+        let within = leb-true number (suc most) parts.0 in
+        elim (cases_Bool (number == suc most)) [
+          | inl same ↦ (let impossible : false ≡ true = rw same at parts.1 in cc)
+          | inr differs ↦ (let apart : (number ≡ suc most) → ⊥ = λ same. (let equal : (number == suc most) ≡ true = eq-eqb number (suc most) same in cc) in le-leb number most (omega arith))
+        ]
+    less false number is = is
+
+passes-or_fails : {A : Type 0} (test : A → Bool) (items : List A) → length items ≡ how_many test items + how_many (λ item. not (test item)) items
+passes-or_fails test [] = refl
+passes-or_fails test (item ∷ items) = (let rest = passes-or_fails test items in elim (cases_Bool (test item)) [ inl is ↦ rw is (omega arith) | inr isnt ↦ rw isnt (omega arith) ])
+
+-- so there are no more oplocks than breaks were begun and can still come
+pub few-oplocks : (v : Volume) (turns : ℕ) → HasGiven v → v.last_break + unbroken v + 1 ≤ turns → BreaksUpTo v turns
+few-oplocks v turns given few =
+    let all = passes-or_fails is_broken v.oplocks in
+    let split = how_many-split is_broken (λ o. nat_le o.number v.last_break) v.oplocks in
+    let numbered = few-broken v.oplocks given.ones v.last_break in
+    let none = none_above (cases_Bool (list_any (λ o. is_broken o && not (nat_le o.number v.last_break)) v.oplocks)) in
+    record { breaks = omega arith; oplocks = omega arith }
+  where
+    none_above : (list_any (λ o. is_broken o && not (nat_le o.number v.last_break)) v.oplocks ≡ true) ⊎ (list_any (λ o. is_broken o && not (nat_le o.number v.last_break)) v.oplocks ≡ false)
+        → how_many (λ o. is_broken o && not (nat_le o.number v.last_break)) v.oplocks ≡ 0
+    none_above (inr none) = how_many-none (λ o. is_broken o && not (nat_le o.number v.last_break)) v.oplocks none
+    none_above (inl some) = absurd (
+        let found = some_item (λ (o : Oplock). is_broken o && not (nat_le o.number v.last_break)) v.oplocks some in
+        let parts = and_parts (is_broken found.item) (not (nat_le found.item.number v.last_break)) found.passes in
+        let lives : blocker_lives v (Break found.item.number) ≡ true = found.is_there (is_breaking found.item.number) (rw (parts.0, eq-eqb found.item.number found.item.number refl) refl) in
+        let is : nat_le found.item.number v.last_break ≡ true = given.living (Break found.item.number) lives in
+        let impossible : false ≡ true = rw is at parts.1 in cc)
 
 -- ---- a call that a line can ask
 
@@ -156,8 +215,17 @@ pub record Ends (call : Call) (v w : Volume) : Type 0 where
   pub handles : (test : Handle → Bool) → All (λ entry. IsTrue (test (unenumerated entry.1))) v.handles
       → ((handle : Handle) → handle.client ≡ call.client → handle.number ≡ call.number → IsTrue (test (unenumerated handle))) → All (λ entry. IsTrue (test (unenumerated entry.1))) w.handles
   pub gives : GivesUpTo w (length v.ended + 2)
-  pub no_oplocks : w.oplocks ≡ []
-  pub no_breaks : w.last_break ≡ 0
+  pub once : IsOnce w
+  pub breaks : w.last_break + unbroken w ≤ made w
+
+-- what a try leaves that stays pending: a volume like the one before, but that one break more may come
+pub record Remains (v w : Volume) (client : ℕ) (what : What) : Type 0 where
+  pub base : SameBase v w
+  pub serves : ServesWithin w (made v + 1)
+  pub times : (client number : ℕ) → times client number w ≡ times client number v
+  pub made : made w ≡ made v
+  pub pending : (test : ℕ × Pending → Bool) → how_many test w.pending ≤ how_many test v.pending
+  pub awaited : IsTrue (awaits_made w client what)
 
 -- what a try leaves that is held: a volume like the one before
 pub record Holds (v w : Volume) (blockers : List Blocker) : Type 0 where
@@ -169,7 +237,7 @@ pub record Holds (v w : Volume) (blockers : List Blocker) : Type 0 where
 -- how a try comes out
 abbrev pub Comes : Call → Volume → Outcome → Type 0
 Comes call v (Done w reply) = Ends call v w × FitsReply call.what reply
-Comes call v (Stay w interim) = (w ≡ v) × IsTrue (awaits_made v call.client call.what)
+Comes call v (Stay w interim) = Remains v w call.client call.what
 Comes call v (Hold w blockers interim) = Holds v w blockers
 
 pub record ComesTo (call : Call) (v : Volume) (outcome : Outcome) : Type 0 where
@@ -197,7 +265,6 @@ few-ticks _ fit = omega arith
 ends-done : (v w : Volume) (call : Call) (reply : Reply) → Serves v → IsTrue (is_line_call (length v.clients) call) → FramedTo call v (Done w reply) → KeepsNumbers v w × FewNumbers v w → Ends call v w × FitsReply call.what reply
 ends-done v w call reply serves asked frame kept =
     let line : IsLineCall (length v.clients) call = line-asked (length v.clients) call asked in
-    let none : NoOplocks w = NoOplocks-kept v w (record { oplocks = serves.no_oplocks; breaks = serves.no_breaks }) kept.0 in
     let up : GivesUpTo v (length v.ended + 1) = serves.gives in (
       record {
         base = record { table = frame.0.table; clients = frame.0.clients };
@@ -211,15 +278,13 @@ ends-done v w call reply serves asked frame kept =
           streams = let few = kept.1.streams in let most = up.streams in omega arith;
           handles = let few = kept.1.handles in let most = up.handles in omega arith;
           locks = let few = kept.1.locks in let most = up.locks in omega arith;
-          breaks = let last = none.breaks in omega arith;
-          oplocks = let no_oplock = ap (λ (oplocks : List Oplock). length oplocks) none.oplocks in omega arith;
           clock = let most = up.clock in elim frame.0.clock [
             | inl same ↦ omega arith
             | inr on ↦ (let ticks = few-ticks call.what line.ticks in omega arith)
           ];
         };
-        no_oplocks = none.oplocks;
-        no_breaks = none.breaks;
+        once = IsOnce-kept v w (kept.0.keeps.times serves.once) serves.once;
+        breaks = (let same = kept.0.keeps.made serves.once in let fewer = kept.0.breaks in let most = serves.breaks in omega arith);
       },
       frame.1.0,
     )
@@ -228,61 +293,114 @@ awaits-later : (v w : Volume) (client : ℕ) (what : What) → ((c n : ℕ) → 
 awaits-later v w client (WaitFor earlier) more is = (let some = ltb-true 0 (times client earlier v) is in let longer = more client earlier in lt-ltb 0 (times client earlier w) (omega arith))
 awaits-later v w client _ more is = refl
 
-stays : (v w : Volume) (client : ℕ) (what : What) → StaysTo v client what w → IsTrue (can_be_asked what) → (w ≡ v) × IsTrue (awaits_made v client what)
-stays v w client (WaitFor earlier) so asked =
-    (so.1, (let some = how_many-some (λ (entry : ℕ × Pending). is_call client earlier entry.1) v.pending so.0 in lt-ltb 0 (times client earlier v) (omega arith)))
-stays v w client (Ask (OplockOf handle level)) so asked = (let impossible : false ≡ true = asked in cc)
-stays v w client (Ask (Ack handle level)) so asked = (let impossible : false ≡ true = asked in cc)
-stays v w client (Ask (Notify handle filter whole room)) so asked = (let impossible : false ≡ true = asked in cc)
-stays v w client _ so asked = absurd so
+-- what a try leaves that ends no call of its own
+record Alike (v w : Volume) : Type 0 where
+  base : SameBase v w
+  points : PointsFit w
+  pending : (test : ℕ × Pending → Bool) → how_many test w.pending ≤ how_many test v.pending
+  ended : Extends v.ended w.ended
+  times : (client number : ℕ) → times client number w ≡ times client number v
+  handles : (test : ℕ × Handle → Bool) → All (λ entry. IsTrue (test entry)) v.handles → All (λ entry. IsTrue (test entry)) w.handles
+  same : SameNumbers v w
+  clock : w.clock ≡ v.clock
+
+serves-alike : (v w : Volume) (most : ℕ) → Serves v → Alike v w → w.last_break + unbroken w ≤ most → ServesWithin w most
+serves-alike v w most serves alike few =
+    let longer = Extends-length alike.ended in
+    let up : GivesUpTo v (length v.ended + 1) = serves.gives in
+    record {
+      points = alike.points;
+      once = IsOnce-kept v w alike.times serves.once;
+      asked = rw alike.base.clients (all-kept (λ (entry : ℕ × Pending). is_line_call (length v.clients) entry.1.call) v.pending w.pending (alike.pending (λ entry. not (is_line_call (length v.clients) entry.1.call))) serves.asked);
+      numbered = all-kept (λ (entry : ℕ × Pending). nat_lt 0 entry.1.call.number) v.pending w.pending (alike.pending (λ entry. not (nat_lt 0 entry.1.call.number))) serves.numbered;
+      waited = All-each (λ (entry : ℕ × Pending). IsTrue (awaits_made v entry.1.call.client entry.1.call.what)) (λ (entry : ℕ × Pending). IsTrue (awaits_made w entry.1.call.client entry.1.call.what))
+          (λ entry is. awaits-later v w entry.1.call.client entry.1.call.what (λ c n. (let equal = alike.times c n in omega arith)) is) w.pending
+          (all-kept (λ (entry : ℕ × Pending). awaits_made v entry.1.call.client entry.1.call.what) v.pending w.pending (alike.pending (λ entry. not (awaits_made v entry.1.call.client entry.1.call.what))) serves.waited);
+      handles = alike.handles (λ entry. has_ended w entry.1.client entry.1.number)
+          (All-each (λ (entry : ℕ × Handle). IsTrue (has_ended v entry.1.client entry.1.number)) (λ (entry : ℕ × Handle). IsTrue (has_ended w entry.1.client entry.1.number))
+          (λ entry is. ended-later v w entry.1.client entry.1.number alike.ended is) v.handles serves.handles);
+      opened = alike.handles (λ entry. nat_lt 0 entry.1.number) serves.opened;
+      gives = record {
+        files = let equal = alike.same.files in let most = up.files in omega arith;
+        links = let equal = alike.same.links in let most = up.links in omega arith;
+        streams = let equal = alike.same.streams in let most = up.streams in omega arith;
+        handles = let equal = alike.same.handles in let most = up.handles in omega arith;
+        locks = let equal = alike.same.locks in let most = up.locks in omega arith;
+        clock = let equal = alike.clock in let most = up.clock in omega arith;
+      };
+      breaks = few;
+    }
+
+-- a try that stays pending changes nothing, or oplocks or watches alone
+remains : (v w : Volume) (turn client : ℕ) (what : What) → Serves v → StaysUnder v turn w → w.table ≡ v.table → w.clients ≡ v.clients → w.files ≡ v.files → w.handles ≡ v.handles → w.clock ≡ v.clock
+    → IsTrue (awaits_made v client what) → Remains v w client what
+remains v w turn client what serves under table clients files handles clock awaited =
+    let alike : (c n : ℕ) → times c n w ≡ times c n v = under.times serves.once in
+    record {
+      base = record { table = table; clients = clients };
+      serves = serves-alike v w (made v + 1) serves (record {
+        base = record { table = table; clients = clients };
+        points = rw files serves.points;
+        pending = under.pending;
+        ended = under.ended;
+        times = alike;
+        handles = λ test all. rw handles all;
+        same = under.same;
+        clock = clock;
+      }) (let more = under.breaks in let most = serves.breaks in omega arith);
+      times = alike;
+      made = under.made serves.once;
+      pending = under.pending;
+      awaited = awaits-later v w client what (λ c n. (let equal = alike c n in omega arith)) awaited;
+    }
+
+oplocks-remain : (v w : Volume) (turn client : ℕ) (what : What) → Serves v → StaysUnder v turn w → OnlyOplocks v w → IsTrue (awaits_made v client what) → Remains v w client what
+oplocks-remain v w turn client what serves under only awaited =
+    remains v w turn client what serves under (ap (λ (u : Volume). u.table) only.is) (ap (λ (u : Volume). u.clients) only.is) (ap (λ (u : Volume). u.files) only.is) (ap (λ (u : Volume). u.handles) only.is) (ap (λ (u : Volume). u.clock) only.is) awaited
+
+watches-remain : (v w : Volume) (turn client : ℕ) (what : What) → Serves v → StaysUnder v turn w → OnlyWatches v w → IsTrue (awaits_made v client what) → Remains v w client what
+watches-remain v w turn client what serves under only awaited =
+    remains v w turn client what serves under (ap (λ (u : Volume). u.table) only.is) (ap (λ (u : Volume). u.clients) only.is) (ap (λ (u : Volume). u.files) only.is) (ap (λ (u : Volume). u.handles) only.is) (ap (λ (u : Volume). u.clock) only.is) awaited
+
+stays : (v w : Volume) (turn client : ℕ) (what : What) → Serves v → StaysTo v client what w → StaysUnder v turn w → Remains v w client what
+stays v w turn client (WaitFor earlier) serves so under =
+    let same : w ≡ v = so.1 in
+    remains v w turn client (WaitFor earlier) serves under (ap (λ (u : Volume). u.table) same) (ap (λ (u : Volume). u.clients) same) (ap (λ (u : Volume). u.files) same) (ap (λ (u : Volume). u.handles) same) (ap (λ (u : Volume). u.clock) same)
+    (let some = how_many-some (λ (entry : ℕ × Pending). is_call client earlier entry.1) v.pending so.0 in lt-ltb 0 (times client earlier v) (omega arith))
+stays v w turn client (Ask (OplockOf handle level)) serves so under = oplocks-remain v w turn client (Ask (OplockOf handle level)) serves under so refl
+stays v w turn client (Ask (Ack handle level)) serves so under = oplocks-remain v w turn client (Ask (Ack handle level)) serves under so refl
+stays v w turn client (Ask (Notify handle filter whole room)) serves so under = watches-remain v w turn client (Ask (Notify handle filter whole room)) serves under so refl
+stays v w turn client _ serves so under = absurd so
 
 holds : (v w : Volume) (call : Call) (blockers : List Blocker) → Serves v → OnlyBreaks v w → KeepsNumbers v w → SameNumbers v w → AreLiving w blockers → Holds v w blockers
 holds v w call blockers serves only kept same living =
     let nothing : AddsNothing v w = AddsNothing-only_breaks only in
-    let none : NoOplocks w = NoOplocks-kept v w (record { oplocks = serves.no_oplocks; breaks = serves.no_breaks }) kept in
     let alike : (c n : ℕ) → times c n w ≡ times c n v = kept.keeps.times serves.once in
-    let longer = Extends-length kept.keeps.ended in
-    let up : GivesUpTo v (length v.ended + 1) = serves.gives in
     record {
       base = record { table = nothing.table; clients = nothing.clients };
       times = alike;
       living = living;
-      serves = record {
+      serves = serves-alike v w (made w) serves (record {
+        base = record { table = nothing.table; clients = nothing.clients };
         points = nothing.points serves.points;
-        once = IsOnce-kept v w alike serves.once;
-        asked = rw nothing.clients (all-kept (λ (entry : ℕ × Pending). is_line_call (length v.clients) entry.1.call) v.pending w.pending (kept.keeps.pending (λ entry. not (is_line_call (length v.clients) entry.1.call))) serves.asked);
-        numbered = all-kept (λ (entry : ℕ × Pending). nat_lt 0 entry.1.call.number) v.pending w.pending (kept.keeps.pending (λ entry. not (nat_lt 0 entry.1.call.number))) serves.numbered;
-        waited = All-each (λ (entry : ℕ × Pending). IsTrue (awaits_made v entry.1.call.client entry.1.call.what)) (λ (entry : ℕ × Pending). IsTrue (awaits_made w entry.1.call.client entry.1.call.what))
-            (λ entry is. awaits-later v w entry.1.call.client entry.1.call.what (λ c n. (let equal = alike c n in omega arith)) is) w.pending
-            (all-kept (λ (entry : ℕ × Pending). awaits_made v entry.1.call.client entry.1.call.what) v.pending w.pending (kept.keeps.pending (λ entry. not (awaits_made v entry.1.call.client entry.1.call.what))) serves.waited);
-        handles = nothing.handles (λ entry. has_ended w entry.1.client entry.1.number)
-            (All-each (λ (entry : ℕ × Handle). IsTrue (has_ended v entry.1.client entry.1.number)) (λ (entry : ℕ × Handle). IsTrue (has_ended w entry.1.client entry.1.number))
-            (λ entry is. ended-later v w entry.1.client entry.1.number kept.keeps.ended is) v.handles serves.handles);
-        opened = nothing.handles (λ entry. nat_lt 0 entry.1.number) serves.opened;
-        gives = record {
-          files = let equal = same.files in let most = up.files in omega arith;
-          links = let equal = same.links in let most = up.links in omega arith;
-          streams = let equal = same.streams in let most = up.streams in omega arith;
-          handles = let equal = same.handles in let most = up.handles in omega arith;
-          locks = let equal = same.locks in let most = up.locks in omega arith;
-          breaks = let last = none.breaks in omega arith;
-          oplocks = let no_oplock = ap (λ (oplocks : List Oplock). length oplocks) none.oplocks in omega arith;
-          clock = let equal = nothing.clock in let most = up.clock in omega arith;
-        };
-        no_oplocks = none.oplocks;
-        no_breaks = none.breaks;
-      };
+        pending = kept.keeps.pending;
+        ended = kept.keeps.ended;
+        times = alike;
+        handles = nothing.handles;
+        same = same;
+        clock = nothing.clock;
+      }) (let equal = kept.keeps.made serves.once in let fewer = kept.breaks in let most = serves.breaks in omega arith);
     }
 
 comes : (v : Volume) (call : Call) (turn : ℕ) (outcome : Outcome) → Serves v → IsTrue (is_line_call (length v.clients) call) → FramedTo call v outcome → TriedTo v turn call.what outcome → Comes call v outcome
 comes v call turn (Done w reply) serves asked frame tried = ends-done v w call reply serves asked frame tried
-comes v call turn (Stay w interim) serves asked frame tried = stays v w call.client call.what frame.1 (IsLineCall.can_be_asked (line-asked (length v.clients) call asked))
+comes v call turn (Stay w interim) serves asked frame tried = stays v w turn call.client call.what serves frame.1 tried
 comes v call turn (Hold w blockers interim) serves asked frame tried = holds v w call blockers serves frame.1 tried.0 tried.1.0 tried.1.1.0
 
 -- so comes a try of what a line can ask
-pub try-comes : (v : Volume) (call : Call) (turn : ℕ) → Serves v → IsTrue (is_line_call (length v.clients) call) → ComesTo call v (try v call turn)
-try-comes v call turn serves asked = record {
-  so = comes v call turn (try v call turn) serves asked (InFrame.so (try-frame v call turn serves.points)) (try-keeps v call turn (one-each v serves.no_oplocks));
+pub try-comes : (v : Volume) (call : Call) (turn : ℕ) → Serves v → HasOneOplockEach v → IsTrue (is_line_call (length v.clients) call) → ComesTo call v (try v call turn)
+try-comes v call turn serves one asked = record {
+  so = comes v call turn (try v call turn) serves asked (InFrame.so (try-frame v call turn serves.points)) (try-keeps v call turn one);
 }
 
 -- ---- what becomes of the call
@@ -294,8 +412,8 @@ record Lasts (v w : Volume) : Type 0 where
   pending : (test : ℕ × Pending → Bool) → how_many test w.pending ≤ how_many test v.pending
   ended : Extends v.ended w.ended
   gives : GivesUpTo w (length v.ended + 2)
-  no_oplocks : w.oplocks ≡ []
-  no_breaks : w.last_break ≡ 0
+  once : IsOnce w
+  breaks : w.last_break + unbroken w ≤ made w
 
 end-serves : (v w : Volume) (client number : ℕ) (reply : Reply) → Serves v → Lasts v w → IsOnce (with_end w client number reply)
     → ((c n : ℕ) → times c n v ≤ times c n (with_end w client number reply))
@@ -316,9 +434,8 @@ end-serves v w client number reply serves lasts once more handles opened =
       opened = opened;
       gives = (let most : GivesUpTo w (length w.ended + 1 + 1) = GivesUpTo-more w (length v.ended + 2) (length w.ended + 1 + 1) (omega arith) lasts.gives in
           let all : GivesUpTo w (length (with_end w client number reply).ended + 1) = rw one most in
-          record { files = all.files; links = all.links; streams = all.streams; handles = all.handles; locks = all.locks; breaks = all.breaks; oplocks = all.oplocks; clock = all.clock });
-      no_oplocks = lasts.no_oplocks;
-      no_breaks = lasts.no_breaks;
+          record { files = all.files; links = all.links; streams = all.streams; handles = all.handles; locks = all.locks; clock = all.clock });
+      breaks = (let fewer = made-ends w client number reply lasts.once in let most = lasts.breaks in omega arith);
     }
   where
     after : List (ℕ × Pending)
@@ -332,7 +449,7 @@ pub Serves-ends : (v w : Volume) (call : Call) (reply : Reply) → Serves v → 
     → ((c n : ℕ) → times c n v ≤ times c n (with_end w call.client call.number reply)) → Serves (with_end w call.client call.number reply)
 Serves-ends v w call reply serves numbered ends once more =
     end-serves v w call.client call.number reply serves
-    (record { base = ends.base; points = ends.points; pending = ends.pending; ended = ends.ended; gives = ends.gives; no_oplocks = ends.no_oplocks; no_breaks = ends.no_breaks }) once more
+    (record { base = ends.base; points = ends.points; pending = ends.pending; ended = ends.ended; gives = ends.gives; once = ends.once; breaks = ends.breaks }) once more
     (ends.handles (λ handle. has_ended after handle.client handle.number)
     (All-each (λ (entry : ℕ × Handle). IsTrue (has_ended v entry.1.client entry.1.number)) (λ (entry : ℕ × Handle). IsTrue (has_ended after entry.1.client entry.1.number))
     (λ entry is. ended-later w after entry.1.client entry.1.number (Extends-end w call.client call.number reply) (ended-later v w entry.1.client entry.1.number ends.ended is)) v.handles serves.handles)
@@ -353,15 +470,15 @@ Serves-over v client number reply serves once more =
       pending = λ test. omega arith;
       ended = record { more = []; is = sym (append-nil v.ended) };
       gives = GivesUpTo-more v (length v.ended + 1) (length v.ended + 2) (omega arith) serves.gives;
-      no_oplocks = serves.no_oplocks;
-      no_breaks = serves.no_breaks;
+      once = serves.once;
+      breaks = serves.breaks;
     }) once more
     (All-each (λ (entry : ℕ × Handle). IsTrue (has_ended v entry.1.client entry.1.number)) (λ (entry : ℕ × Handle). IsTrue (has_ended (with_end v client number reply) entry.1.client entry.1.number))
     (λ entry is. ended-later v (with_end v client number reply) entry.1.client entry.1.number (Extends-end v client number reply) is) v.handles serves.handles)
     serves.opened
 
 -- a call that becomes pending
-pub Serves-pends : (v : Volume) (call : Call) (turn : ℕ) (blockers : List Blocker) → Serves v → IsTrue (is_line_call (length v.clients) call) → IsTrue (nat_lt 0 call.number)
+pub Serves-pends : (v : Volume) (call : Call) (turn : ℕ) (blockers : List Blocker) → ServesWithin v (made v + 1) → IsTrue (is_line_call (length v.clients) call) → IsTrue (nat_lt 0 call.number)
     → IsTrue (awaits_made v call.client call.what) → IsOnce (with_pending v turn call blockers) → Serves (with_pending v turn call blockers)
 Serves-pends v call turn blockers serves asked numbered waited once = record {
   points = serves.points;
@@ -375,9 +492,8 @@ Serves-pends v call turn blockers serves asked numbered waited once = record {
       (all-append (λ (entry : ℕ × Pending). awaits_made v entry.1.call.client entry.1.call.what) v.pending (turn, record { call = call; blockers = blockers }) serves.waited waited);
   handles = serves.handles;
   opened = serves.opened;
-  gives = record { files = serves.gives.files; links = serves.gives.links; streams = serves.gives.streams; handles = serves.gives.handles; locks = serves.gives.locks; breaks = serves.gives.breaks; oplocks = serves.gives.oplocks; clock = serves.gives.clock };
-  no_oplocks = serves.no_oplocks;
-  no_breaks = serves.no_breaks;
+  gives = record { files = serves.gives.files; links = serves.gives.links; streams = serves.gives.streams; handles = serves.gives.handles; locks = serves.gives.locks; clock = serves.gives.clock };
+  breaks = (let one = length-append v.pending ((turn, record { call = call; blockers = blockers }) ∷ []) in let most = serves.breaks in omega arith);
 }
 
 -- and one that is held anew
@@ -392,9 +508,8 @@ Serves-blockers v turn blockers serves = record {
       (λ entry is. awaits-later v (with_blockers v turn blockers) entry.1.call.client entry.1.call.what (λ c n. (let equal = same c n in omega arith)) is) v.pending serves.waited);
   handles = serves.handles;
   opened = serves.opened;
-  gives = record { files = serves.gives.files; links = serves.gives.links; streams = serves.gives.streams; handles = serves.gives.handles; locks = serves.gives.locks; breaks = serves.gives.breaks; oplocks = serves.gives.oplocks; clock = serves.gives.clock };
-  no_oplocks = serves.no_oplocks;
-  no_breaks = serves.no_breaks;
+  gives = record { files = serves.gives.files; links = serves.gives.links; streams = serves.gives.streams; handles = serves.gives.handles; locks = serves.gives.locks; clock = serves.gives.clock };
+  breaks = (let same_rows = length-map v.pending (change_at (λ row. record row { blockers = blockers }) turn) in let most = serves.breaks in omega arith);
 }
   where
     call-same : (entry : ℕ × Pending) → (change_at (λ row. record row { blockers = blockers }) turn entry).1.call ≡ entry.1.call
@@ -422,7 +537,6 @@ Serves-fresh setup = record {
   waited = All-nil (λ (entry : ℕ × Pending). IsTrue (awaits_made (fresh setup) entry.1.call.client entry.1.call.what));
   handles = All-nil (λ (entry : ℕ × Handle). IsTrue (has_ended (fresh setup) entry.1.client entry.1.number));
   opened = All-nil (λ (entry : ℕ × Handle). IsTrue (nat_lt 0 entry.1.number));
-  gives = record { files = omega arith; links = omega arith; streams = omega arith; handles = omega arith; locks = omega arith; breaks = omega arith; oplocks = omega arith; clock = omega arith };
-  no_oplocks = refl;
-  no_breaks = refl;
+  gives = record { files = omega arith; links = omega arith; streams = omega arith; handles = omega arith; locks = omega arith; clock = omega arith };
+  breaks = omega arith;
 }

@@ -11,10 +11,9 @@ use Rattle.fsa_model.specs.Close.{with_calls_ended}
 use Rattle.fsa_model.specs.Turn.{answered, ends_between, turn_number, volume_after}
 use Rattle.fsa_model.specs.Volume.{Pending, Volume}
 use Rattle.fsa_model.specs.Waiting.{is_wait, is_asked_before, all_wait, waits_in_order, with_stalled}
-use Rattle.fsa_model.proofs.OnceLaws.{Extends, Extends-same, Extends-next, Extends-length, ended-calls_ended}
-use Rattle.fsa_model.proofs.LoopLaws.{Reaches, Reaches-keeping}
-use Rattle.fsa_model.proofs.TakenLaws.{MayTakeUp}
-use Rattle.fsa_model.proofs.TurnLaws.{MayTurn, Adds, Adds-answered, try-keeps, tried-begins}
+use Rattle.fsa_model.proofs.OnceLaws.{Extends-same, Extends-next, Extends-length, ended-calls_ended}
+use Rattle.fsa_model.proofs.LoopLaws.{Reaches-keeping}
+use Rattle.fsa_model.proofs.TurnLaws.{Adds, Adds-answered, try-keeps, tried-begins}
 use Rattle.fsa_model.specs.Outcome.{Outcome, Done, Stay, Hold}
 use Rattle.fsa_model.specs.Try.{try}
 use Rattle.fsa_types.specs.declared.request.Call.{Call}
@@ -27,15 +26,15 @@ use Rattle.fsa_types.specs.Rows.{lives}
 use Rattle.fsa_types.specs.declared.reply.Blocker.{Blocker}
 use Rattle.fsa_types.specs.declared.request.What.{What}
 use Rattle.fsa_types.specs.declared.request.What.TheVariants.{WaitFor}
-use Rattle.fsa_model.specs.Edits.{with_end, with_pending}
+use Rattle.fsa_model.specs.Edits.{with_end}
 use Rattle.fsa_model.specs.Once.{IsOnce, how_many, made, times}
 use Rattle.fsa_model.specs.Waiting.{blocker_lives, is_pending}
+use Rattle.fsa_model.specs.Settling.{Extends, MayTakeUp, MayTurn, Reaches, is_call_of, is_under, may_be_held}
 use Rattle.fsa_model.proofs.CountLaws.{how_many-filter_le, how_many-in_order, how_many-weaker, none-how_many}
-use Rattle.fsa_model.proofs.OnceLaws.{IsOnce-kept, is_call_of, is_same-refl, pending-with_end, times-pending_ends}
-use Rattle.fsa_model.proofs.SettleLaws.{is_under, may_be_held}
+use Rattle.fsa_model.proofs.OnceLaws.{IsOnce-kept, is_same-refl, pending-with_end, times-pending_ends}
 use Rattle.fsa_model.proofs.TurnLaws.{TriedTo}
 use Rattle.fsa_machine.specs.Serves.{MayPend, MayTry, Serves, ServesOn, awaits_made, is_line_call}
-use Rattle.fsa_machine.proofs.ServeLaws.{Comes, ComesTo, asked-line, try-comes, SameBase-same, Serves-ends, Serves-over, Serves-pends}
+use Rattle.fsa_machine.proofs.ServeLaws.{Comes, ComesTo, ServesWithin-more, asked-line, try-comes, SameBase-same, Serves-ends, Serves-over, Serves-pends}
 use Rattle.fsa_machine.proofs.StepLaws.{Replies, own_ends, replies, told-end, told-none, ends-joined}
 
 -- these are still to end; the others have been given out
@@ -193,13 +192,12 @@ not-under v w fewer none = none-how_many (is_under (made v + 1)) w.pending
 pends-own : (v : Volume) (call : Call) (outcome : Outcome) → Serves v → MayTurn v → call.client < length v.clients → times call.client call.number v ≡ 0
     → TriedTo v (made v + 1) call.what outcome → Comes call v outcome → PendsOwn call (made v + 1) outcome
 pends-own v call (Done w reply) serves may client new tried comes = tt
-pends-own v call (Stay w interim) serves may client new tried comes =
-    subst (λ (u : Volume). MayPend u (made v + 1) call []) (sym comes.0) (record {
-      client = client;
-      new = not-pending v call.client call.number new;
-      free = not-under v v (λ test. omega arith) may.turns;
-      living = All-nil (λ (b : Blocker). blocker_lives v b ≡ true);
-    })
+pends-own v call (Stay w interim) serves may client new tried comes = record {
+  client = rw comes.base.clients client;
+  new = not-pending w call.client call.number (comes.times call.client call.number ∙ new);
+  free = not-under v w comes.pending may.turns;
+  living = All-nil (λ (b : Blocker). blocker_lives w b ≡ true);
+}
 pends-own v call (Hold w blockers interim) serves may client new tried comes = record {
   client = rw comes.base.clients client;
   new = not-pending w call.client call.number (comes.times call.client call.number ∙ new);
@@ -217,13 +215,12 @@ answered-serves v call (Done w reply) serves asked numbered comes tried once mor
   serves = Serves-ends v w call reply serves numbered comes.0 once more;
   base = record { table = comes.0.base.table; clients = comes.0.base.clients };
 }
-answered-serves v call (Stay w interim) serves asked numbered comes tried once more =
-    subst (λ (u : Volume). ServesOn v (with_pending u (made v + 1) call [])) (sym comes.0) (record {
-      serves = Serves-pends v call (made v + 1) [] serves asked numbered comes.1 (subst (λ (u : Volume). IsOnce (with_pending u (made v + 1) call [])) comes.0 once);
-      base = record { table = refl; clients = refl };
-    })
+answered-serves v call (Stay w interim) serves asked numbered comes tried once more = record {
+  serves = Serves-pends w call (made v + 1) [] (ServesWithin-more w (made v + 1) (made w + 1) (let same = comes.made in omega arith) comes.serves) (rw comes.base.clients asked) numbered comes.awaited once;
+  base = record { table = comes.base.table; clients = comes.base.clients };
+}
 answered-serves v call (Hold w blockers interim) serves asked numbered comes tried once more = record {
-  serves = Serves-pends w call (made v + 1) blockers comes.serves (rw comes.base.clients asked) numbered (awaits-held w call.client call.what tried.1.1.1) once;
+  serves = Serves-pends w call (made v + 1) blockers (ServesWithin-more w (made w) (made w + 1) (omega arith) comes.serves) (rw comes.base.clients asked) numbered (awaits-held w call.client call.what tried.1.1.1) once;
   base = record { table = comes.base.table; clients = comes.base.clients };
 }
 
@@ -241,7 +238,7 @@ own-tries v call turn outcome serves may_try may new tried number =
       few = few_of (try v call (turn_number v)) adds.made;
       made = adds.made;
       replies = replies v call (turn_number v) (try v call (turn_number v)) serves refl;
-      pends = pends-own v call (try v call (turn_number v)) serves may may_try.asked.client new keeps (ComesTo.so (try-comes v call (turn_number v) serves (asked-line (length v.clients) call may_try.asked)));
+      pends = pends-own v call (try v call (turn_number v)) serves may may_try.asked.client new keeps (ComesTo.so (try-comes v call (turn_number v) serves may.take_up.may.oplocks (asked-line (length v.clients) call may_try.asked)));
     }))
   where
     keeps : TriedTo v (turn_number v) call.what (try v call (turn_number v))
@@ -276,7 +273,7 @@ own-answered v w call serves may_try numbered may new is =
       made = adds.made;
       begins = own.begins;
       goes = longer (try v call (turn_number v));
-      serves = answered-serves v call (try v call (turn_number v)) serves asked numbered (ComesTo.so (try-comes v call (turn_number v) serves asked)) (try-keeps v call (turn_number v) may.take_up.may.oplocks) adds.may.take_up.once (λ c n. (let more = adds.times c n in omega arith));
+      serves = answered-serves v call (try v call (turn_number v)) serves asked numbered (ComesTo.so (try-comes v call (turn_number v) serves may.take_up.may.oplocks asked)) (try-keeps v call (turn_number v) may.take_up.may.oplocks) adds.may.take_up.once (λ c n. (let more = adds.times c n in omega arith));
     })
   where
     longer : (outcome : Outcome) → length (volume_after outcome).ended ≤ length (answered call (turn_number v) outcome).ended

@@ -26,6 +26,7 @@ use Rattle.fsa_model.specs.Setup.{Setup}
 use Rattle.fsa_model.specs.Turn.{Turned, turn}
 use Rattle.fsa_model.specs.Volume.{Handle, Pending, Volume, fresh}
 use Rattle.fsa_model.specs.Waiting.{has_ended, is_pending}
+use Rattle.fsa_model.specs.Settling.{MayTurn}
 use Rattle.fsa_model.proofs.CountLaws.{how_many-append, how_many-none, how_many-some}
 use Rattle.fsa_model.proofs.EngineLaws.{run-ends_once, run-none_ready, run-released}
 use Rattle.fsa_model.proofs.HistoryLaws.{run-push}
@@ -33,13 +34,13 @@ use Rattle.fsa_model.proofs.OnceHistory.{Runs, run-runs}
 use Rattle.fsa_model.proofs.OnceLaws.{is_same-equal}
 use Rattle.fsa_model.proofs.ScheduleLaws.{calls_of-push}
 use Rattle.fsa_model.proofs.SettleLaws.{some_equal}
-use Rattle.fsa_model.proofs.TurnLaws.{MayTurn, Turns, turn-turns}
+use Rattle.fsa_model.proofs.TurnLaws.{Turns, turn-turns}
 use Rattle.fsa_machine.specs.Kept.{entry_of}
 use Rattle.fsa_machine.specs.declared.kept.KeptTurn.{KeptTurn}
 use Rattle.fsa_machine.specs.Serves.{KnowsWaited, MayTry, SameBase, Serves, ServesOn, most_entries, most_turns}
 use Rattle.fsa_machine.specs.Stands.{CallsNumbered, GaveOut, Stands, calls_in, ended_with_list, reply_in, setup_in}
 use Rattle.fsa_machine.proofs.LookLaws.{some-found}
-use Rattle.fsa_machine.proofs.ServeLaws.{All-each, GivesUpTo-more, Serves-fresh}
+use Rattle.fsa_machine.proofs.ServeLaws.{All-each, GivesUpTo-more, Serves-fresh, few-oplocks}
 
 -- ---- one more call of a client
 
@@ -177,6 +178,7 @@ asks-turn setup entries outs v call stands asked next =
         new = no-handle v call.client call.number none v.handles stands.serves.handles;
         opened = All-each (λ (entry : ℕ × Handle). IsTrue (nat_lt 0 entry.1.number)) (λ (entry : ℕ × Handle). 0 < entry.1.number) (λ entry above. ltb-true 0 entry.1.number above) v.handles stands.serves.opened;
         gives = GivesUpTo-more v (length v.ended + 1) most_turns (omega arith) stands.serves.gives;
+        breaks = few-oplocks v most_turns run.may.take_up.given (let most = stands.serves.breaks in omega arith);
         waited = knows v call.client call.number (calls_of call.client (calls_in entries)) call.what next (λ earlier. stands-times setup entries outs v call.client earlier stands ∙ stands.numbered call.client earlier);
       };
       number = omega arith;

@@ -19,12 +19,11 @@ use Rattle.fsa_model.specs.Settle.{with_ended, with_tried, starves}
 use Rattle.fsa_model.specs.Try.{try}
 use Rattle.fsa_model.specs.Turn.{ends_between, volume_after}
 use Rattle.fsa_model.specs.Volume.{Pending, Volume}
-use Rattle.fsa_model.proofs.OnceLaws.{Extends, Extends-length, is_same-equal, is_same-refl}
+use Rattle.fsa_model.proofs.OnceLaws.{Extends-length, is_same-equal, is_same-refl}
 use Rattle.fsa_model.specs.Waiting.{is_held, next_ready}
-use Rattle.fsa_model.proofs.LoopLaws.{Keeping, Reaches, Reaches-step, Reaches-keeping, TakesNext, TakesUp, TakesUp-tried, TakesUp-starves, TakesUp-waits, TakesUp-keeping, next-row, held-stays, try-extends}
+use Rattle.fsa_model.proofs.LoopLaws.{Keeping, Reaches-step, Reaches-keeping, TakesUp-tried, TakesUp-starves, TakesUp-waits, TakesUp-keeping, next-row, held-stays, try-extends}
 use Rattle.fsa_model.proofs.CountLaws.{how_many-length}
 use Rattle.fsa_model.proofs.RowLaws.{option_cases}
-use Rattle.fsa_model.proofs.TakenLaws.{GoesOn, MayTakeUp}
 use Rattle.std.specs.Prelude.{◌==◌, ◌&&◌, nat_lt, find, Bool, not, IsTrue, All}
 use Rattle.std.specs.Option.{ForSome}
 use Rattle.std.proofs.lemmas.Bool.{eq-eqb, ltb-true}
@@ -38,15 +37,16 @@ use Rattle.fsa_model.specs.Once.{IsOnce, how_many, is_end, made, times}
 use Rattle.fsa_model.specs.Volume.{Handle}
 use Rattle.fsa_model.specs.Requests.{can_be_asked}
 use Rattle.fsa_model.specs.Waiting.{has_come, has_ended}
+use Rattle.fsa_model.specs.Settling.{Extends, GoesOn, MaySettle, MayTakeUp, Reaches, TakesNext, TakesUp, how_many_free, is_under, may_be_held}
 use Rattle.fsa_model.proofs.CountLaws.{and_right, how_many-some, how_many-weaker, some-how_many}
 use Rattle.fsa_model.proofs.LoopLaws.{Reaches-begins}
-use Rattle.fsa_model.proofs.SettleLaws.{IsNext, MaySettle, MaySettle-kept, how_many_free, next_ready-is, is_under, may_be_held, next-may_be_held, some_equal, try-tries}
+use Rattle.fsa_model.proofs.SettleLaws.{IsNext, MaySettle-kept, next_ready-is, next-may_be_held, some_equal, try-tries}
 use Rattle.fsa_model.proofs.TryFrame.{try-frame}
 use Rattle.fsa_model.proofs.WatchLaws.{come_cases}
 use Rattle.fsa_model.proofs.TryLaws.{Leaves, Tries, TriesTo}
 use Rattle.fsa_machine.specs.Serves.{KnowsWaited, MayHoldAnew, MayTry, Serves, ServesOn, is_line_call, most_entries, most_turns}
 use Rattle.fsa_machine.specs.Step.{AreBare, ready_of}
-use Rattle.fsa_machine.proofs.ServeLaws.{Comes, ComesTo, GivesUpTo-more, All-each, none-fails, line-asked, try-comes, SameBase-next, Serves-ends, Serves-over, Serves-blockers}
+use Rattle.fsa_machine.proofs.ServeLaws.{Comes, ComesTo, GivesUpTo-more, few-oplocks, All-each, none-fails, line-asked, try-comes, SameBase-next, Serves-ends, Serves-over, Serves-blockers}
 use Rattle.fsa_machine.specs.declared.store.Ready.{Ready}
 
 -- the call that is ready
@@ -131,6 +131,7 @@ may-retry v ready call serves may is held called few =
           (there.is_there (λ (e : ℕ × Pending). e.1.call.client == next.entry.1.call.client && e.1.call.number == next.entry.1.call.number) (is_same-refl next.entry.1.call.client next.entry.1.call.number)) v.handles serves.handles;
       opened = All-each (λ (entry : ℕ × Handle). IsTrue (nat_lt 0 entry.1.number)) (λ (entry : ℕ × Handle). 0 < entry.1.number) (λ entry above. ltb-true 0 entry.1.number above) v.handles serves.opened;
       gives = GivesUpTo-more v (length v.ended + 1) most_turns (omega arith) serves.gives;
+      breaks = few-oplocks v most_turns may.given (let most = serves.breaks in omega arith);
       waited = knows-held v next.entry.1.call.client next.entry.1.call.number next.entry.1.call.what (next-may_be_held v next.entry may.may there is_held_entry);
     })
 
@@ -210,15 +211,14 @@ holds-anew v entry (Hold w blockers interim) may there held tries =
 next-numbered : (v : Volume) (entry : ℕ × Pending) → Serves v → next_ready v ≡ Some entry → nat_lt 0 entry.1.call.number ≡ true
 next-numbered v entry serves found = next-passes v entry (λ e. nat_lt 0 e.1.call.number) found serves.numbered
 
-tried-serves : (v : Volume) (entry : ℕ × Pending) (outcome : Outcome) → Serves v → IsTrue (nat_lt 0 entry.1.call.number) → Comes entry.1.call v outcome
+tried-serves : (v : Volume) (entry : ℕ × Pending) (outcome : Outcome) → Serves v → IsTrue (nat_lt 0 entry.1.call.number) → Comes entry.1.call v outcome → TriesTo Leaves v outcome
     → IsOnce (with_tried entry.0 entry.1 outcome) → ((client number : ℕ) → times client number (with_tried entry.0 entry.1 outcome) ≡ times client number v) → ServesOn v (with_tried entry.0 entry.1 outcome)
-tried-serves v entry (Done w reply) serves numbered comes once same = record {
+tried-serves v entry (Done w reply) serves numbered comes tries once same = record {
   serves = Serves-ends v w entry.1.call reply serves numbered comes.0 once (λ c n. (let equal = same c n in omega arith));
   base = record { table = comes.0.base.table; clients = comes.0.base.clients };
 }
-tried-serves v entry (Stay w interim) serves numbered comes once same =
-    subst (λ (u : Volume). ServesOn v (with_blockers u entry.0 [])) (sym comes.0) (record { serves = Serves-blockers v entry.0 [] serves; base = record { table = refl; clients = refl } })
-tried-serves v entry (Hold w blockers interim) serves numbered comes once same = record {
+tried-serves v entry (Stay w interim) serves numbered comes tries once same = absurd tries
+tried-serves v entry (Hold w blockers interim) serves numbered comes tries once same = record {
   serves = Serves-blockers w entry.0 blockers comes.serves;
   base = record { table = comes.base.table; clients = comes.base.clients };
 }
@@ -249,7 +249,7 @@ retries v ready call outcome serves may is held called tried =
     let keeping = TakesUp-keeping v (with_tried next.entry.0 next.entry.1 outcome) next.entry [] may next.found takes in
     let left : with_tried next.entry.0 next.entry.1 outcome ≡ retried ready outcome = as_retried next.entry outcome ∙ ap (λ (r : Ready). retried r outcome) next.is in
     let comes : Comes next.entry.1.call v outcome = subst (λ (o : Outcome). Comes next.entry.1.call v o) is_tried
-    (ComesTo.so (try-comes v next.entry.1.call next.entry.0 serves (next-passes v next.entry (λ e. is_line_call (length v.clients) e.1.call) next.found serves.asked))) in
+    (ComesTo.so (try-comes v next.entry.1.call next.entry.0 serves may.may.oplocks (next-passes v next.entry (λ e. is_line_call (length v.clients) e.1.call) next.found serves.asked))) in
     let tries : TriesTo Leaves v outcome = subst (λ (o : Outcome). TriesTo Leaves v o) is_tried
     (Tries.so (try-tries v next.entry.1.call next.entry.0 may.may.oplocks (next-may_be_held v next.entry may.may there is_held_entry))) in
     record {
@@ -259,7 +259,7 @@ retries v ready call outcome serves may is held called tried =
       replies = replies v call ready.turn outcome serves tried;
       anew = subst (λ (t : ℕ). HoldsAnew t outcome) turn (holds-anew v next.entry outcome may there is_held_entry tries);
       serves = subst (λ (w : Volume). ServesOn v w) left
-          (tried-serves v next.entry outcome serves (next-numbered v next.entry serves next.found) comes keeping.may.once (takes-times v (with_tried next.entry.0 next.entry.1 outcome) next.entry [] may next.found takes));
+          (tried-serves v next.entry outcome serves (next-numbered v next.entry serves next.found) comes tries keeping.may.once (takes-times v (with_tried next.entry.0 next.entry.1 outcome) next.entry [] may next.found takes));
     }
   where
     as_retried : (entry : ℕ × Pending) (outcome : Outcome) → with_tried entry.0 entry.1 outcome ≡ retried (ready_of entry) outcome

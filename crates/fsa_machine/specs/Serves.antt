@@ -1,5 +1,5 @@
 -- What one try of a call asks of the volume, and what the volume is between tries.
-use Rattle.std.specs.Prelude.{◌≡◌, ℕ, ◌+◌, ◌*◌, ◌<◌, ◌≤◌, ◌==◌, Bool, true, false, ◌&&◌, ◌||◌, nat_lt, List, [], None, All, IsTrue, length}
+use Rattle.std.specs.Prelude.{◌≡◌, ℕ, ◌+◌, ◌*◌, ◌<◌, ◌≤◌, ◌==◌, Bool, true, false, ◌&&◌, ◌||◌, nat_lt, List, None, All, IsTrue, length}
 use Rattle.std.specs.Option.{ForSome}
 use Rattle.fsa_types.specs.Rows.{lives, row_of}
 use Rattle.fsa_types.specs.Request.{what_fits}
@@ -10,8 +10,9 @@ use Rattle.fsa_types.specs.declared.request.What.TheVariants.{WaitFor}
 use Rattle.fsa_model.specs.Frame.{PointsFit}
 use Rattle.fsa_model.specs.LineCalls.{IsLineCall, ticks_fit}
 use Rattle.fsa_model.specs.Lookups.{handle_of}
-use Rattle.fsa_model.specs.Once.{IsOnce, times}
+use Rattle.fsa_model.specs.Once.{IsOnce, made, times}
 use Rattle.fsa_model.specs.Requests.{can_be_asked}
+use Rattle.fsa_model.specs.Settling.{unbroken}
 use Rattle.fsa_model.specs.Volume.{Volume}
 use Rattle.fsa_model.specs.Waiting.{blocker_lives, has_ended, is_held, is_pending}
 
@@ -25,17 +26,19 @@ most_entries = 1000000
 abbrev pub most_turns : ℕ
 most_turns = 1000001
 
--- how many numbers of each kind were given at most in so many turns, how many oplocks there are, and how far the
--- clock went on
+-- how many numbers of each kind were given at most in so many turns, and how far the clock went on
 pub record GivesUpTo (v : Volume) (turns : ℕ) : Type 0 where
   pub files : v.last_file ≤ turns
   pub links : v.last_link ≤ turns
   pub streams : v.last_stream ≤ turns * 2
   pub handles : v.last_handle ≤ turns
   pub locks : v.last_lock ≤ turns
+  pub clock : v.clock ≤ turns * 4294967296
+
+-- how many breaks were begun at most in so many turns, and how many oplocks there are
+pub record BreaksUpTo (v : Volume) (turns : ℕ) : Type 0 where
   pub breaks : v.last_break ≤ turns
   pub oplocks : length v.oplocks ≤ turns
-  pub clock : v.clock ≤ turns * 4294967296
 
 -- ---- a try
 
@@ -58,6 +61,7 @@ pub record MayTry (v : Volume) (call : Call) : Type 0 where
   pub new : handle_of v call.client call.number ≡ None
   pub opened : All (λ entry. 0 < entry.1.number) v.handles
   pub gives : GivesUpTo v most_turns
+  pub breaks : BreaksUpTo v most_turns
   pub waited : KnowsWaited v call.client call.number call.what
 
 -- ---- a call that is pending
@@ -90,8 +94,9 @@ awaits_made v client _ = true
 
 -- between tries a volume is so: reparse points fit a reply; no call is there twice; each pending call is one that
 -- a line can ask, with a number, and waits for no call that wasn't made; each handle was opened by a call that has
--- ended; few numbers were given; and no oplock is there and no break was ever begun, since no line asks for an oplock
-pub record Serves (v : Volume) : Type 0 where
+-- ended; few numbers were given; and the breaks that were begun and those that the oplocks without one can still
+-- come to are so many at most
+pub record ServesWithin (v : Volume) (most : ℕ) : Type 0 where
   pub points : PointsFit v
   pub once : IsOnce v
   pub asked : All (λ entry. IsTrue (is_line_call (length v.clients) entry.1.call)) v.pending
@@ -100,8 +105,11 @@ pub record Serves (v : Volume) : Type 0 where
   pub handles : All (λ entry. IsTrue (has_ended v entry.1.client entry.1.number)) v.handles
   pub opened : All (λ entry. IsTrue (nat_lt 0 entry.1.number)) v.handles
   pub gives : GivesUpTo v (length v.ended + 1)
-  pub no_oplocks : v.oplocks ≡ []
-  pub no_breaks : v.last_break ≡ 0
+  pub breaks : v.last_break + unbroken v ≤ most
+
+-- no more breaks than calls were made: each call is granted one oplock at most
+abbrev pub Serves : Volume → Type 0
+Serves v = ServesWithin v (made v)
 
 -- the table and the clients are as they were
 pub record SameBase (v w : Volume) : Type 0 where

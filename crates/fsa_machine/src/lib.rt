@@ -21,7 +21,8 @@
 //!   replies without bytes, which take no memory.
 //! - What is true of the volume between tries is `Serves`; from it follows what each try asks (`MayTry`). It
 //!   says that each handle was opened by a call that has ended, that each pending call is one that a line
-//!   can ask and waits for no call that wasn't made, and that few numbers were given.
+//!   can ask and waits for no call that wasn't made, that few numbers were given, and that no more breaks
+//!   were begun, or can come of the oplocks that are there, than calls were made.
 //! - What a turn needs of a volume is the trait `Store`.
 //! - A turn costs its tries, a look at the pending calls for each call that is taken up, and a copy of what it
 //!   gives out. A look at how a call ended goes over the ends.

@@ -4,8 +4,8 @@ ghost use Rattle.std.specs.Prelude.{◌≡◌, ◌≤◌, ◌<◌, ◌+◌, ◌-
 ghost use Rattle.fsa_model.specs.Edits.{with_end, with_pending};
 ghost use Rattle.fsa_model.specs.Frame.{FitsReply};
 ghost use Rattle.fsa_model.specs.Once.{made, times};
+ghost use Rattle.fsa_model.specs.Settling.{MayTurn};
 ghost use Rattle.fsa_model.specs.Turn.{answer_of, answered, ends_between, try, turn_number, volume_after};
-ghost use Rattle.fsa_model.proofs.TurnLaws.{MayTurn};
 ghost use Rattle.fsa_machine.specs.Serves.{MayPend, MayTry, Serves, most_entries};
 ghost use Rattle.fsa_machine.specs.Step.{AreBare, HasReplyRoom};
 

@@ -12,9 +12,11 @@ ghost use Rattle.volume_state.specs.Tried.{Gives, HasHoldRoom};
 use crate::waiting::{try_cancel, try_wait};
 use fsa_types::{Call, Request, Status, What};
 use op_data::{try_flush, try_lock, try_read, try_set_end, try_unlock, try_write};
-use op_delete::{try_close, try_leave};
+use op_delete::{try_close, try_leave, try_set_disposition};
 use op_info::try_set_security;
+use op_link::{try_link, try_rename};
 use op_open::try_create;
+use op_oplock::{try_ack, try_oplock};
 use std::alloc::Global;
 use volume_state::{Tried, Volume};
 
@@ -43,9 +45,21 @@ fn try_request(
         Request::Unlock { .. } => try_unlock(alloc, volume, call, turn),
         Request::SetSecurity { .. } => try_set_security(alloc, volume, call, turn),
         Request::Cancel { number } => try_cancel(volume, call.client, *number),
-        // No line can ask these so far. `Serves` says that no oplock is there; with these it has to say more.
-        Request::Oplock { .. } | Request::Ack { .. } | Request::Notify { .. } => unreachable!(),
-        _ => Tried::ends(Status::InvalidDeviceRequest),
+        Request::Oplock { .. } => try_oplock(alloc, volume, call, turn),
+        Request::Ack { .. } => try_ack(alloc, volume, call, turn),
+        Request::Rename { .. } => try_rename(alloc, volume, call, turn),
+        Request::Link { .. } => try_link(alloc, volume, call, turn),
+        Request::SetDisposition { .. } => try_set_disposition(alloc, volume, call, turn),
+        // No line can ask these so far.
+        Request::QueryDir { .. }
+        | Request::Notify { .. }
+        | Request::QueryInfo { .. }
+        | Request::SetBasic { .. }
+        | Request::SetReparse { .. }
+        | Request::GetReparse { .. }
+        | Request::DeleteReparse { .. }
+        | Request::SetQuota { .. }
+        | Request::QueryQuota { .. } => unreachable!(),
     }
 }
 

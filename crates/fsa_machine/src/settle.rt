@@ -9,10 +9,9 @@ ghost use Rattle.fsa_model.specs.Close.{with_calls_ended};
 ghost use Rattle.fsa_model.specs.Edits.{with_end};
 ghost use Rattle.fsa_model.specs.Once.{made};
 ghost use Rattle.fsa_model.specs.Settle.{settled};
+ghost use Rattle.fsa_model.specs.Settling.{MayTakeUp, Reaches, TakesNext};
 ghost use Rattle.fsa_model.specs.Turn.{ends_between};
 ghost use Rattle.fsa_model.specs.Waiting.{next_ready, waits_in_order, with_stalled};
-ghost use Rattle.fsa_model.proofs.LoopLaws.{Reaches, TakesNext};
-ghost use Rattle.fsa_model.proofs.TakenLaws.{MayTakeUp};
 ghost use Rattle.fsa_machine.specs.Serves.{Serves, ServesOn, most_entries};
 ghost use Rattle.fsa_machine.specs.Step.{HasReplyRoom, id_of, ready_of};
 

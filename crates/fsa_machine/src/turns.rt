@@ -3,8 +3,8 @@
 ghost use Rattle.std.specs.Prelude.{◌≡◌, ◌≤◌, ◌<◌, ◌+◌, [], length, Some, IfOk, IfErr, OnOk};
 ghost use Rattle.fsa_model.specs.Once.{made, times};
 ghost use Rattle.fsa_model.specs.Outcome.{out_of};
+ghost use Rattle.fsa_model.specs.Settling.{MayTurn};
 ghost use Rattle.fsa_model.specs.Turn.{turn};
-ghost use Rattle.fsa_model.proofs.TurnLaws.{MayTurn};
 ghost use Rattle.fsa_machine.specs.Serves.{MayTry, Serves, ServesOn, most_entries};
 ghost use Rattle.fsa_machine.specs.Step.{HasReplyRoom};
 

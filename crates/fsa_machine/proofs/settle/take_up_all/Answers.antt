@@ -1,6 +1,7 @@
 use Rattle.std.proofs.Common.{List, refl, sym, subst, ◌∙◌, arith}
 use Rattle.fsa_types.specs.declared.request.CallId.{CallId}
-use Rattle.fsa_model.proofs.LoopLaws.{Reaches, Reaches-begins}
+use Rattle.fsa_model.specs.Settling.{Reaches}
+use Rattle.fsa_model.proofs.LoopLaws.{Reaches-begins}
 use Rattle.fsa_machine.proofs.ServeLaws.{SameBase-same}
 use Rattle.fsa_machine.proofs.StepLaws.{onward, told-on, told-none}
 use Rattle.fsa_machine.proofs.settle.take_up_all.Goals as goal

@@ -1,7 +1,6 @@
 use Rattle.std.proofs.Common.{◌≡◌, ◌≤◌, ◌+◌, ◌++◌, length}
 use Rattle.fsa_model.specs.Turn.{ends_between}
-use Rattle.fsa_model.proofs.LoopLaws.{Reaches}
-use Rattle.fsa_model.proofs.SettleLaws.{how_many_free}
+use Rattle.fsa_model.specs.Settling.{Reaches, how_many_free}
 use Rattle.fsa_machine.specs.Serves.{ServesOn}
 use Rattle.fsa_machine.proofs.settle.take_up_all.Given as goal
 
