@@ -7,7 +7,13 @@ mod dispositions;
 #[cfg(test)]
 mod limits;
 #[cfg(test)]
+mod oplock_table;
+#[cfg(test)]
+mod oplocks;
+#[cfg(test)]
 mod program;
+#[cfg(test)]
+mod renames;
 #[cfg(test)]
 mod security;
 #[cfg(test)]
