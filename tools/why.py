@@ -10,7 +10,7 @@ MOST_PLACE, MOST_COUNT, MOST_ID, MOST_KEY = 2**64 - 1, 16384, 2**32 - 1, 2**64 -
 DISPOSITIONS = "supersede open create open_if overwrite overwrite_if".split()
 # the fields of each verb, by their names and forms
 VERBS = {
-    "create": [("path", "text"), ("wanted access", "mask"), ("share access", "mask"), ("disposition", "disposition"), ("options", "options"), ("attributes", "mask"), ("key", MOST_KEY)],
+    "create": [("path", "text"), ("wanted access", "mask"), ("share access", "mask"), ("disposition", "disposition"), ("options", "mask"), ("attributes", "mask"), ("key", MOST_KEY)],
     "close": [("handle", MOST_ID)],
     "read": [("handle", MOST_ID), ("place", MOST_PLACE), ("count", MOST_COUNT)],
     "write": [("handle", MOST_ID), ("place", "start"), ("bytes", "bytes")],
@@ -18,12 +18,17 @@ VERBS = {
     "setend": [("handle", MOST_ID), ("length", MOST_PLACE)],
     "lock": [("handle", MOST_ID), ("place", MOST_PLACE), ("length", MOST_PLACE), ("kind of lock", ("ex", "sh")), ("last field", ("wait", "now"))],
     "unlock": [("handle", MOST_ID), ("place", MOST_PLACE), ("length", MOST_PLACE)],
+    "oplock": [("handle", MOST_ID), ("level", ("r", "rh", "rw", "rwh"))],
+    "ack": [("handle", MOST_ID), ("level", ("none", "r", "rh", "rw", "rwh"))],
+    "rename": [("handle", MOST_ID), ("path", "text"), ("last field", ("replace", "keep"))],
+    "link": [("handle", MOST_ID), ("path", "text"), ("last field", ("replace", "keep"))],
+    "setdelete": [("handle", MOST_ID), ("last field", ("yes", "no"))],
     "setsecurity": [("handle", MOST_ID), ("owner", "owner"), ("access list", "dacl")],
     "cancel": [("number of a call", MOST_ID)],
     "tick": [("ticks", MOST_ID)],
     "wait": [("number of a call", MOST_ID)],
 }
-LATER = "querydir notify query setbasic setdelete rename link setreparse getreparse deletereparse setquota queryquota oplock ack leave".split()
+LATER = "querydir notify query setbasic setreparse getreparse deletereparse setquota queryquota leave".split()
 
 
 def number(word, most, what):
@@ -106,9 +111,6 @@ def field(word, what, form):
         return None if word == "keep" else number(word, MOST_ID, "owner, if it isn't `keep`,")
     if form == "disposition":
         return None if word in DISPOSITIONS else f"the disposition is one of {', '.join(DISPOSITIONS)}, not {word!r}"
-    if form == "options":
-        fault = mask(word, what)
-        return fault or ("DELETE_ON_CLOSE, 0x1000, is not in scripts so far" if int(word, 16) & 0x1000 else None)
     return {"text": text, "mask": mask, "bytes": data, "dacl": dacl}[form](word, what)
 
 
@@ -129,7 +131,7 @@ def request(words, names, calls):
         return f"there is no verb {verb!r}; the verbs are {', '.join(VERBS)}"
     wanted = VERBS[verb]
     if len(fields) != len(wanted):
-        return f"`{verb}` has the fields {', '.join(it for it, _ in wanted)}: {len(wanted)}, and here are {len(fields)}" + (". A space in a path is written %0020" if verb == "create" and len(fields) > len(wanted) else "")
+        return f"`{verb}` has the fields {', '.join(it for it, _ in wanted)}: {len(wanted)}, and here are {len(fields)}" + (". A space in a path is written %0020" if verb in ("create", "rename", "link") and len(fields) > len(wanted) else "")
     for word, (what, form) in zip(fields, wanted):
         fault = field(word, what, form)
         if fault:
