@@ -68,7 +68,7 @@ const RUNS: [(&str, u8, &str); 4] = [
 ];
 
 // Scripts with each way in which these requests are refused, and with what is left then.
-const REFUSALS: [(&str, u8, &str); 11] = [
+const REFUSALS: [(&str, u8, &str); 12] = [
     // No handle, the root, a named stream and a handle without DELETE are not renamed; nothing has another
     // name then.
     (
@@ -105,6 +105,18 @@ const REFUSALS: [(&str, u8, &str); 11] = [
          > a 13 link\na 13 OBJECT_NAME_INVALID\n> a 14 link\na 14 OBJECT_PATH_NOT_FOUND\n\
          > a 15 create\na 15 SUCCESS opened\n> a 16 create\na 16 OBJECT_NAME_NOT_FOUND\n\
          > a 17 leave\na 17 SUCCESS\nend 17\n",
+    ),
+    // Nothing gets a name in a directory that is marked for deletion, until the mark is cleared.
+    (
+        "fsa 1\nclient a 7\na 1 create =\\d 0x10000 0x7 create 0x1 0x0 0\n\
+         a 2 create =\\f 0x10000 0x7 create 0x0 0x0 0\na 3 setdelete 1 yes\n\
+         a 4 rename 2 =\\d\\x keep\na 5 link 2 =\\d\\x keep\na 6 setdelete 1 no\n\
+         a 7 link 2 =\\d\\x keep\na 8 rename 2 =\\d\\y keep\n",
+        0,
+        "> a 1 create\na 1 SUCCESS created\n> a 2 create\na 2 SUCCESS created\n\
+         > a 3 setdelete\na 3 SUCCESS\n> a 4 rename\na 4 DELETE_PENDING\n> a 5 link\n\
+         a 5 DELETE_PENDING\n> a 6 setdelete\na 6 SUCCESS\n> a 7 link\na 7 SUCCESS\n\
+         > a 8 rename\na 8 SUCCESS\n> a 9 leave\na 9 SUCCESS\nend 9\n",
     ),
     // A directory isn't renamed while a file in it is open, and is when it is closed; the file has a new
     // path then.
