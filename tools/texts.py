@@ -1,7 +1,7 @@
 #!/usr/bin/env python3
-"""texts.py PROGRAM | --try: runs every script of examples/ and of the documents, and compares what is printed with its text.
+"""texts.py PROGRAM | --try: runs every script of examples/, of checks/rows/ and of the documents, and compares what is printed with its text.
 
-A script is examples/NAME.fsa with its text NAME.txt, or in a document a block fenced as `fsa` with the next block,
+A script is NAME.fsa in one of the two folders with its text NAME.txt, or in a document a block fenced as `fsa` with the next block,
 fenced as `text`, where a line `..` stands for any lines; a file that the fence names has the same. A block fenced as `why` behind these is what ./fsa says of a
 faulty line. A block fenced as `python` is run with FSA set to the program, and prints the text behind it. Every link to
 a file has to lead to one. With --try the program is not built but run by the unproved run of the toolchain.
@@ -53,24 +53,25 @@ def cases_of(document, faults):
         yield Case(f"{document}:{line}", kind, source, following[0][1], why)
 
 
-def examples(faults):
-    names = sorted(os.listdir(f"{TOP}/examples"))
+def scripts_in(folder, faults):
+    names = sorted(os.listdir(f"{TOP}/{folder}"))
     for name in names:
         if name.endswith(".fsa"):
             text = name[: -len("fsa")] + "txt"
             if text in names:
-                yield Case(f"examples/{name}", "fsa", read(f"examples/{name}"), read(f"examples/{text}"))
+                yield Case(f"{folder}/{name}", "fsa", read(f"{folder}/{name}"), read(f"{folder}/{text}"))
             else:
-                faults.append(f"examples/{name} has no text examples/{text}")
+                faults.append(f"{folder}/{name} has no text {folder}/{text}")
 
 
 def agree(wanted, printed):
     """Returns whether the text is this one, where a line `..` of it stands for any lines."""
-    if not wanted:
-        return not printed
-    if wanted[0] == "..":
-        return any(agree(wanted[1:], printed[at:]) for at in range(len(printed) + 1))
-    return bool(printed) and wanted[0] == printed[0] and agree(wanted[1:], printed[1:])
+    for at, line in enumerate(wanted):
+        if line == "..":
+            return any(agree(wanted[at + 1 :], printed[more:]) for more in range(at, len(printed) + 1))
+        if at >= len(printed) or printed[at] != line:
+            return False
+    return len(wanted) == len(printed)
 
 
 def first_difference(wanted, printed):
@@ -96,7 +97,7 @@ def tried(cases):
 
 def main(program):
     faults = []
-    cases = [*examples(faults)] + [case for it in documents() for case in cases_of(it, faults)]
+    cases = [*scripts_in("examples", faults), *scripts_in("checks/rows", faults)] + [case for it in documents() for case in cases_of(it, faults)]
     scripts = [it for it in cases if it.kind == "fsa"]
     by_try = tried(scripts) if program == "--try" else None
     for case in cases:
@@ -131,7 +132,7 @@ def main(program):
                 faults.append(f"{document}: a link leads to {link}, which is not there")
     for it in faults:
         print(f"texts: {it}", file=sys.stderr)
-    print(f"texts: {len(cases)} scripts and programs of examples/ and the documents, {len(faults)} faults", file=sys.stderr)
+    print(f"texts: {len(cases)} scripts and programs of examples/, checks/rows/ and the documents, {len(faults)} faults", file=sys.stderr)
     return 1 if faults else 0
 
 

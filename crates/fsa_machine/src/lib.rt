@@ -38,8 +38,6 @@ mod serving;
 mod settle;
 mod store;
 mod stored;
-#[cfg(test)]
-mod tests;
 mod turns;
 mod volume_machine;
 mod waiting;

@@ -42,8 +42,6 @@ mod resized;
 mod rights;
 mod room;
 mod set_end;
-#[cfg(test)]
-mod tests;
 mod unlock;
 mod write;
 mod written;

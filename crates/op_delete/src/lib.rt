@@ -36,8 +36,6 @@ mod leave;
 mod marks;
 mod room;
 mod sweep;
-#[cfg(test)]
-mod tests;
 
 pub use close::try_close;
 pub use disposition::try_set_disposition;

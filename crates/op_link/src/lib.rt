@@ -36,8 +36,6 @@ mod naming;
 mod rename;
 mod replacement;
 mod room;
-#[cfg(test)]
-mod tests;
 
 pub use link::try_link;
 pub use rename::try_rename;

@@ -32,7 +32,5 @@ mod open;
 mod opening;
 mod rights;
 mod room;
-#[cfg(test)]
-mod tests;
 
 pub use create::try_create;

@@ -26,8 +26,6 @@
 mod ack;
 mod oplock;
 mod room;
-#[cfg(test)]
-mod tests;
 
 pub use ack::try_ack;
 pub use oplock::try_oplock;

@@ -35,8 +35,6 @@ mod oplock_list;
 mod pending_calls;
 mod releasing;
 mod spare_list;
-#[cfg(test)]
-mod tests;
 
 pub use awaiting::push_breaks;
 pub use breaking::{break_chosen, end_call};

@@ -59,11 +59,7 @@ mod opens;
 mod oplocks;
 mod pending;
 mod room;
-#[cfg(test)]
-mod steps;
 mod streams;
-#[cfg(test)]
-mod tests;
 mod tried;
 mod volume;
 mod waits;

@@ -27,8 +27,6 @@ mod link_table;
 mod lock_row;
 mod ranges;
 mod room_list;
-#[cfg(test)]
-mod tests;
 
 pub use handle_table::HandleTable;
 pub use link_table::LinkTable;
