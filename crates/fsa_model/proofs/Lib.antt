@@ -37,6 +37,8 @@ pub mod OpenLeaves
 pub mod OpenTable
 pub mod OplockExamples
 pub mod OplockTable
+pub mod PackedExamples
+pub mod PackedLaws
 pub mod PendLaws
 pub mod PlainLaws
 pub mod ReplacementLaws

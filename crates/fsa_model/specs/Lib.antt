@@ -28,6 +28,7 @@ pub mod Open
 pub mod OpenLines
 pub mod OplockLines
 pub mod Outcome
+pub mod PackedText
 pub mod QueryDir
 pub mod QueryInfo
 pub mod Quota

@@ -8,7 +8,7 @@ use Rattle.fsa_types.specs.declared.request.Call.{Call}
 use Rattle.fsa_types.specs.declared.reply.Action.{Action}
 use Rattle.fsa_types.specs.declared.reply.Action.TheVariants.{Superseded, Opened as WasOpened, Created, Overwritten}
 use Rattle.fsa_types.specs.declared.reply.Body.{Body}
-use Rattle.fsa_types.specs.declared.reply.Body.TheVariants.{Nothing, Opened, Got, Count, Broken, Left, Stopped, Quota}
+use Rattle.fsa_types.specs.declared.reply.Body.TheVariants.{Nothing, Opened, Got, Count, Packed, Broken, Left, Stopped, Quota}
 use Rattle.fsa_types.specs.declared.reply.Reply.{Reply}
 use Rattle.fsa_types.specs.declared.reply.Interim.{Interim}
 use Rattle.fsa_types.specs.declared.reply.Interim.TheVariants.{Held, LockWait, Watch, Granted, Waiting}
@@ -18,6 +18,7 @@ use Rattle.fsa_types.specs.declared.reply.EndOf.{EndOf}
 use Rattle.fsa_model.specs.Setup.{Client, Script}
 use Rattle.fsa_model.specs.FieldText.{mask_text, text_text}
 pub use Rattle.fsa_model.specs.FieldText.{level_word}
+use Rattle.fsa_model.specs.PackedText.{packed_text}
 use Rattle.fsa_model.specs.Verbs.{verb}
 use Rattle.fsa_model.specs.Outcome.{TurnOut}
 use Rattle.fsa_model.specs.History.{HistoryEntry, run}
@@ -45,7 +46,7 @@ abbrev pub wanted_text : Bool → List ℕ
 wanted_text true = codes " ack"
 wanted_text false = []
 
--- what follows the status; packed entries print nothing yet
+-- what follows the status
 abbrev pub body_text : Body → List ℕ
 body_text Nothing = []
 body_text (Opened action) = action_text action
@@ -55,7 +56,7 @@ body_text (Broken level ack) = codes " broken " ++ level_word level ++ wanted_te
 body_text (Left level) = 32 ∷ level_word level
 body_text (Stopped tag bytes rest) = mask_text tag ++ 32 ∷ bytes_text bytes ++ text_text rest
 body_text (Quota charge limit) = 32 ∷ decimal charge ++ 32 ∷ decimal limit
-body_text _ = []
+body_text (Packed kind bytes) = 32 ∷ bytes_text bytes ++ packed_text kind bytes
 
 abbrev pub interim_text : Interim → List ℕ
 interim_text Held = codes " held"

@@ -1,8 +1,12 @@
 //! What holds of every turn of every run: laws that other crates' contracts may rest on. No function here
 //! does anything.
 
+ghost use Rattle.std.specs.List.{flat_map};
 ghost use Rattle.std.specs.Prelude.{◌≡◌, [], ◌∷◌, ◌++◌, suc, ℕ, Bool, List, Some, Ok};
+ghost use Rattle.fsa_types.specs.PackedRows.{PackRow};
+ghost use Rattle.fsa_types.specs.Packing.{bytes};
 ghost use Rattle.fsa_types.specs.Rows.{row_of};
+ghost use Rattle.fsa_types.specs.declared.reply.PackKind.{PackKind};
 ghost use Rattle.fsa_types.specs.declared.request.Call.{Call};
 ghost use Rattle.fsa_types.specs.declared.request.Request.TheVariants.{Notify};
 ghost use Rattle.fsa_types.specs.declared.request.What.TheVariants.{Ask};
@@ -10,6 +14,7 @@ ghost use Rattle.fsa_model.specs.Engine.{CallsDiffer, EndsOnce, GrantsPend, Held
 ghost use Rattle.fsa_model.specs.Frame.{InFrame, PointsFit};
 ghost use Rattle.fsa_model.specs.History.{HistoryEntry, Run, run};
 ghost use Rattle.fsa_model.specs.Lookups.{handle_of};
+ghost use Rattle.fsa_model.specs.PackedText.{RowsFit, packed_text, row_text};
 ghost use Rattle.fsa_model.specs.Reports.{PassesChecks, TakesReport, TriesNotify, settling_after};
 ghost use Rattle.fsa_model.specs.Schedule.{Scheduled};
 ghost use Rattle.fsa_model.specs.Script.{script_of};
@@ -85,4 +90,9 @@ pub fn watches_report_what_is_due()
 /// What is read as a script is written so: the bytes are the lines of that script, in order, each spelled.
 pub fn a_script_is_what_its_bytes_spell()
     ensures spelled { (bytes : List ℕ) (script : Script) → script_of bytes ≡ Ok script → SpellsScript bytes script }
+{}
+
+/// What is printed of a buffer of packed rows is the text of each row, in order.
+pub fn packed_rows_are_printed()
+    ensures rows { (kind : PackKind) (rows : List PackRow) → RowsFit rows → packed_text kind (bytes kind rows) ≡ flat_map (row_text kind) rows }
 {}

@@ -1,23 +1,28 @@
 -- How the lines of a text are read back: their words, and the names of statuses.
 use Rattle.std.proofs.Common.{◌≡◌, ℕ, zero, suc, ◌<◌, ◌≤◌, Bool, true, false, List, [], ◌∷◌, ◌++◌, refl, ap, sym, subst, ◌∙◌, inl, inr, ◌⊎◌, arith}
-use Rattle.std.specs.Prelude.{◌==◌, ◌||◌, nat_lt, nat_eq, codes, decimal, ◌/◌, ◌%◌, map}
+use Rattle.std.specs.Prelude.{◌==◌, ◌||◌, nat_lt, nat_eq, codes, decimal, ◌/◌, ◌%◌, map, if◌then◌else◌}
 use Rattle.std.specs.List.{list_any, flat_map}
 use Rattle.std.specs.Cmp.Lexicographic.{pointwise}
 use Rattle.std.specs.Fmt.{digit_glyph, digits, digits_onto}
 use Rattle.std.specs.Int.Digits.{digits_of}
 use Rattle.std.proofs.lemmas.Bool.{cases_Bool, eqb-true}
 use Rattle.std.proofs.lemmas.List.Folds.{list_any-append}
+use Rattle.fsa_types.specs.PackedRows.{Numbers}
+use Rattle.fsa_types.specs.Packing.{Packed}
 use Rattle.fsa_types.specs.Status.{status_name}
 use Rattle.fsa_types.specs.declared.reply.Action.{Action}
 use Rattle.fsa_types.specs.declared.reply.Action.TheVariants.{Superseded, Opened as WasOpened, Created, Overwritten}
 use Rattle.fsa_types.specs.declared.reply.Body.{Body}
-use Rattle.fsa_types.specs.declared.reply.Body.TheVariants.{Nothing, Opened, Got, Count, Broken, Left, Stopped, Quota}
+use Rattle.fsa_types.specs.declared.reply.Body.TheVariants.{Nothing, Opened, Got, Count, Packed as PackedBody, Broken, Left, Stopped, Quota}
+use Rattle.fsa_types.specs.declared.reply.PackKind.{PackKind}
+use Rattle.fsa_types.specs.declared.reply.PackKind.TheVariants.{Names, Dir, Full, IdFull, Streams, Changes}
 use Rattle.fsa_types.specs.declared.request.Level.{Level}
 use Rattle.fsa_types.specs.declared.request.Level.TheVariants.{Nil, R, RH, RW, RWH}
 use Rattle.fsa_types.specs.declared.status.Status.{Status}
 use Rattle.fsa_types.specs.declared.status.Status.TheVariants.{Success, Pending, Reparse, OplockBreakInProgress, NotifyCleanup, NotifyEnumDir, OplockSwitchedToNewHandle, OplockHandleClosed, BufferOverflow, NoMoreFiles, StoppedOnSymlink, InvalidHandle, InvalidParameter, NoSuchFile, InvalidDeviceRequest, EndOfFile, AccessDenied, BufferTooSmall, ObjectNameInvalid, ObjectNameNotFound, ObjectNameCollision, ObjectPathNotFound, SharingViolation, QuotaExceeded, FileLockConflict, LockNotGranted, DeletePending, RangeNotLocked, DiskFull, FileIsADirectory, OplockNotGranted, InvalidOplockProtocol, DirectoryNotEmpty, NotADirectory, Cancelled, CannotDelete, InvalidLockRange, TooManyLinks, NotAReparsePoint, IoReparseTagInvalid, IoReparseTagMismatch, IoReparseDataInvalid, InfoLengthMismatch, Stalled, NoMemory}
 use Rattle.fsa_model.specs.FieldText.{mask_text, text_text, unit_text, upper_glyph}
 use Rattle.fsa_model.specs.Numbers.{glyph, spelled}
+use Rattle.fsa_model.specs.PackedText.{attributes_text, change_word, entries_in, entry_text, length_text, packed_text, shown_text, units_in}
 use Rattle.fsa_model.specs.Text.{action_text, body_text, bytes_text, digit, hex_digits, level_word, wanted_text}
 use Rattle.fsa_model.specs.Words.{is_plain}
 use Rattle.fsa_model.specs.Starving.{is_no_memory}
@@ -259,6 +264,38 @@ Free-action WasOpened = refl
 Free-action Created = refl
 Free-action Overwritten = refl
 
+Free-if : (stops : ℕ → Bool) (test : Bool) (first second : List ℕ) → Free stops first → Free stops second → Free stops (if test then first else second)
+Free-if stops true first second free other = free
+Free-if stops false first second free other = other
+
+Free-change : (action : ℕ) → Free ends_line (change_word action)
+Free-change action =
+    Free-if ends_line (action == 1) (codes "ADDED") _ refl
+    (Free-if ends_line (action == 2) (codes "REMOVED") _ refl
+    (Free-if ends_line (action == 3) (codes "MODIFIED") _ refl
+    (Free-if ends_line (action == 4) (codes "RENAMED_OLD_NAME") _ refl
+    (Free-if ends_line (action == 5) (codes "RENAMED_NEW_NAME") _ refl
+    (Free-if ends_line (action == 6) (codes "ADDED_STREAM") _ refl
+    (Free-if ends_line (action == 7) (codes "REMOVED_STREAM") _ refl
+    (Free-if ends_line (action == 8) (codes "MODIFIED_STREAM") (decimal action) refl (Free-line (decimal action) (Free-decimal action)))))))))
+
+Free-listed : (units : List ℕ) (attributes size : ℕ) → Free ends_line (text_text units ++ attributes_text attributes ++ length_text size)
+Free-listed units attributes size =
+    Free-append ends_line (text_text units ++ attributes_text attributes) (length_text size)
+    (Free-append ends_line (text_text units) (attributes_text attributes) (Free-units units) (Free-line (spelled 16 attributes) (Free-spelled 16 attributes))) (Free-line (decimal size) (Free-decimal size))
+
+Free-shown : (kind : PackKind) (n : Numbers) (units : List ℕ) → Free ends_line (shown_text kind n units)
+Free-shown Changes n units = Free-append ends_line (change_word n.action) (61 ∷ flat_map unit_text units) (Free-change n.action) (Free-units units)
+Free-shown Names n units = Free-units units
+Free-shown Dir n units = Free-listed units n.attributes n.length
+Free-shown Full n units = Free-listed units n.attributes n.length
+Free-shown IdFull n units = Free-listed units n.attributes n.length
+Free-shown Streams n units = Free-append ends_line (text_text units) (length_text n.length) (Free-units units) (Free-line (decimal n.length) (Free-decimal n.length))
+
+Free-entries : (kind : PackKind) (entries : List Packed) → Free ends_line (flat_map (entry_text kind) entries)
+Free-entries kind [] = refl
+Free-entries kind (entry ∷ entries) = Free-append ends_line (entry_text kind entry) (flat_map (entry_text kind) entries) (Free-shown kind entry.numbers (units_in entry.name)) (Free-entries kind entries)
+
 -- a body has no line feed
 pub Free-body : (body : Body) → Free ends_line (body_text body)
 Free-body Nothing = refl
@@ -271,7 +308,7 @@ Free-body (Stopped tag bytes rest) =
     Free-append ends_line (mask_text tag ++ 32 ∷ bytes_text bytes) (text_text rest)
     (Free-append ends_line (mask_text tag) (32 ∷ bytes_text bytes) (Free-line (spelled 16 tag) (Free-spelled 16 tag)) (Free-line (hex_digits bytes) (Free-hex bytes))) (Free-units rest)
 Free-body (Quota charge limit) = Free-append ends_line (decimal charge) (32 ∷ decimal limit) (Free-line (decimal charge) (Free-decimal charge)) (Free-line (decimal limit) (Free-decimal limit))
-Free-body _ = refl
+Free-body (PackedBody kind bytes) = Free-append ends_line (32 ∷ bytes_text bytes) (packed_text kind bytes) (Free-line (hex_digits bytes) (Free-hex bytes)) (Free-entries kind (entries_in kind bytes))
 
 -- what follows a status ends its word
 pub record EndsWord (bytes : List ℕ) : Type 0 where
@@ -293,7 +330,7 @@ body-begins (Broken level ack) = inr (_, refl)
 body-begins (Left level) = inr (_, refl)
 body-begins (Stopped tag bytes units) = inr (_, refl)
 body-begins (Quota charge limit) = inr (_, refl)
-body-begins _ = inl refl
+body-begins (PackedBody kind bytes) = inr (_, refl)
 
 -- so it ends the word before it, with the line feed behind it
 pub body-ends_word : (body : Body) (rest : List ℕ) → EndsWord (body_text body ++ 10 ∷ rest)
