@@ -1,11 +1,13 @@
 -- Lines, worked by hand: what their bytes say, how they are written, and which are no lines; and a turn of
 -- an open.
-use Rattle.std.specs.Prelude.{◌≡◌, ℕ, true, false, List, [], ◌∷◌, map, Some, None, option_map, Result, Ok, Err, codes, refl}
+use Rattle.std.specs.Prelude.{◌≡◌, ℕ, true, false, List, [], ◌∷◌, map, replicate, Some, None, option_map, Result, Ok, Err, codes, refl}
 use Rattle.fsa_types.specs.CaseTable.{ascii_pairs}
 use Rattle.fsa_types.specs.declared.request.Disposition.{Disposition}
 use Rattle.fsa_types.specs.declared.request.Disposition.TheVariants.{Supersede, OpenExisting, CreateNew, OpenIf, Overwrite, OverwriteIf}
+use Rattle.fsa_types.specs.declared.request.DirKind.TheVariants.{Names, Dir, Full, IdFull}
+use Rattle.fsa_types.specs.declared.request.InfoKind.TheVariants.{Basic, Standard, Internal, Tag, Streams}
 use Rattle.fsa_types.specs.declared.request.Request.{Request}
-use Rattle.fsa_types.specs.declared.request.Request.TheVariants.{Create, Read, Write, Flush, SetEnd, Lock, Unlock, SetDisposition, Rename, Link, Cancel}
+use Rattle.fsa_types.specs.declared.request.Request.TheVariants.{Create, Read, Write, Flush, SetEnd, Lock, Unlock, QueryDir, QueryInfo, SetBasic, SetDisposition, Rename, Link, SetReparse, GetReparse, DeleteReparse, SetQuota, QueryQuota, Cancel}
 use Rattle.fsa_types.specs.declared.request.What.TheVariants.{Ask, WaitFor}
 use Rattle.fsa_types.specs.declared.reply.Action.TheVariants.{Created}
 use Rattle.fsa_types.specs.declared.reply.Answer.TheVariants.{Ended}
@@ -16,6 +18,9 @@ use Rattle.fsa_model.specs.Fault.{Kind, BadSyntax}
 use Rattle.fsa_model.specs.ByteLines.{read_fields, start_at, write_fields, flush_fields, set_end_fields}
 use Rattle.fsa_model.specs.LockLines.{lock_fields, unlock_fields}
 use Rattle.fsa_model.specs.NameLines.{rename_fields, link_fields, set_disposition_fields}
+use Rattle.fsa_model.specs.InformationLines.{info_kind_at, query_info_fields, set_basic_fields}
+use Rattle.fsa_model.specs.ListingLines.{dir_kind_at, query_dir_fields}
+use Rattle.fsa_model.specs.ControlLines.{set_reparse_fields, get_reparse_fields, delete_reparse_fields, set_quota_fields, query_quota_fields}
 use Rattle.fsa_model.specs.WaitLines.{cancel_fields, wait_fields}
 use Rattle.fsa_model.specs.Lines.{Line, RequestLine, request_of, line_of}
 use Rattle.fsa_model.specs.Open.{try_create, create_at, create_walked, create_named, create_by_link, create_found, create_there, create_in_file, create_stream, create_on_stream, open_stream, open_directory, open_granted, overwrite_existing, open_existing, clashed, create_missing, make_file, make_directory, stopped}
@@ -372,6 +377,199 @@ pub unsaid_names :
     ∷ [])
     ≡ false ∷ false ∷ false ∷ false ∷ false ∷ []
 unsaid_names = refl
+
+-- ---- listings, information, reparse points and quotas
+
+-- each layout and each kind; the least numbers and the greatest; no expression, and one with signs and an escape
+pub queries_said :
+    map line_of (
+    codes "a 1 querydir 1 names =* restart 100"
+    ∷ codes "a 1 querydir 0 dir = go 0"
+    ∷ codes "a 1 querydir 4294967295 full =<.%0022%D83D>? go 16384"
+    ∷ codes "a 1 querydir 2 idfull =*.txt restart 4096"
+    ∷ codes "a 1 query 0 basic 0"
+    ∷ codes "a 1 query 4294967295 standard 16384"
+    ∷ codes "a 1 query 1 internal 8"
+    ∷ codes "a 1 query 1 tag 8"
+    ∷ codes "a 1 query 1 stream 24"
+    ∷ codes "a 1 setbasic 0 0 0 0 0 0x0"
+    ∷ codes "a 1 setbasic 4294967295 1 18446744073709551614 9223372036854775808 18446744073709551615 0xffffffff"
+    ∷ codes "a 1 setreparse 0 x"
+    ∷ codes "a 1 setreparse 4294967295 x0c0000a00200000000ff"
+    ∷ codes "a 1 getreparse 1 0"
+    ∷ codes "a 1 getreparse 4294967295 16384"
+    ∷ codes "a 1 deletereparse 1 0x0"
+    ∷ codes "a 1 deletereparse 4294967295 0xa000000c"
+    ∷ codes "a 1 setquota 0 0"
+    ∷ codes "a 1 setquota 4294967295 18446744073709551615"
+    ∷ codes "a 1 queryquota 0"
+    ∷ codes "a 1 queryquota 4294967295"
+    ∷ [])
+    ≡ map {B = Result Line Kind} Ok (
+    asks (QueryDir 1 Names (42 ∷ []) true 100)
+    ∷ asks (QueryDir 0 Dir [] false 0)
+    ∷ asks (QueryDir 4294967295 Full (60 ∷ 46 ∷ 34 ∷ 0xD83D ∷ 62 ∷ 63 ∷ []) false 16384)
+    ∷ asks (QueryDir 2 IdFull (codes "*.txt") true 4096)
+    ∷ asks (QueryInfo 0 Basic 0)
+    ∷ asks (QueryInfo 4294967295 Standard 16384)
+    ∷ asks (QueryInfo 1 Internal 8)
+    ∷ asks (QueryInfo 1 Tag 8)
+    ∷ asks (QueryInfo 1 Streams 24)
+    ∷ asks (SetBasic 0 0 0 0 0 0)
+    ∷ asks (SetBasic 4294967295 1 18446744073709551614 9223372036854775808 18446744073709551615 0xFFFFFFFF)
+    ∷ asks (SetReparse 0 [])
+    ∷ asks (SetReparse 4294967295 (12 ∷ 0 ∷ 0 ∷ 160 ∷ 2 ∷ 0 ∷ 0 ∷ 0 ∷ 0 ∷ 255 ∷ []))
+    ∷ asks (GetReparse 1 0)
+    ∷ asks (GetReparse 4294967295 16384)
+    ∷ asks (DeleteReparse 1 0)
+    ∷ asks (DeleteReparse 4294967295 0xA000000C)
+    ∷ asks (SetQuota 0 0)
+    ∷ asks (SetQuota 4294967295 18446744073709551615)
+    ∷ asks (QueryQuota 0)
+    ∷ asks (QueryQuota 4294967295)
+    ∷ [])
+unfolding line_of request_of what_of query_info_fields info_kind_at set_basic_fields query_dir_fields dir_kind_at set_reparse_fields get_reparse_fields delete_reparse_fields set_quota_fields query_quota_fields choice_at text_at text_of string_at string_of mask_at mask_of number_at field_at
+queries_said = refl
+
+-- written, with small numbers
+pub queries_written :
+    map line_text (
+    asks (QueryDir 1 Names (42 ∷ []) true 10)
+    ∷ asks (QueryDir 12 Dir [] false 0)
+    ∷ asks (QueryDir 3 Full (37 ∷ 34 ∷ 32 ∷ []) false 8)
+    ∷ asks (QueryDir 2 IdFull (codes "<.txt") true 4096)
+    ∷ asks (QueryInfo 1 Basic 40)
+    ∷ asks (QueryInfo 2 Standard 24)
+    ∷ asks (QueryInfo 3 Internal 8)
+    ∷ asks (QueryInfo 4 Tag 8)
+    ∷ asks (QueryInfo 5 Streams 0)
+    ∷ asks (SetBasic 1 2 3 4 5 0x21)
+    ∷ asks (SetReparse 1 (12 ∷ 255 ∷ []))
+    ∷ asks (GetReparse 1 16)
+    ∷ asks (DeleteReparse 1 0xC)
+    ∷ asks (SetQuota 7 100)
+    ∷ asks (QueryQuota 7)
+    ∷ [])
+    ≡ codes "a 1 querydir 1 names =* restart 10"
+    ∷ codes "a 1 querydir 12 dir = go 0"
+    ∷ codes "a 1 querydir 3 full =%0025\"%0020 go 8"
+    ∷ codes "a 1 querydir 2 idfull =<.txt restart 4096"
+    ∷ codes "a 1 query 1 basic 40"
+    ∷ codes "a 1 query 2 standard 24"
+    ∷ codes "a 1 query 3 internal 8"
+    ∷ codes "a 1 query 4 tag 8"
+    ∷ codes "a 1 query 5 stream 0"
+    ∷ codes "a 1 setbasic 1 2 3 4 5 0x21"
+    ∷ codes "a 1 setreparse 1 x0cff"
+    ∷ codes "a 1 getreparse 1 16"
+    ∷ codes "a 1 deletereparse 1 0xc"
+    ∷ codes "a 1 setquota 7 100"
+    ∷ codes "a 1 queryquota 7"
+    ∷ []
+queries_written = refl
+
+-- a handle, a SID, a room, a time, a limit or a mask that is too great or has a leading zero; another word; fields
+-- that are missing, in another's place or too many; a space at the end
+abbrev pub bad_queries : List (List ℕ)
+bad_queries =
+    codes "a 1 querydir 4294967296 names =* go 100"
+    ∷ codes "a 1 querydir 1 names =* go 16385"
+    ∷ codes "a 1 querydir 1 names =* go 0100"
+    ∷ codes "a 1 querydir 1 name =* go 100"
+    ∷ codes "a 1 querydir 1 idFull =* go 100"
+    ∷ codes "a 1 querydir 1 both =* go 100"
+    ∷ codes "a 1 querydir 1 names * go 100"
+    ∷ codes "a 1 querydir 1 names =%002a go 100"
+    ∷ codes "a 1 querydir 1 names =a b go 100"
+    ∷ codes "a 1 querydir 1 names =* Go 100"
+    ∷ codes "a 1 querydir 1 names =* begin 100"
+    ∷ codes "a 1 querydir 1 names go =* 100"
+    ∷ codes "a 1 querydir 1 =* names go 100"
+    ∷ codes "a 1 querydir 1 names =* 100 go"
+    ∷ codes "a 1 querydir 1 names =* 100"
+    ∷ codes "a 1 querydir 1 names =* go"
+    ∷ codes "a 1 querydir 1 names go 100"
+    ∷ codes "a 1 querydir 1 names =* go 100 "
+    ∷ codes "a 1 querydir 1 names =* go 100 0"
+    ∷ codes "a 1 query 4294967296 basic 40"
+    ∷ codes "a 1 query 1 basic 16385"
+    ∷ codes "a 1 query 1 Basic 40"
+    ∷ codes "a 1 query 1 streams 40"
+    ∷ codes "a 1 query 1 names 40"
+    ∷ codes "a 1 query 1 40 basic"
+    ∷ codes "a 1 query 1 basic"
+    ∷ codes "a 1 query 1 40"
+    ∷ codes "a 1 query 1 basic 40 "
+    ∷ codes "a 1 query 1 basic 40 0"
+    ∷ codes "a 1 setbasic 4294967296 0 0 0 0 0x0"
+    ∷ codes "a 1 setbasic 1 18446744073709551616 0 0 0 0x0"
+    ∷ codes "a 1 setbasic 1 0 18446744073709551616 0 0 0x0"
+    ∷ codes "a 1 setbasic 1 0 0 18446744073709551616 0 0x0"
+    ∷ codes "a 1 setbasic 1 0 0 0 18446744073709551616 0x0"
+    ∷ codes "a 1 setbasic 1 0 0 0 0 0x100000000"
+    ∷ codes "a 1 setbasic 1 0 0 0 0 0"
+    ∷ codes "a 1 setbasic 1 0 0 0 0x0 0"
+    ∷ codes "a 1 setbasic 1 -1 0 0 0 0x0"
+    ∷ codes "a 1 setbasic 1 0 0 0 0x0"
+    ∷ codes "a 1 setbasic 1 0 0 0 0 0 0x0"
+    ∷ codes "a 1 setbasic 1 0 0 0 0 0x0 "
+    ∷ codes "a 1 setreparse 4294967296 x"
+    ∷ codes "a 1 setreparse 1 0c"
+    ∷ codes "a 1 setreparse 1 x0"
+    ∷ codes "a 1 setreparse 1 x0C"
+    ∷ codes "a 1 setreparse 1"
+    ∷ codes "a 1 setreparse 1 x0c x"
+    ∷ codes "a 1 getreparse 4294967296 8"
+    ∷ codes "a 1 getreparse 1 16385"
+    ∷ codes "a 1 getreparse 1"
+    ∷ codes "a 1 getreparse 1 8 8"
+    ∷ codes "a 1 deletereparse 4294967296 0xc"
+    ∷ codes "a 1 deletereparse 1 12"
+    ∷ codes "a 1 deletereparse 1 0x1a000000c"
+    ∷ codes "a 1 deletereparse 1"
+    ∷ codes "a 1 deletereparse 1 0xc 0"
+    ∷ codes "a 1 setquota 4294967296 0"
+    ∷ codes "a 1 setquota 7 18446744073709551616"
+    ∷ codes "a 1 setquota 7 none"
+    ∷ codes "a 1 setquota 7"
+    ∷ codes "a 1 setquota 7 0 0"
+    ∷ codes "a 1 queryquota 4294967296"
+    ∷ codes "a 1 queryquota 07"
+    ∷ codes "a 1 queryquota"
+    ∷ codes "a 1 queryquota 7 0"
+    ∷ codes "a 1 notify 1 0x1 flat 100"
+    ∷ []
+
+pub no_queries : map line_of bad_queries ≡ map {B = Result Line Kind} (λ line. Err BadSyntax) bad_queries
+unfolding line_of request_of what_of query_info_fields info_kind_at set_basic_fields query_dir_fields dir_kind_at set_reparse_fields get_reparse_fields delete_reparse_fields set_quota_fields query_quota_fields choice_at text_at text_of string_at string_of mask_at mask_of number_at field_at
+no_queries = refl
+
+-- what no line can say
+pub unsaid_queries :
+    map (λ request. is_line (asks request)) (
+    QueryDir 4294967296 Names [] true 0
+    ∷ QueryDir 1 Names (65536 ∷ []) true 0
+    ∷ QueryDir 1 Names [] true 16385
+    ∷ QueryInfo 4294967296 Basic 0
+    ∷ QueryInfo 1 Basic 16385
+    ∷ SetBasic 4294967296 0 0 0 0 0
+    ∷ SetBasic 1 18446744073709551616 0 0 0 0
+    ∷ SetBasic 1 0 18446744073709551616 0 0 0
+    ∷ SetBasic 1 0 0 18446744073709551616 0 0
+    ∷ SetBasic 1 0 0 0 18446744073709551616 0
+    ∷ SetBasic 1 0 0 0 0 0x100000000
+    ∷ SetReparse 4294967296 []
+    ∷ SetReparse 1 (256 ∷ [])
+    ∷ GetReparse 4294967296 0
+    ∷ GetReparse 1 16385
+    ∷ DeleteReparse 4294967296 0
+    ∷ DeleteReparse 1 0x100000000
+    ∷ SetQuota 4294967296 0
+    ∷ SetQuota 1 18446744073709551616
+    ∷ QueryQuota 4294967296
+    ∷ [])
+    ≡ replicate 20 false
+unsaid_queries = refl
 
 -- ---- a turn of an open
 

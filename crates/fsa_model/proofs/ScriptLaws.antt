@@ -14,7 +14,7 @@ use Rattle.fsa_types.specs.BoundedList.{full}
 use Rattle.fsa_types.specs.declared.request.What.{What}
 use Rattle.fsa_types.specs.declared.request.What.TheVariants.{Ask, Tick, WaitFor}
 use Rattle.fsa_types.specs.declared.request.Request.TheVariants.{Oplock, Ack}
-use Rattle.fsa_types.specs.declared.request.Request.TheVariants.{Create, Close, Read, Write, Flush, SetEnd, Lock, Unlock, SetDisposition, Rename, Link, SetSecurity, Cancel}
+use Rattle.fsa_types.specs.declared.request.Request.TheVariants.{Create, Close, Read, Write, Flush, SetEnd, Lock, Unlock, QueryDir, QueryInfo, SetBasic, SetDisposition, Rename, Link, SetSecurity, SetReparse, GetReparse, DeleteReparse, SetQuota, QueryQuota, Cancel}
 use Rattle.fsa_types.specs.Request.{dacl_fits, level_fits, what_fits}
 use Rattle.fsa_types.specs.CaseTable.{is_at_fault}
 use Rattle.fsa_model.specs.Setup.{Client, Script}
@@ -27,9 +27,11 @@ use Rattle.fsa_model.specs.ByteLines.{read_fields, start_at, write_fields, flush
 use Rattle.fsa_model.specs.LockLines.{lock_fields, unlock_fields}
 use Rattle.fsa_model.specs.OplockLines.{level_at, oplock_fields, ack_fields}
 use Rattle.fsa_model.specs.NameLines.{rename_fields, link_fields, set_disposition_fields}
+use Rattle.fsa_model.specs.ListingLines.{dir_kind_at, query_dir_fields}
+use Rattle.fsa_model.specs.ControlLines.{set_reparse_fields, get_reparse_fields, delete_reparse_fields, most_limit, set_quota_fields, query_quota_fields}
 use Rattle.fsa_model.specs.ClockLines.{tick_fields}
 use Rattle.fsa_model.specs.WaitLines.{cancel_fields, wait_fields}
-use Rattle.fsa_model.specs.InformationLines.{owner_at, ace_of, entry_of, after_entry, ace_onto, aces_of, most_aces, dacl_of, dacl_at, set_security_fields}
+use Rattle.fsa_model.specs.InformationLines.{info_kind_at, query_info_fields, most_time, set_basic_fields, owner_at, ace_of, entry_of, after_entry, ace_onto, aces_of, most_aces, dacl_of, dacl_at, set_security_fields}
 use Rattle.fsa_model.specs.Lines.{Line, Version, DefaultTable, PairTable, Pair, ClientLine, RequestLine, pair_at, sids_at, client_at, request_of, line_of}
 use Rattle.fsa_model.specs.Script.{Reading, nothing_read, takes_version, takes_table, takes_pairs, takes_clients, takes_requests, place_of, next_number, with_call, with_client, take_client, take_call, take_request_of, take_request, take_line, line_after, end_after, at_line, lines_from, pieces, script_of}
 use Rattle.fsa_model.specs.Schedule.{calls_of, leave_after, AreNumbered, all_calls}
@@ -262,6 +264,58 @@ set_disposition_fields-fits bytes =
     then-gives Fits (number_at most_id bytes) _ (λ handle. then-gives Fits (choice_at (codes "yes") (codes "no") handle.1) _ (λ delete.
     ended-gives Fits delete.1 (Ask (SetDisposition handle.0 delete.0)) (refl, refl, refl)))
 
+query_info_fields-fits : (bytes : List ℕ) → IfRead Fits (query_info_fields bytes)
+unfolding query_info_fields
+query_info_fields-fits bytes =
+    then-gives Fits (number_at most_id bytes) _ (λ handle. then-gives Fits (info_kind_at handle.1) _ (λ kind.
+    bind-gives (IsAtMost most_bytes) Fits (number_at most_bytes kind.1) _ (number_at-bound most_bytes kind.1) (λ room below.
+    ended-gives Fits room.1 (Ask (QueryInfo handle.0 kind.0 room.0)) (le-leb room.0 16384 below, refl, refl))))
+
+set_basic_fields-fits : (bytes : List ℕ) → IfRead Fits (set_basic_fields bytes)
+unfolding set_basic_fields
+set_basic_fields-fits bytes =
+    then-gives Fits (number_at most_id bytes) _ (λ handle. then-gives Fits (number_at most_time handle.1) _ (λ creation. then-gives Fits (number_at most_time creation.1) _ (λ access.
+    then-gives Fits (number_at most_time access.1) _ (λ write. then-gives Fits (number_at most_time write.1) _ (λ change. then-gives Fits (mask_at change.1) _ (λ attributes.
+    ended-gives Fits attributes.1 (Ask (SetBasic handle.0 creation.0 access.0 write.0 change.0 attributes.0)) (refl, refl, refl)))))))
+
+query_dir_fields-fits : (bytes : List ℕ) → IfRead Fits (query_dir_fields bytes)
+unfolding query_dir_fields
+query_dir_fields-fits bytes =
+    then-gives Fits (number_at most_id bytes) _ (λ handle. then-gives Fits (dir_kind_at handle.1) _ (λ kind. then-gives Fits (text_at kind.1) _ (λ expression.
+    then-gives Fits (choice_at (codes "restart") (codes "go") expression.1) _ (λ restart.
+    bind-gives (IsAtMost most_bytes) Fits (number_at most_bytes restart.1) _ (number_at-bound most_bytes restart.1) (λ room below.
+    ended-gives Fits room.1 (Ask (QueryDir handle.0 kind.0 expression.0 restart.0 room.0)) (le-leb room.0 16384 below, refl, refl))))))
+
+set_reparse_fields-fits : (bytes : List ℕ) → IfRead Fits (set_reparse_fields bytes)
+unfolding set_reparse_fields
+set_reparse_fields-fits bytes =
+    then-gives Fits (number_at most_id bytes) _ (λ handle.
+    bind-gives IsShortAt Fits (string_at handle.1) _ (string_at-short handle.1) (λ buffer short.
+    ended-gives Fits buffer.1 (Ask (SetReparse handle.0 buffer.0)) (le-leb (length buffer.0) 16384 short, refl, refl)))
+
+get_reparse_fields-fits : (bytes : List ℕ) → IfRead Fits (get_reparse_fields bytes)
+unfolding get_reparse_fields
+get_reparse_fields-fits bytes =
+    then-gives Fits (number_at most_id bytes) _ (λ handle.
+    bind-gives (IsAtMost most_bytes) Fits (number_at most_bytes handle.1) _ (number_at-bound most_bytes handle.1) (λ room below.
+    ended-gives Fits room.1 (Ask (GetReparse handle.0 room.0)) (le-leb room.0 16384 below, refl, refl)))
+
+delete_reparse_fields-fits : (bytes : List ℕ) → IfRead Fits (delete_reparse_fields bytes)
+unfolding delete_reparse_fields
+delete_reparse_fields-fits bytes =
+    then-gives Fits (number_at most_id bytes) _ (λ handle. then-gives Fits (mask_at handle.1) _ (λ tag.
+    ended-gives Fits tag.1 (Ask (DeleteReparse handle.0 tag.0)) (refl, refl, refl)))
+
+set_quota_fields-fits : (bytes : List ℕ) → IfRead Fits (set_quota_fields bytes)
+unfolding set_quota_fields
+set_quota_fields-fits bytes =
+    then-gives Fits (number_at most_id bytes) _ (λ sid. then-gives Fits (number_at most_limit sid.1) _ (λ limit.
+    ended-gives Fits limit.1 (Ask (SetQuota sid.0 limit.0)) (refl, refl, refl)))
+
+query_quota_fields-fits : (bytes : List ℕ) → IfRead Fits (query_quota_fields bytes)
+unfolding query_quota_fields
+query_quota_fields-fits bytes = then-gives Fits (number_at most_id bytes) _ (λ sid. ended-gives Fits sid.1 (Ask (QueryQuota sid.0)) (refl, refl, refl))
+
 tick_fields-fits : (bytes : List ℕ) → IfRead Fits (tick_fields bytes)
 unfolding tick_fields
 tick_fields-fits bytes =
@@ -337,11 +391,19 @@ what_of-fits verb fields =
     (λ no. if-gives Fits (same verb (codes "rename")) _ _ (λ is. rename_fields-fits fields)
     (λ no. if-gives Fits (same verb (codes "link")) _ _ (λ is. link_fields-fits fields)
     (λ no. if-gives Fits (same verb (codes "setdelete")) _ _ (λ is. set_disposition_fields-fits fields)
+    (λ no. if-gives Fits (same verb (codes "query")) _ _ (λ is. query_info_fields-fits fields)
+    (λ no. if-gives Fits (same verb (codes "setbasic")) _ _ (λ is. set_basic_fields-fits fields)
     (λ no. if-gives Fits (same verb (codes "setsecurity")) _ _ (λ is. set_security_fields-fits fields)
+    (λ no. if-gives Fits (same verb (codes "querydir")) _ _ (λ is. query_dir_fields-fits fields)
+    (λ no. if-gives Fits (same verb (codes "setreparse")) _ _ (λ is. set_reparse_fields-fits fields)
+    (λ no. if-gives Fits (same verb (codes "getreparse")) _ _ (λ is. get_reparse_fields-fits fields)
+    (λ no. if-gives Fits (same verb (codes "deletereparse")) _ _ (λ is. delete_reparse_fields-fits fields)
+    (λ no. if-gives Fits (same verb (codes "setquota")) _ _ (λ is. set_quota_fields-fits fields)
+    (λ no. if-gives Fits (same verb (codes "queryquota")) _ _ (λ is. query_quota_fields-fits fields)
     (λ no. if-gives Fits (same verb (codes "tick")) _ _ (λ is. tick_fields-fits fields)
     (λ no. if-gives Fits (same verb (codes "cancel")) _ _ (λ is. cancel_fields-fits fields)
     (λ no. if-gives Fits (same verb (codes "wait")) _ _ (λ is. wait_fields-fits fields)
-    (λ no. err-gives Fits _)))))))))))))))))
+    (λ no. err-gives Fits _)))))))))))))))))))))))))
 
 -- a line that is a request is within the bounds, and one of a client has a SID
 abbrev LineFits : Line → Type 0

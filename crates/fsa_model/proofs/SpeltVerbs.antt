@@ -14,10 +14,14 @@ use Rattle.fsa_types.specs.declared.request.DaclChange.TheVariants.{Keep, Remove
 use Rattle.fsa_types.specs.declared.request.Disposition.{Disposition}
 use Rattle.fsa_types.specs.declared.request.Disposition.TheVariants.{Supersede, OpenExisting, CreateNew, OpenIf, Overwrite, OverwriteIf}
 use Rattle.fsa_types.specs.Request.{level_fits}
+use Rattle.fsa_types.specs.declared.request.DirKind.{DirKind}
+use Rattle.fsa_types.specs.declared.request.DirKind.TheVariants.{Names, Dir, Full, IdFull}
+use Rattle.fsa_types.specs.declared.request.InfoKind.{InfoKind}
+use Rattle.fsa_types.specs.declared.request.InfoKind.TheVariants.{Basic, Standard, Internal, Tag, Streams}
 use Rattle.fsa_types.specs.declared.request.Level.{Level}
 use Rattle.fsa_types.specs.declared.request.Level.TheVariants.{Nil, R, RH, RW, RWH}
 use Rattle.fsa_types.specs.declared.request.Request.TheVariants.{Oplock, Ack}
-use Rattle.fsa_types.specs.declared.request.Request.TheVariants.{Create, Close, Read, Write, Flush, SetEnd, Lock, Unlock, SetDisposition, Rename, Link, SetSecurity, Cancel}
+use Rattle.fsa_types.specs.declared.request.Request.TheVariants.{Create, Close, Read, Write, Flush, SetEnd, Lock, Unlock, QueryDir, QueryInfo, SetBasic, SetDisposition, Rename, Link, SetSecurity, SetReparse, GetReparse, DeleteReparse, SetQuota, QueryQuota, Cancel}
 use Rattle.fsa_types.specs.declared.request.What.{What}
 use Rattle.fsa_types.specs.declared.request.What.TheVariants.{Ask, Tick, WaitFor}
 use Rattle.fsa_model.specs.Fault.{Kind, BadSyntax, ◌>>=◌, only_if}
@@ -28,7 +32,9 @@ use Rattle.fsa_model.specs.OpenLines.{most_key, disposition_of, disposition_at, 
 use Rattle.fsa_model.specs.ByteLines.{read_fields, written_place, start_at, start_text, write_fields, flush_fields, set_end_fields}
 use Rattle.fsa_model.specs.LockLines.{lock_fields, unlock_fields}
 use Rattle.fsa_model.specs.OplockLines.{level_of, level_at, oplock_fields, ack_fields}
-use Rattle.fsa_model.specs.InformationLines.{sid_of, owner_at, owner_text, ace_with, ace_of, ace_text, entry_of, after_entry, ace_onto, aces_of, most_aces, dacl_of, dacl_at, dacl_text, is_ace, is_dacl, set_security_fields}
+use Rattle.fsa_model.specs.InformationLines.{info_kind_of, info_kind_at, info_kind_text, query_info_fields, most_time, set_basic_fields, sid_of, owner_at, owner_text, ace_with, ace_of, ace_text, entry_of, after_entry, ace_onto, aces_of, most_aces, dacl_of, dacl_at, dacl_text, is_ace, is_dacl, set_security_fields}
+use Rattle.fsa_model.specs.ListingLines.{dir_kind_of, dir_kind_at, dir_kind_text, query_dir_fields}
+use Rattle.fsa_model.specs.ControlLines.{set_reparse_fields, get_reparse_fields, delete_reparse_fields, most_limit, set_quota_fields, query_quota_fields}
 use Rattle.fsa_model.specs.NameLines.{rename_fields, link_fields, set_disposition_fields}
 use Rattle.fsa_model.specs.ClockLines.{tick_fields}
 use Rattle.fsa_model.specs.WaitLines.{cancel_fields, wait_fields}
@@ -277,6 +283,59 @@ level_at-back bytes level is =
     let value = bind_ok (level_of word.0.0) _ level word.2 in
     let pair : (value.0, word.0.1) ≡ level = (let e : Ok (value.0, word.0.1) ≡ Ok level = value.2 in cc) in
     field_back bytes word.0 word.1 ∙ ap (λ (w : List ℕ). w ++ word.0.1) (level_of-back word.0.0 value.0 value.1) ∙ ap (λ (p : Level × List ℕ). level_text p.0 ++ p.1) pair
+
+-- ---- kinds of information, and layouts of entries
+
+info_kind_case : (word name : List ℕ) (this kind : InfoKind) (other : Result InfoKind Kind) → info_kind_text this ≡ 32 ∷ name
+    → (if same word name then Ok this else other) ≡ Ok kind → (other ≡ Ok kind → 32 ∷ word ≡ info_kind_text kind) → 32 ∷ word ≡ info_kind_text kind
+info_kind_case word name this kind other text is else_so =
+    elim (if_or (same word name) (Ok this) other kind is) [
+      | inl h ↦
+          let made : this ≡ kind = (let e : Ok this ≡ Ok kind = h.1 in cc) in
+          ap (λ (w : List ℕ). 32 ∷ w) (same-is word name h.0) ∙ sym text ∙ ap info_kind_text made
+      | inr h ↦ else_so h
+    ]
+
+info_kind_of-back : (word : List ℕ) (kind : InfoKind) → info_kind_of word ≡ Ok kind → 32 ∷ word ≡ info_kind_text kind
+info_kind_of-back word kind is =
+    info_kind_case word (codes "basic") Basic kind _ refl is (λ is.
+    info_kind_case word (codes "standard") Standard kind _ refl is (λ is.
+    info_kind_case word (codes "internal") Internal kind _ refl is (λ is.
+    info_kind_case word (codes "tag") Tag kind _ refl is (λ is.
+    info_kind_case word (codes "stream") Streams kind (Err BadSyntax) refl is (λ is. absurd (let e : Err BadSyntax ≡ Ok kind = is in cc))))))
+
+info_kind_at-back : (bytes : List ℕ) (kind : InfoKind × List ℕ) → info_kind_at bytes ≡ Ok kind → bytes ≡ info_kind_text kind.0 ++ kind.1
+unfolding info_kind_at
+info_kind_at-back bytes kind is =
+    let word = bind_ok (field_at bytes) _ kind is in
+    let value = bind_ok (info_kind_of word.0.0) _ kind word.2 in
+    let pair : (value.0, word.0.1) ≡ kind = (let e : Ok (value.0, word.0.1) ≡ Ok kind = value.2 in cc) in
+    field_back bytes word.0 word.1 ∙ ap (λ (w : List ℕ). w ++ word.0.1) (info_kind_of-back word.0.0 value.0 value.1) ∙ ap (λ (p : InfoKind × List ℕ). info_kind_text p.0 ++ p.1) pair
+
+dir_kind_case : (word name : List ℕ) (this kind : DirKind) (other : Result DirKind Kind) → dir_kind_text this ≡ 32 ∷ name
+    → (if same word name then Ok this else other) ≡ Ok kind → (other ≡ Ok kind → 32 ∷ word ≡ dir_kind_text kind) → 32 ∷ word ≡ dir_kind_text kind
+dir_kind_case word name this kind other text is else_so =
+    elim (if_or (same word name) (Ok this) other kind is) [
+      | inl h ↦
+          let made : this ≡ kind = (let e : Ok this ≡ Ok kind = h.1 in cc) in
+          ap (λ (w : List ℕ). 32 ∷ w) (same-is word name h.0) ∙ sym text ∙ ap dir_kind_text made
+      | inr h ↦ else_so h
+    ]
+
+dir_kind_of-back : (word : List ℕ) (kind : DirKind) → dir_kind_of word ≡ Ok kind → 32 ∷ word ≡ dir_kind_text kind
+dir_kind_of-back word kind is =
+    dir_kind_case word (codes "names") Names kind _ refl is (λ is.
+    dir_kind_case word (codes "dir") Dir kind _ refl is (λ is.
+    dir_kind_case word (codes "full") Full kind _ refl is (λ is.
+    dir_kind_case word (codes "idfull") IdFull kind (Err BadSyntax) refl is (λ is. absurd (let e : Err BadSyntax ≡ Ok kind = is in cc)))))
+
+dir_kind_at-back : (bytes : List ℕ) (kind : DirKind × List ℕ) → dir_kind_at bytes ≡ Ok kind → bytes ≡ dir_kind_text kind.0 ++ kind.1
+unfolding dir_kind_at
+dir_kind_at-back bytes kind is =
+    let word = bind_ok (field_at bytes) _ kind is in
+    let value = bind_ok (dir_kind_of word.0.0) _ kind word.2 in
+    let pair : (value.0, word.0.1) ≡ kind = (let e : Ok (value.0, word.0.1) ≡ Ok kind = value.2 in cc) in
+    field_back bytes word.0 word.1 ∙ ap (λ (w : List ℕ). w ++ word.0.1) (dir_kind_of-back word.0.0 value.0 value.1) ∙ ap (λ (p : DirKind × List ℕ). dir_kind_text p.0 ++ p.1) pair
 
 -- ---- words of two, and where a write begins
 
@@ -597,6 +656,155 @@ set_security_back fields what is =
       rw (le-leb handle.0.0 4294967295 first.1, second.1, third.1) refl,
     )
 
+query_info_back : (fields : List ℕ) (what : What) → query_info_fields fields ≡ Ok what → ReadsVerb (codes "query") what fields
+unfolding query_info_fields
+query_info_back fields what is =
+    let handle = bind_ok (number_at most_id fields) _ what is in
+    let kind = bind_ok (info_kind_at handle.0.1) _ what handle.2 in
+    let room = bind_ok (number_at 16384 kind.0.1) _ what kind.2 in
+    let last = ended_ok room.0.1 (Ask (QueryInfo handle.0.0 kind.0.0 room.0.0)) what room.2 in
+    let first = number_at-back most_id fields handle.0 handle.1 in
+    let second = info_kind_at-back handle.0.1 kind.0 kind.1 in
+    let third = number_at-back 16384 kind.0.1 room.0 room.1 in
+    subst (λ (w : What). ReadsVerb (codes "query") w fields) last.1 (
+      refl,
+      first.0
+          ∙ ap (λ (rest : List ℕ). number_text handle.0.0 ++ rest) (second
+          ∙ ap (λ (rest : List ℕ). info_kind_text kind.0.0 ++ rest) (third.0
+          ∙ ap (λ (rest : List ℕ). number_text room.0.0 ++ rest) last.0 ∙ append-nil (number_text room.0.0))),
+      rw (le-leb handle.0.0 4294967295 first.1, le-leb room.0.0 16384 third.1) refl,
+    )
+
+set_basic_back : (fields : List ℕ) (what : What) → set_basic_fields fields ≡ Ok what → ReadsVerb (codes "setbasic") what fields
+unfolding set_basic_fields
+set_basic_back fields what is =
+    let handle = bind_ok (number_at most_id fields) _ what is in
+    let creation = bind_ok (number_at most_time handle.0.1) _ what handle.2 in
+    let access = bind_ok (number_at most_time creation.0.1) _ what creation.2 in
+    let write = bind_ok (number_at most_time access.0.1) _ what access.2 in
+    let change = bind_ok (number_at most_time write.0.1) _ what write.2 in
+    let attributes = bind_ok (mask_at change.0.1) _ what change.2 in
+    let last = ended_ok attributes.0.1 (Ask (SetBasic handle.0.0 creation.0.0 access.0.0 write.0.0 change.0.0 attributes.0.0)) what attributes.2 in
+    let b1 = number_at-back most_id fields handle.0 handle.1 in
+    let b2 = number_at-back most_time handle.0.1 creation.0 creation.1 in
+    let b3 = number_at-back most_time creation.0.1 access.0 access.1 in
+    let b4 = number_at-back most_time access.0.1 write.0 write.1 in
+    let b5 = number_at-back most_time write.0.1 change.0 change.1 in
+    let b6 = mask_at-back change.0.1 attributes.0 attributes.1 in
+    subst (λ (w : What). ReadsVerb (codes "setbasic") w fields) last.1 (
+      refl,
+      b1.0
+          ∙ ap (λ (rest : List ℕ). number_text handle.0.0 ++ rest) (b2.0
+          ∙ ap (λ (rest : List ℕ). number_text creation.0.0 ++ rest) (b3.0
+          ∙ ap (λ (rest : List ℕ). number_text access.0.0 ++ rest) (b4.0
+          ∙ ap (λ (rest : List ℕ). number_text write.0.0 ++ rest) (b5.0
+          ∙ ap (λ (rest : List ℕ). number_text change.0.0 ++ rest) (b6.0
+          ∙ ap (λ (rest : List ℕ). mask_text attributes.0.0 ++ rest) last.0 ∙ append-nil (mask_text attributes.0.0)))))),
+      rw (le-leb handle.0.0 4294967295 b1.1, le-leb creation.0.0 most_time b2.1, le-leb access.0.0 most_time b3.1, le-leb write.0.0 most_time b4.1, le-leb change.0.0 most_time b5.1, le-leb attributes.0.0 4294967295 b6.1) refl,
+    )
+
+query_dir_back : (fields : List ℕ) (what : What) → query_dir_fields fields ≡ Ok what → ReadsVerb (codes "querydir") what fields
+unfolding query_dir_fields
+query_dir_back fields what is =
+    let handle = bind_ok (number_at most_id fields) _ what is in
+    let kind = bind_ok (dir_kind_at handle.0.1) _ what handle.2 in
+    let expression = bind_ok (text_at kind.0.1) _ what kind.2 in
+    let restart = bind_ok (choice_at (codes "restart") (codes "go") expression.0.1) _ what expression.2 in
+    let room = bind_ok (number_at 16384 restart.0.1) _ what restart.2 in
+    let last = ended_ok room.0.1 (Ask (QueryDir handle.0.0 kind.0.0 expression.0.0 restart.0.0 room.0.0)) what room.2 in
+    let b1 = number_at-back most_id fields handle.0 handle.1 in
+    let b2 = dir_kind_at-back handle.0.1 kind.0 kind.1 in
+    let b3 = text_at-back kind.0.1 expression.0 expression.1 in
+    let b4 = choice_at-back (codes "restart") (codes "go") expression.0.1 restart.0 restart.1 in
+    let b5 = number_at-back 16384 restart.0.1 room.0 room.1 in
+    subst (λ (w : What). ReadsVerb (codes "querydir") w fields) last.1 (
+      refl,
+      (
+        b3.0,
+        b3.1.0,
+        b1.0
+            ∙ ap (λ (rest : List ℕ). number_text handle.0.0 ++ rest) (b2
+            ∙ ap (λ (rest : List ℕ). dir_kind_text kind.0.0 ++ rest) (b3.2
+            ∙ ap (λ (rest : List ℕ). 32 ∷ 61 ∷ (b3.0 ++ rest)) (b4
+            ∙ ap (λ (rest : List ℕ). choice_text (codes "restart") (codes "go") restart.0.0 ++ rest) (b5.0
+            ∙ ap (λ (rest : List ℕ). number_text room.0.0 ++ rest) last.0 ∙ append-nil (number_text room.0.0))))),
+      ),
+      rw (le-leb handle.0.0 4294967295 b1.1, b3.1.1, le-leb room.0.0 16384 b5.1) refl,
+    )
+
+set_reparse_back : (fields : List ℕ) (what : What) → set_reparse_fields fields ≡ Ok what → ReadsVerb (codes "setreparse") what fields
+unfolding set_reparse_fields
+set_reparse_back fields what is =
+    let handle = bind_ok (number_at most_id fields) _ what is in
+    let buffer = bind_ok (string_at handle.0.1) _ what handle.2 in
+    let last = ended_ok buffer.0.1 (Ask (SetReparse handle.0.0 buffer.0.0)) what buffer.2 in
+    let first = number_at-back most_id fields handle.0 handle.1 in
+    let second = string_at-back handle.0.1 buffer.0 buffer.1 in
+    subst (λ (w : What). ReadsVerb (codes "setreparse") w fields) last.1 (
+      refl,
+      first.0
+          ∙ ap (λ (rest : List ℕ). number_text handle.0.0 ++ rest) (second.0
+          ∙ ap (λ (rest : List ℕ). string_text buffer.0.0 ++ rest) last.0 ∙ append-nil (string_text buffer.0.0)),
+      rw (le-leb handle.0.0 4294967295 first.1, second.1, le-leb (length buffer.0.0) 16384 second.2) refl,
+    )
+
+get_reparse_back : (fields : List ℕ) (what : What) → get_reparse_fields fields ≡ Ok what → ReadsVerb (codes "getreparse") what fields
+unfolding get_reparse_fields
+get_reparse_back fields what is =
+    let handle = bind_ok (number_at most_id fields) _ what is in
+    let room = bind_ok (number_at 16384 handle.0.1) _ what handle.2 in
+    let last = ended_ok room.0.1 (Ask (GetReparse handle.0.0 room.0.0)) what room.2 in
+    let first = number_at-back most_id fields handle.0 handle.1 in
+    let second = number_at-back 16384 handle.0.1 room.0 room.1 in
+    subst (λ (w : What). ReadsVerb (codes "getreparse") w fields) last.1 (
+      refl,
+      first.0
+          ∙ ap (λ (rest : List ℕ). number_text handle.0.0 ++ rest) (second.0
+          ∙ ap (λ (rest : List ℕ). number_text room.0.0 ++ rest) last.0 ∙ append-nil (number_text room.0.0)),
+      rw (le-leb handle.0.0 4294967295 first.1, le-leb room.0.0 16384 second.1) refl,
+    )
+
+delete_reparse_back : (fields : List ℕ) (what : What) → delete_reparse_fields fields ≡ Ok what → ReadsVerb (codes "deletereparse") what fields
+unfolding delete_reparse_fields
+delete_reparse_back fields what is =
+    let handle = bind_ok (number_at most_id fields) _ what is in
+    let tag = bind_ok (mask_at handle.0.1) _ what handle.2 in
+    let last = ended_ok tag.0.1 (Ask (DeleteReparse handle.0.0 tag.0.0)) what tag.2 in
+    let first = number_at-back most_id fields handle.0 handle.1 in
+    let second = mask_at-back handle.0.1 tag.0 tag.1 in
+    subst (λ (w : What). ReadsVerb (codes "deletereparse") w fields) last.1 (
+      refl,
+      first.0
+          ∙ ap (λ (rest : List ℕ). number_text handle.0.0 ++ rest) (second.0
+          ∙ ap (λ (rest : List ℕ). mask_text tag.0.0 ++ rest) last.0 ∙ append-nil (mask_text tag.0.0)),
+      rw (le-leb handle.0.0 4294967295 first.1, le-leb tag.0.0 4294967295 second.1) refl,
+    )
+
+set_quota_back : (fields : List ℕ) (what : What) → set_quota_fields fields ≡ Ok what → ReadsVerb (codes "setquota") what fields
+unfolding set_quota_fields
+set_quota_back fields what is =
+    let sid = bind_ok (number_at most_id fields) _ what is in
+    let limit = bind_ok (number_at most_limit sid.0.1) _ what sid.2 in
+    let last = ended_ok limit.0.1 (Ask (SetQuota sid.0.0 limit.0.0)) what limit.2 in
+    let first = number_at-back most_id fields sid.0 sid.1 in
+    let second = number_at-back most_limit sid.0.1 limit.0 limit.1 in
+    subst (λ (w : What). ReadsVerb (codes "setquota") w fields) last.1 (
+      refl,
+      first.0
+          ∙ ap (λ (rest : List ℕ). number_text sid.0.0 ++ rest) (second.0
+          ∙ ap (λ (rest : List ℕ). number_text limit.0.0 ++ rest) last.0 ∙ append-nil (number_text limit.0.0)),
+      rw (le-leb sid.0.0 4294967295 first.1, le-leb limit.0.0 most_limit second.1) refl,
+    )
+
+query_quota_back : (fields : List ℕ) (what : What) → query_quota_fields fields ≡ Ok what → ReadsVerb (codes "queryquota") what fields
+unfolding query_quota_fields
+query_quota_back fields what is =
+    let sid = bind_ok (number_at most_id fields) _ what is in
+    let last = ended_ok sid.0.1 (Ask (QueryQuota sid.0.0)) what sid.2 in
+    let first = number_at-back most_id fields sid.0 sid.1 in
+    subst (λ (w : What). ReadsVerb (codes "queryquota") w fields) last.1
+    (refl, first.0 ∙ ap (λ (rest : List ℕ). number_text sid.0.0 ++ rest) last.0 ∙ append-nil (number_text sid.0.0), le-leb sid.0.0 4294967295 first.1)
+
 create_back : (fields : List ℕ) (what : What) → create_fields fields ≡ Ok what → ReadsVerb (codes "create") what fields
 unfolding create_fields
 create_back fields what is =
@@ -662,7 +870,15 @@ what_of-back word fields what is =
     verb_case word (codes "rename") fields (rename_fields fields) _ what is (rename_back fields what) (λ is.
     verb_case word (codes "link") fields (link_fields fields) _ what is (link_back fields what) (λ is.
     verb_case word (codes "setdelete") fields (set_disposition_fields fields) _ what is (set_disposition_back fields what) (λ is.
+    verb_case word (codes "query") fields (query_info_fields fields) _ what is (query_info_back fields what) (λ is.
+    verb_case word (codes "setbasic") fields (set_basic_fields fields) _ what is (set_basic_back fields what) (λ is.
     verb_case word (codes "setsecurity") fields (set_security_fields fields) _ what is (set_security_back fields what) (λ is.
+    verb_case word (codes "querydir") fields (query_dir_fields fields) _ what is (query_dir_back fields what) (λ is.
+    verb_case word (codes "setreparse") fields (set_reparse_fields fields) _ what is (set_reparse_back fields what) (λ is.
+    verb_case word (codes "getreparse") fields (get_reparse_fields fields) _ what is (get_reparse_back fields what) (λ is.
+    verb_case word (codes "deletereparse") fields (delete_reparse_fields fields) _ what is (delete_reparse_back fields what) (λ is.
+    verb_case word (codes "setquota") fields (set_quota_fields fields) _ what is (set_quota_back fields what) (λ is.
+    verb_case word (codes "queryquota") fields (query_quota_fields fields) _ what is (query_quota_back fields what) (λ is.
     verb_case word (codes "tick") fields (tick_fields fields) _ what is (tick_back fields what) (λ is.
     verb_case word (codes "cancel") fields (cancel_fields fields) _ what is (cancel_back fields what) (λ is.
-    verb_case word (codes "wait") fields (wait_fields fields) (Err BadSyntax) what is (wait_back fields what) (λ is. absurd (let e : Err BadSyntax ≡ Ok what = is in cc))))))))))))))))))
+    verb_case word (codes "wait") fields (wait_fields fields) (Err BadSyntax) what is (wait_back fields what) (λ is. absurd (let e : Err BadSyntax ≡ Ok what = is in cc))))))))))))))))))))))))))

@@ -1,4 +1,5 @@
--- The lines that set information: what their fields say, and how they are written. Today the owner and the access list.
+-- The lines that ask for information and set it: what their fields say, and how they are written. They set times and
+-- attributes, and the owner and the access list.
 use Rattle.std.specs.Prelude.{ℕ, zero, suc, ◌+◌, ◌==◌, ◌||◌, ◌&&◌, Bool, true, nat_le, List, [], ◌∷◌, ◌++◌, Option, Some, None, Result, Ok, Err, if◌then◌else◌, length, drop, codes, nat_eq}
 use Rattle.std.specs.Option.{option_map_or}
 use Rattle.std.specs.List.{before_first, flat_map, list_all, position_or_len, starts_with}
@@ -6,13 +7,91 @@ use Rattle.fsa_types.specs.BoundedList.{full}
 use Rattle.fsa_types.specs.declared.request.Ace.{Ace}
 use Rattle.fsa_types.specs.declared.request.DaclChange.{DaclChange}
 use Rattle.fsa_types.specs.declared.request.DaclChange.TheVariants.{Keep, Remove, Put}
+use Rattle.fsa_types.specs.declared.request.InfoKind.{InfoKind}
+use Rattle.fsa_types.specs.declared.request.InfoKind.TheVariants.{Basic, Standard, Internal, Tag, Streams}
 use Rattle.fsa_types.specs.declared.request.What.{What}
 use Rattle.fsa_types.specs.declared.request.What.TheVariants.{Ask}
-use Rattle.fsa_types.specs.declared.request.Request.TheVariants.{SetSecurity}
+use Rattle.fsa_types.specs.declared.request.Request.TheVariants.{QueryInfo, SetBasic, SetSecurity}
 use Rattle.fsa_model.specs.Fault.{Kind, BadSyntax, ◌>>=◌, read_as, only_if}
 use Rattle.fsa_model.specs.Numbers.{written_number, spelled}
-use Rattle.fsa_model.specs.Words.{most_id, most_mask, same, field_at, number_at, mask_of, ended}
-use Rattle.fsa_model.specs.FieldText.{number_text}
+use Rattle.fsa_model.specs.Words.{most_id, most_mask, most_bytes, same, field_at, number_at, mask_of, mask_at, ended}
+use Rattle.fsa_model.specs.FieldText.{number_text, mask_text}
+
+-- ---- information
+
+-- what is asked for
+abbrev pub info_kind_of : List ℕ → Result InfoKind Kind
+info_kind_of word =
+    if same word (codes "basic") then Ok Basic
+    else if same word (codes "standard") then Ok Standard
+    else if same word (codes "internal") then Ok Internal
+    else if same word (codes "tag") then Ok Tag
+    else if same word (codes "stream") then Ok Streams
+    else Err BadSyntax
+
+unfoldable pub info_kind_at : List ℕ → Result (InfoKind × List ℕ) Kind
+info_kind_at bytes = do
+  word ← field_at bytes
+  kind ← info_kind_of word.0
+  Ok (kind, word.1)
+
+-- handle, what is asked for, room
+unfoldable pub query_info_fields : List ℕ → Result What Kind
+query_info_fields bytes = do
+  handle ← number_at most_id bytes
+  kind ← info_kind_at handle.1
+  room ← number_at most_bytes kind.1
+  ended room.1 (Ask (QueryInfo handle.0 kind.0 room.0))
+
+-- `basic`, `standard`, `internal`, `tag` or `stream`
+abbrev pub info_kind_word : InfoKind → List ℕ
+info_kind_word Basic = codes "basic"
+info_kind_word Standard = codes "standard"
+info_kind_word Internal = codes "internal"
+info_kind_word Tag = codes "tag"
+info_kind_word Streams = codes "stream"
+
+-- it, as a field
+abbrev pub info_kind_text : InfoKind → List ℕ
+info_kind_text kind = 32 ∷ info_kind_word kind
+
+abbrev pub query_info_text : ℕ → InfoKind → ℕ → List ℕ
+query_info_text handle kind room = number_text handle ++ (info_kind_text kind ++ number_text room)
+
+abbrev pub is_query_info : ℕ → ℕ → Bool
+is_query_info handle room = nat_le handle most_id && nat_le room most_bytes
+
+-- ---- times and attributes
+
+-- times are below 2 ^ 64
+abbrev pub most_time : ℕ
+most_time = 18446744073709551615
+
+-- handle; the times of creation, access, write and change; attributes
+unfoldable pub set_basic_fields : List ℕ → Result What Kind
+set_basic_fields bytes = do
+  handle ← number_at most_id bytes
+  creation ← number_at most_time handle.1
+  access ← number_at most_time creation.1
+  write ← number_at most_time access.1
+  change ← number_at most_time write.1
+  attributes ← mask_at change.1
+  ended attributes.1 (Ask (SetBasic handle.0 creation.0 access.0 write.0 change.0 attributes.0))
+
+abbrev pub set_basic_text : ℕ → ℕ → ℕ → ℕ → ℕ → ℕ → List ℕ
+set_basic_text handle creation access write change attributes =
+    number_text handle ++ (number_text creation ++ (number_text access ++ (number_text write ++ (number_text change ++ mask_text attributes))))
+
+abbrev pub is_set_basic : ℕ → ℕ → ℕ → ℕ → ℕ → ℕ → Bool
+is_set_basic handle creation access write change attributes =
+    nat_le handle most_id
+    && nat_le creation most_time
+    && nat_le access most_time
+    && nat_le write most_time
+    && nat_le change most_time
+    && nat_le attributes most_mask
+
+-- ---- owners and access lists
 
 -- a SID
 abbrev pub sid_of : List ℕ → Result ℕ Kind

@@ -4,6 +4,7 @@ pub mod Changes
 pub mod Charge
 pub mod ClockLines
 pub mod Close
+pub mod ControlLines
 pub mod Edits
 pub mod Engine
 pub mod Fault
@@ -17,6 +18,7 @@ pub mod InformationLines
 pub mod LineCalls
 pub mod Lines
 pub mod Link
+pub mod ListingLines
 pub mod LockLines
 pub mod Locked
 pub mod Locking

@@ -4,7 +4,7 @@ use Rattle.std.specs.Prelude.{ℕ, Bool, true, false, List, Result, Err, if◌th
 use Rattle.fsa_types.specs.declared.request.What.{What}
 use Rattle.fsa_types.specs.declared.request.What.TheVariants.{Ask}
 use Rattle.fsa_types.specs.declared.request.Request.TheVariants.{Oplock, Ack}
-use Rattle.fsa_types.specs.declared.request.Request.TheVariants.{Create, Close, Read, Write, Flush, SetEnd, Lock, Unlock, SetDisposition, Rename, Link, SetSecurity, Cancel}
+use Rattle.fsa_types.specs.declared.request.Request.TheVariants.{Create, Close, Read, Write, Flush, SetEnd, Lock, Unlock, QueryDir, QueryInfo, SetBasic, SetDisposition, Rename, Link, SetSecurity, SetReparse, GetReparse, DeleteReparse, SetQuota, QueryQuota, Cancel}
 use Rattle.fsa_model.specs.Fault.{Kind, BadSyntax}
 use Rattle.fsa_model.specs.Words.{same}
 use Rattle.fsa_model.specs.OpenLines.{create_fields, close_fields}
@@ -12,7 +12,9 @@ use Rattle.fsa_model.specs.ByteLines.{read_fields, write_fields, flush_fields, s
 use Rattle.fsa_model.specs.LockLines.{lock_fields, unlock_fields}
 use Rattle.fsa_model.specs.OplockLines.{oplock_fields, ack_fields}
 use Rattle.fsa_model.specs.NameLines.{rename_fields, link_fields, set_disposition_fields}
-use Rattle.fsa_model.specs.InformationLines.{set_security_fields}
+use Rattle.fsa_model.specs.InformationLines.{query_info_fields, set_basic_fields, set_security_fields}
+use Rattle.fsa_model.specs.ListingLines.{query_dir_fields}
+use Rattle.fsa_model.specs.ControlLines.{set_reparse_fields, get_reparse_fields, delete_reparse_fields, set_quota_fields, query_quota_fields}
 use Rattle.fsa_model.specs.ClockLines.{tick_fields}
 use Rattle.fsa_model.specs.WaitLines.{cancel_fields, wait_fields}
 
@@ -31,7 +33,15 @@ can_be_asked (Ask (Ack handle level)) = true
 can_be_asked (Ask (SetDisposition handle delete)) = true
 can_be_asked (Ask (Rename handle path replace)) = true
 can_be_asked (Ask (Link handle path replace)) = true
+can_be_asked (Ask (QueryInfo handle kind room)) = true
+can_be_asked (Ask (SetBasic handle creation access write change attributes)) = true
 can_be_asked (Ask (SetSecurity handle owner dacl)) = true
+can_be_asked (Ask (QueryDir handle kind expression restart room)) = true
+can_be_asked (Ask (SetReparse handle buffer)) = true
+can_be_asked (Ask (GetReparse handle room)) = true
+can_be_asked (Ask (DeleteReparse handle tag)) = true
+can_be_asked (Ask (SetQuota sid limit)) = true
+can_be_asked (Ask (QueryQuota sid)) = true
 can_be_asked (Ask (Cancel number)) = true
 can_be_asked (Ask _) = false
 can_be_asked _ = true
@@ -72,7 +82,23 @@ name_line verb fields other =
 
 abbrev pub information_line : List ℕ → List ℕ → Result What Kind → Result What Kind
 information_line verb fields other =
-    if same verb (codes "setsecurity") then set_security_fields fields
+    if same verb (codes "query") then query_info_fields fields
+    else if same verb (codes "setbasic") then set_basic_fields fields
+    else if same verb (codes "setsecurity") then set_security_fields fields
+    else other
+
+abbrev pub listing_line : List ℕ → List ℕ → Result What Kind → Result What Kind
+listing_line verb fields other =
+    if same verb (codes "querydir") then query_dir_fields fields
+    else other
+
+abbrev pub control_line : List ℕ → List ℕ → Result What Kind → Result What Kind
+control_line verb fields other =
+    if same verb (codes "setreparse") then set_reparse_fields fields
+    else if same verb (codes "getreparse") then get_reparse_fields fields
+    else if same verb (codes "deletereparse") then delete_reparse_fields fields
+    else if same verb (codes "setquota") then set_quota_fields fields
+    else if same verb (codes "queryquota") then query_quota_fields fields
     else other
 
 abbrev pub clock_line : List ℕ → List ℕ → Result What Kind → Result What Kind
@@ -95,6 +121,8 @@ what_of verb fields =
     (oplock_line verb fields
     (name_line verb fields
     (information_line verb fields
+    (listing_line verb fields
+    (control_line verb fields
     (clock_line verb fields
     (wait_line verb fields
-    (Err BadSyntax))))))))
+    (Err BadSyntax))))))))))
