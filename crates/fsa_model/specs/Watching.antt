@@ -4,6 +4,7 @@ use Rattle.std.specs.Prelude.{ℕ, Bool, false, ◌==◌, ◌&&◌, ◌||◌, no
 use Rattle.std.specs.List.{list_any}
 use Rattle.std.specs.Option.{option_map_or}
 use Rattle.fsa_types.specs.Access.{has_any, without}
+use Rattle.fsa_types.specs.Masks.{READ_DATA}
 use Rattle.fsa_types.specs.Packing.{bytes}
 use Rattle.fsa_types.specs.PackedRows.{change_row}
 use Rattle.fsa_types.specs.Rows.{row_of}
@@ -95,7 +96,7 @@ is_notify_filter filter = not (filter == 0) && without filter 0xFFF == 0
 abbrev pub notify_by : Volume → ℕ → Handle → ℕ → Bool → ℕ → Outcome
 notify_by v id handle filter tree room =
     if is_some handle.stream then refused v InvalidParameter
-    else if not (has_any handle.access 0x1) then refused v AccessDenied
+    else if not (has_any handle.access READ_DATA) then refused v AccessDenied
     else if not (is_notify_filter filter) then refused v InvalidParameter
     else if is_link_marked v handle.link then refused v DeletePending
     else notify_due (with_watch_begun v id filter tree) id room
