@@ -1,10 +1,12 @@
 mod AceLemmas
 mod ByteLineLemmas
 mod ClockLineLemmas
+mod ControlLineLemmas
 mod DaclLemmas
 mod InformationLineLemmas
 mod LeastLemmas
 mod LineLemmas
+mod ListingLineLemmas
 mod LockLineLemmas
 mod NameLemmas
 mod NameLineLemmas

@@ -20,9 +20,10 @@
 //! the script has, beside two lists with room for as many clients and calls as there are lines.
 //!
 //! Caveats. The verbs are `create`, `close`, `read`, `write`, `flush`, `setend`, `lock`, `unlock`,
-//! `oplock`, `ack`, `rename`, `link`, `setdelete`, `setsecurity`, `cancel`, `tick` and `wait`; another
-//! one is `Syntax`. So is an access list of more than 32 entries. The number of requests has no bound
-//! here.
+//! `oplock`, `ack`, `rename`, `link`, `setdelete`, `query`, `setbasic`, `setsecurity`, `querydir`,
+//! `setreparse`, `getreparse`, `deletereparse`, `setquota`, `queryquota`, `cancel`, `tick` and `wait`;
+//! another one is `Syntax`. So is an access list of more than 32 entries. The number of requests has no
+//! bound here.
 //!
 //! To add a verb: in the definitions of the lines of its group what its fields say and how they are
 //! written, and the verb itself in that group's `.._line`; here a function of the same name and its branch.
@@ -30,6 +31,7 @@
 
 mod byte_lines;
 mod clock_lines;
+mod control_lines;
 mod dacl;
 #[cfg(test)]
 mod dacl_tests;
@@ -37,6 +39,7 @@ mod fault;
 mod information_lines;
 mod law;
 mod line;
+mod listing_lines;
 mod lock_lines;
 mod name_lines;
 mod names;

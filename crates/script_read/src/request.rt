@@ -6,8 +6,10 @@ ghost use Rattle.script_read.specs.ReadsAs.{ReadsAs};
 
 use crate::byte_lines::byte_line;
 use crate::clock_lines::clock_line;
+use crate::control_lines::control_line;
 use crate::fault::{LineFault, SYNTAX};
 use crate::information_lines::information_line;
+use crate::listing_lines::listing_line;
 use crate::lock_lines::lock_line;
 use crate::name_lines::name_line;
 use crate::open_lines::open_line;
@@ -37,6 +39,12 @@ pub fn what_of(alloc: Global, verb: &[u8], fields: &[u8]) -> Result<What, LineFa
         return Ok(what);
     }
     if let Some(what) = information_line(alloc, verb, fields)? {
+        return Ok(what);
+    }
+    if let Some(what) = listing_line(alloc, verb, fields)? {
+        return Ok(what);
+    }
+    if let Some(what) = control_line(alloc, verb, fields)? {
         return Ok(what);
     }
     if let Some(what) = clock_line(verb, fields)? {

@@ -84,6 +84,10 @@ script fsa 1/table pairs/up 0x61 0x41/up 0x62 0x41/client a 7/\n\
 3Syntax fsa 1/client a 7/a 1 rename 1 =\\x keep /\n\
 3Syntax fsa 1/client a 7/a 1 link 1 =\\x replace /\n\
 3Syntax fsa 1/client a 7/a 1 setdelete 1 yes /\n\
+3Syntax fsa 1/client a 7/a 1 querydir 1 names =* go 100 /\n\
+3Syntax fsa 1/client a 7/a 1 query 1 basic 40 /\n\
+3Syntax fsa 1/client a 7/a 1 setreparse 1 x /\n\
+3Syntax fsa 1/client a 7/a 1 notify 1 0x1 flat 100/\n\
 ";
 
 // Requests that are taken (`+`) and refused (`-`): creates, by their path, masks, options, disposition,
@@ -249,6 +253,50 @@ const REQUESTS: &str = r#"+ create =\d 0x1 0x7 create 0x1 0x0 0
 - setdelete 1 true
 - setdelete 1 YES
 - setdelete 1 yes no
++ querydir 4294967295 names =* restart 16384
++ querydir 0 dir = go 0
++ querydir 1 full =%D83D? go 100
++ querydir 1 idfull =<.%0022> restart 100
+- querydir 4294967296 names =* go 100
+- querydir 1 names =* go 16385
+- querydir 1 both =* go 100
+- querydir 1 names * go 100
+- querydir 1 names =* begin 100
+- querydir 1 names =* 100 go
+- querydir 1 names =* go
+- querydir 1 names =* go 100 0
++ query 4294967295 basic 16384
++ query 0 standard 0
++ query 1 internal 8
++ query 1 tag 8
++ query 1 stream 24
+- query 4294967296 basic 40
+- query 1 basic 16385
+- query 1 streams 40
+- query 1 40 basic
+- query 1 basic
++ setbasic 4294967295 18446744073709551615 0 1 9223372036854775808 0xffffffff
+- setbasic 1 0 0 0 18446744073709551616 0x0
+- setbasic 1 0 0 0 0 0x100000000
+- setbasic 1 0 0 0 0 0
+- setbasic 1 0 0 0 0x0
++ setreparse 4294967295 x0c0000a000000000
++ setreparse 0 x
+- setreparse 1 0c
+- setreparse 1 x0C
+- setreparse 1
++ getreparse 4294967295 16384
+- getreparse 1 16385
+- getreparse 1
++ deletereparse 4294967295 0xa000000c
+- deletereparse 1 12
+- deletereparse 1 0x1a000000c
++ setquota 4294967295 18446744073709551615
+- setquota 7 18446744073709551616
+- setquota 7
++ queryquota 4294967295
+- queryquota 07
+- queryquota 7 0
 + cancel 4294967295
 - cancel 4294967296
 - cancel 01
@@ -368,6 +416,51 @@ fn what_names_and_marks_say(rt: HostRuntime) -> Result<(), Fail> {
         Call { client: 0, number: 6, what: Ask(SetDisposition { handle: 6, delete: false }) }, \
         Call { client: 0, number: 7, what: Ask(Create { path: Name { units: [92] }, \
         wanted: 65536, share: 0, disposition: OpenExisting, options: 4096, attributes: 0, key: 0 }) }]"
+    );
+    Ok(())
+}
+
+#[test]
+fn what_queries_say(rt: HostRuntime) -> Result<(), Fail> {
+    let text = "fsa 1\nclient a 7\n\
+                a 1 querydir 1 names =* restart 2\na 2 querydir 2 dir = go 3\na 3 querydir 3 full =a go 4\n\
+                a 4 querydir 4 idfull =%D800 restart 5\na 5 query 5 basic 6\na 6 query 6 standard 7\n\
+                a 7 query 7 internal 8\na 8 query 8 tag 9\na 9 query 9 stream 10\n\
+                a 10 setbasic 1 2 3 4 5 0x6\n";
+    let script = read_script(rt.alloc(), text.as_bytes())?;
+    let said = format!(in rt.alloc(); "{:?}", script.lines().as_slice())?;
+    assert_eq!(rt;
+        said.as_str(),
+        "[\
+        Call { client: 0, number: 1, what: Ask(QueryDir { handle: 1, kind: Names, expression: Name { units: [42] }, restart: true, room: 2 }) }, \
+        Call { client: 0, number: 2, what: Ask(QueryDir { handle: 2, kind: Dir, expression: Name { units: [] }, restart: false, room: 3 }) }, \
+        Call { client: 0, number: 3, what: Ask(QueryDir { handle: 3, kind: Full, expression: Name { units: [97] }, restart: false, room: 4 }) }, \
+        Call { client: 0, number: 4, what: Ask(QueryDir { handle: 4, kind: IdFull, expression: Name { units: [55296] }, restart: true, room: 5 }) }, \
+        Call { client: 0, number: 5, what: Ask(QueryInfo { handle: 5, kind: Basic, room: 6 }) }, \
+        Call { client: 0, number: 6, what: Ask(QueryInfo { handle: 6, kind: Standard, room: 7 }) }, \
+        Call { client: 0, number: 7, what: Ask(QueryInfo { handle: 7, kind: Internal, room: 8 }) }, \
+        Call { client: 0, number: 8, what: Ask(QueryInfo { handle: 8, kind: Tag, room: 9 }) }, \
+        Call { client: 0, number: 9, what: Ask(QueryInfo { handle: 9, kind: Streams, room: 10 }) }, \
+        Call { client: 0, number: 10, what: Ask(SetBasic { handle: 1, creation: 2, access: 3, write: 4, change: 5, attributes: 6 }) }]"
+    );
+    Ok(())
+}
+
+#[test]
+fn what_controls_say(rt: HostRuntime) -> Result<(), Fail> {
+    let text = "fsa 1\nclient a 7\n\
+                a 1 setreparse 1 x0cff\na 2 getreparse 2 3\na 3 deletereparse 3 0xa000000c\n\
+                a 4 setquota 4 5\na 5 queryquota 6\n";
+    let script = read_script(rt.alloc(), text.as_bytes())?;
+    let said = format!(in rt.alloc(); "{:?}", script.lines().as_slice())?;
+    assert_eq!(rt;
+        said.as_str(),
+        "[\
+        Call { client: 0, number: 1, what: Ask(SetReparse { handle: 1, bytes: Bytes { bytes: [12, 255] } }) }, \
+        Call { client: 0, number: 2, what: Ask(GetReparse { handle: 2, room: 3 }) }, \
+        Call { client: 0, number: 3, what: Ask(DeleteReparse { handle: 3, tag: 2684354572 }) }, \
+        Call { client: 0, number: 4, what: Ask(SetQuota { sid: 4, limit: 5 }) }, \
+        Call { client: 0, number: 5, what: Ask(QueryQuota { sid: 6 }) }]"
     );
     Ok(())
 }
