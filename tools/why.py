@@ -6,7 +6,7 @@ The program says which line is the first faulty one, by proof; the cause is this
 import re
 import sys
 
-MOST_PLACE, MOST_COUNT, MOST_ID, MOST_KEY = 2**64 - 1, 16384, 2**32 - 1, 2**64 - 1
+MOST_PLACE, MOST_COUNT, MOST_ID, MOST_KEY, MOST_TIME, MOST_LIMIT = 2**64 - 1, 16384, 2**32 - 1, 2**64 - 1, 2**64 - 1, 2**64 - 1
 DISPOSITIONS = "supersede open create open_if overwrite overwrite_if".split()
 # the fields of each verb, by their names and forms
 VERBS = {
@@ -24,11 +24,19 @@ VERBS = {
     "link": [("handle", MOST_ID), ("path", "text"), ("last field", ("replace", "keep"))],
     "setdelete": [("handle", MOST_ID), ("last field", ("yes", "no"))],
     "setsecurity": [("handle", MOST_ID), ("owner", "owner"), ("access list", "dacl")],
+    "query": [("handle", MOST_ID), ("kind", ("basic", "standard", "internal", "tag", "stream")), ("room", MOST_COUNT)],
+    "setbasic": [("handle", MOST_ID), ("time of creation", MOST_TIME), ("time of access", MOST_TIME), ("time of write", MOST_TIME), ("time of change", MOST_TIME), ("attributes", "mask")],
+    "querydir": [("handle", MOST_ID), ("layout", ("names", "dir", "full", "idfull")), ("expression", "text"), ("word behind the expression", ("restart", "go")), ("room", MOST_COUNT)],
+    "setreparse": [("handle", MOST_ID), ("bytes", "bytes")],
+    "getreparse": [("handle", MOST_ID), ("room", MOST_COUNT)],
+    "deletereparse": [("handle", MOST_ID), ("tag", "mask")],
+    "setquota": [("SID", MOST_ID), ("limit", MOST_LIMIT)],
+    "queryquota": [("SID", MOST_ID)],
     "cancel": [("number of a call", MOST_ID)],
     "tick": [("ticks", MOST_ID)],
     "wait": [("number of a call", MOST_ID)],
 }
-LATER = "querydir notify query setbasic setreparse getreparse deletereparse setquota queryquota leave".split()
+LATER = "notify leave".split()
 
 
 def number(word, most, what):
@@ -131,7 +139,7 @@ def request(words, names, calls):
         return f"there is no verb {verb!r}; the verbs are {', '.join(VERBS)}"
     wanted = VERBS[verb]
     if len(fields) != len(wanted):
-        return f"`{verb}` has the fields {', '.join(it for it, _ in wanted)}: {len(wanted)}, and here are {len(fields)}" + (". A space in a path is written %0020" if verb in ("create", "rename", "link") and len(fields) > len(wanted) else "")
+        return f"`{verb}` has the fields {', '.join(it for it, _ in wanted)}: {len(wanted)}, and here are {len(fields)}" + (". A space in a path or an expression is written %0020" if verb in ("create", "rename", "link", "querydir") and len(fields) > len(wanted) else "")
     for word, (what, form) in zip(fields, wanted):
         fault = field(word, what, form)
         if fault:
