@@ -1,4 +1,3 @@
-pub mod BodyLaws
 pub mod LimitLaws
 pub mod OrderLaws
 pub mod RunLaws

@@ -31,7 +31,7 @@ use Rattle.history_laws.proofs.SameText.{same_text}
 use Rattle.history_laws.proofs.WholeLaws.{Scheduled-goes_on, left_falls, some_run}
 use Rattle.fsa_machine.specs.Stands.{Seen}
 use Rattle.wire_io.specs.Sink.{Written, Appends, AppendsPart}
-use Rattle.wire_io.proofs.SinkLaws.{Appends-append, Appends-none, AppendsPart-append, AppendsPart-longer, AppendsPart-whole}
+use Rattle.wire_io.proofs.SinkLaws.{Appends-append, Appends-none, AppendsPart-append, AppendsPart-longer, AppendsPart-none, AppendsPart-whole}
 use Rattle.fsa_top.specs.Order.{Follows, IsLeastCursor, IsWithin}
 use Rattle.fsa_top.specs.Runs.{WritesPart, WritesText}
 use Rattle.fsa_top.specs.Progress.{IsNextAt, MadeTurn, MakesTurn, Shows, Progress}
@@ -233,6 +233,10 @@ MakesTurn-part script old new call first mid now Failed is_read setup is makes s
 MakesTurn-part script old new call first mid now NoMemory is_read setup is makes shows = subst (WritesPart script first) (sym makes) (Shows-part script old.entries first mid is_read shows)
 
 -- ---- the end
+
+-- nothing of the last line was written
+pub last_none : (old now : Written) (turns : ℕ) → now ≡ old → AppendsPart old now (last_line turns)
+last_none old now turns same = subst (λ (w : Written). AppendsPart old w (last_line turns)) (sym same) (AppendsPart-none old (last_line turns) (omega arith))
 
 -- a part of the last line was written behind the lines of all turns
 pub Shows-last_part : (script : Script) (history : List HistoryEntry) (first mid now : Written) → HasAllCalls script history → Shows script history first mid → AppendsPart mid now (last_line (length history)) → WritesPart script first now

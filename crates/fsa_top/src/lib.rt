@@ -10,12 +10,10 @@
 //! the bytes, the source or the sink. The script is held in memory whole, and so are all replies.
 #![tactic(auto)]
 
-mod bodies;
 mod limits;
 mod lines;
 mod order;
 mod run;
-mod text;
 mod top;
 
 pub use limits::{MOST_CLIENT_LINES, MOST_LINE_FEEDS, MOST_SCRIPT_BYTES};

@@ -18,12 +18,12 @@ ghost use Rattle.fsa_top.specs.Progress.{IsNextAt, MadeTurn, MakesTurn, Shows, P
 ghost use Rattle.fsa_top.specs.declared.run.RunFault.TheVariants.{Failed, NoMemory};
 
 use crate::order::Order;
-use crate::text::{push_last, push_turn};
 use fsa_machine::VolumeMachine;
 use fsa_types::{Call, ClientList, Out, Setup, TryCopy, What, Why};
 use script_read::Script;
 use std::alloc::Global;
-use wire_io::{Sink, put_all};
+use text_out::{TextFault, write_last, write_turn};
+use wire_io::Sink;
 
 /// Why a run stopped.
 #[derive(Clone, Copy, Debug, PartialEq, Eq)]
@@ -32,17 +32,6 @@ pub enum RunFault {
     Failed,
     /// There was no memory.
     NoMemory,
-}
-
-impl From<wire_io::Failed> for RunFault {
-    ghost use Rattle.std.specs.Prelude.{◌≡◌};
-    ghost use Rattle.fsa_top.specs.declared.run.RunFault.TheVariants.{Failed};
-
-    ghost from_gives = { λ _ fault. fault ≡ Failed };
-
-    fn from(_error: wire_io::Failed) -> RunFault {
-        RunFault::Failed
-    }
 }
 
 impl From<fsa_types::NoMemory> for RunFault {
@@ -94,10 +83,11 @@ fn make_turn<K: Sink>(
     ensures no_memory { IsErrOf result RunFault.NoMemory → K.faults sink.new ≡ K.faults sink.old }
 {
     let out = turn_of(alloc, machine, call)?;
-    let mut lines = Vec::new(alloc);
-    push_turn(&mut lines, clients, call, &out)?;
-    put_all(sink, &lines)?;
-    Ok(())
+    match write_turn(alloc, sink, clients, call, &out) {
+        Ok(()) => Ok(()),
+        Err(TextFault::Failed) => Err(RunFault::Failed),
+        Err(TextFault::NoMemory) => Err(RunFault::NoMemory),
+    }
 }
 
 // How many of these calls are this client's.
@@ -218,7 +208,8 @@ fn begin(alloc: Global, script: &Script) -> Result<VolumeMachine, fsa_types::NoM
 }
 
 // Writes the last line.
-fn write_last<K: Sink>(alloc: Global, turns: u32, sink: &mut K) -> Result<(), RunFault>
+#[tactic(auto, using(crate::proofs::RunLaws::last_none))]
+fn put_last<K: Sink>(alloc: Global, turns: u32, sink: &mut K) -> Result<(), RunFault>
     ensures ok { OnOk result (Appends (K.written sink.old) (K.written sink.new) (last_line turns)) }
     ensures part { OnErr result (AppendsPart (K.written sink.old) (K.written sink.new) (last_line turns)) }
     ensures failed { IsErrOf result RunFault.Failed → FailsLast (K.faults sink.old) (K.faults sink.new) (K.written sink.new).since_fault }
@@ -226,10 +217,11 @@ fn write_last<K: Sink>(alloc: Global, turns: u32, sink: &mut K) -> Result<(), Ru
     ensures no_memory { IsErrOf result RunFault.NoMemory → K.faults sink.new ≡ K.faults sink.old }
     ensures later { K.faults sink.old ≤ K.faults sink.new }
 {
-    let mut line = Vec::new(alloc);
-    push_last(&mut line, turns)?;
-    put_all(sink, &line)?;
-    Ok(())
+    match write_last(alloc, sink, turns) {
+        Ok(()) => Ok(()),
+        Err(TextFault::Failed) => Err(RunFault::Failed),
+        Err(TextFault::NoMemory) => Err(RunFault::NoMemory),
+    }
 }
 
 // Makes all calls of a script on this machine, and writes the text of the history.
@@ -250,7 +242,7 @@ fn run_on<K: Sink>(
     ensures no_memory { IsErrOf result RunFault.NoMemory → K.faults sink.new ≡ K.faults sink.old }
 {
     run_calls(alloc, machine, script, order, sink)?;
-    write_last(alloc, machine.len() as u32, sink)?;
+    put_last(alloc, machine.len() as u32, sink)?;
     Ok(())
 }
 

@@ -2,15 +2,17 @@
 
 ghost use Rattle.std.specs.Prelude.{◌≡◌, ◌<◌, ◌++◌, ◌∷◌, [], map, codes, decimal, IfOk};
 ghost use Rattle.fsa_types.specs.Status.{status_name};
+ghost use Rattle.fsa_types.specs.declared.reply.Body.TheVariants.{Packed};
 ghost use Rattle.fsa_model.specs.Setup.{client_of};
 ghost use Rattle.fsa_model.specs.Outcome.{out_of};
 ghost use Rattle.fsa_model.specs.Text.{action_text, answer_line, body_text, bytes_text, call_text, digit, end_line, ended_lines, hex_digits, interim_text, last_line, level_word, name_of, turn_text};
 ghost use Rattle.fsa_model.specs.Verbs.{request_word, verb};
 
 use crate::bodies::{push_broken, push_quota, push_stopped};
+use crate::entries::push_entries;
 use fsa_types::{
-    Action, Answer, Body, Call, ClientList, EndOf, Interim, Level, NoMemory, Out, Reply, Request,
-    What,
+    Action, Answer, Body, Call, ClientList, EndOf, Interim, Level, NoMemory, Out, PackKind, Reply,
+    Request, What,
 };
 use itoa::Buffer;
 
@@ -33,7 +35,8 @@ pub fn push_hex(line: &mut Vec<u8>, bytes: &[u8]) -> Result<(), NoMemory>
     Ok(())
 }
 
-fn push_number(line: &mut Vec<u8>, number: u32) -> Result<(), NoMemory>
+/// Puts a decimal number at the end.
+pub fn push_number(line: &mut Vec<u8>, number: u32) -> Result<(), NoMemory>
     ensures { IfOk result (λ _. line.new.items ≡ line.old.items ++ decimal number) }
 {
     let mut buffer = Buffer::new();
@@ -123,6 +126,7 @@ fn push_body(line: &mut Vec<u8>, body: &Body) -> Result<(), NoMemory>
             line.push(32)?;
             push_number(line, *count)
         }
+        Body::Packed(kind, bytes) => push_packed(line, *kind, bytes.bytes()),
         Body::Broken { level, ack } => push_broken(line, *level, *ack),
         Body::Left(level) => {
             line.push(32)?;
@@ -130,8 +134,17 @@ fn push_body(line: &mut Vec<u8>, body: &Body) -> Result<(), NoMemory>
         }
         Body::Stopped { tag, bytes, rest } => push_stopped(line, *tag, bytes.bytes(), rest.units()),
         Body::Quota { charge, limit } => push_quota(line, *charge, *limit),
-        Body::Nothing | Body::Packed(..) => Ok(()),
+        Body::Nothing => Ok(()),
     }
+}
+
+// The bytes of packed entries, and the entries.
+fn push_packed(line: &mut Vec<u8>, kind: PackKind, bytes: &[u8]) -> Result<(), NoMemory>
+    ensures { IfOk result (λ _. line.new.items ≡ line.old.items ++ body_text (Packed kind bytes.now)) }
+{
+    push_text(line, " x")?;
+    push_hex(line, bytes)?;
+    push_entries(line, kind, bytes)
 }
 
 /// Puts a text at the end.

@@ -1,7 +1,7 @@
 use Rattle.std.proofs.Common.{◌≡◌, ◌++◌, drop}
 use Rattle.std.specs.List.{flat_map}
 use Rattle.fsa_model.specs.FieldText.{unit_text}
-use Rattle.fsa_top.proofs.bodies.push_units.Given as goal
+use Rattle.text_out.proofs.bodies.push_units.Given as goal
 
 abbrev pub invariant-loop-unit : goal.invariant-loop-unit
 invariant-loop-unit l = l.line.items ++ flat_map unit_text (drop l.unit-index l.units) ≡ l.fn.line.items ++ flat_map unit_text l.units

@@ -24,8 +24,8 @@ fn push_digits(line: &mut Vec<u8>, number: u32) -> Result<(), NoMemory>
     Ok(())
 }
 
-// A hexadecimal number.
-fn push_hexadecimal(line: &mut Vec<u8>, number: u32) -> Result<(), NoMemory>
+/// Puts a hexadecimal number at the end.
+pub fn push_hexadecimal(line: &mut Vec<u8>, number: u32) -> Result<(), NoMemory>
     ensures { IfOk result (λ _. line.new.items ≡ line.old.items ++ spelled 16 number) }
 {
     if number == 0 {
@@ -60,8 +60,8 @@ fn upper_digit(digit: u16) -> u8
     if digit < 10 { 48 + digit } else { 55 + digit }
 }
 
-// A unit, as itself or as `%` and four digits.
-fn push_unit(line: &mut Vec<u8>, unit: u16) -> Result<(), NoMemory>
+/// Puts a unit at the end, as itself or as `%` and four digits.
+pub fn push_unit(line: &mut Vec<u8>, unit: u16) -> Result<(), NoMemory>
     ensures { IfOk result (λ _. line.new.items ≡ line.old.items ++ unit_text unit) }
 {
     if is_plain(unit) {

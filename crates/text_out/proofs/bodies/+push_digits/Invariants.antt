@@ -1,4 +1,4 @@
-use Rattle.fsa_top.proofs.bodies.+push_digits.Given as goal
+use Rattle.text_out.proofs.bodies.+push_digits.Given as goal
 
 abbrev pub decreases-push_digits : goal.decreases-push_digits
 decreases-push_digits l = l.number

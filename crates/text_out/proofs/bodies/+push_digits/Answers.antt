@@ -1,5 +1,5 @@
-use Rattle.fsa_top.proofs.BodyLaws.{glyphs_step}
-use Rattle.fsa_top.proofs.bodies.+push_digits.Goals as goal
+use Rattle.text_out.proofs.BodyLaws.{glyphs_step}
+use Rattle.text_out.proofs.bodies.+push_digits.Goals as goal
 
 pub returns-in_ok-push : goal.returns-in_ok-push
 returns-in_ok-push size c =

@@ -1,0 +1,11 @@
+-- What was written of a text, by how the call ended.
+use Rattle.std.specs.Prelude.{◌≡◌, ℕ, List, Result, Ok, Err}
+use Rattle.wire_io.specs.Sink.{Written, Appends, AppendsPart}
+use Rattle.text_out.specs.declared.write.TextFault.{TextFault}
+use Rattle.text_out.specs.declared.write.TextFault.TheVariants.{Failed, NoMemory}
+
+-- all of it was; where the sink failed, a part of it, and not all; where there was no memory, nothing
+abbrev pub Writes : Written → Written → List ℕ → Result (Unit {0}) TextFault → Type 0
+Writes written written_now text (Ok done) = Appends written written_now text
+Writes written written_now text (Err Failed) = AppendsPart written written_now text
+Writes written written_now text (Err NoMemory) = written_now ≡ written
