@@ -17,7 +17,7 @@ pub record Gathered {X B E C : Type 0} (call_of : E → C) (client_of : C → �
   pub count : length items ≡ n
   pub live : (view_of first).live ≡ true
   pub view : v ≡ record (view_of first) { kept = v.kept }
-  pub looked : w ≡ with_seen v log
+  pub loaded : w ≡ with_seen v log
   pub clients : (i : ℕ) (p : X) → slice_get items i ≡ Some p → (view_of p).own.client ≡ i
   pub kept : (i : ℕ) (p : X) → slice_get others i ≡ Some p → (k : ℕ) × (get_elem? v.kept k ≡ some (view_of p).own)
   pub sees : (k : ℕ) (p : Part E C) → get_elem? (parts_of v) k ≡ some p → Sees call_of client_of log p
@@ -46,15 +46,15 @@ module _ {X B E C : Type 0} (call_of : E → C) (client_of : C → ℕ) (view_of
       let t = h.kept i p (sym (ap (λ (l : List X). slice_get l (suc i)) h.whole) ∙ at) in (suc t.0, kept_part v t.0 (view_of p).own is_live t.1)
 
   pub each_sees : (i : ℕ) (p : X) → slice_get items i ≡ Some p → Sees call_of client_of w.own.seen (view_of p).own
-  each_sees i p at = let t = part_at i p at in subst (λ (l : List E). Sees call_of client_of l (view_of p).own) (sym (ap (λ (z : View B E C). z.own.seen) h.looked)) (h.sees t.0 (view_of p).own t.1)
+  each_sees i p at = let t = part_at i p at in subst (λ (l : List E). Sees call_of client_of l (view_of p).own) (sym (ap (λ (z : View B E C). z.own.seen) h.loaded)) (h.sees t.0 (view_of p).own t.1)
 
   pub all_here : (client : ℕ) → client < n → (k : ℕ) × (p : Part E C) × (get_elem? (parts_of w) k ≡ some p) × (p.client ≡ client)
   all_here client below =
       let pass = given_some items client (let c = h.count in omega arith) in
       let t = part_at client pass.0 pass.1 in
       let stays = parts_stay v.live v.own (record v.own { seen = h.log }) v.kept refl t.0 (view_of pass.0).own t.1 in
-      (t.0, stays.0, ap (λ (z : View B E C). get_elem? (parts_of z) t.0) h.looked ∙ stays.1, stays.2 ∙ h.clients client pass.0 pass.1)
+      (t.0, stays.0, ap (λ (z : View B E C). get_elem? (parts_of z) t.0) h.loaded ∙ stays.1, stays.2 ∙ h.clients client pass.0 pass.1)
 
   pub all_made : (k : ℕ) (p : Part E C) → get_elem? (parts_of w) k ≡ some p → p.mine ≡ calls_by call_of client_of p.client w.own.seen
-  all_made = subst (λ (z : View B E C). (k : ℕ) (p : Part E C) → get_elem? (parts_of z) k ≡ some p → p.mine ≡ calls_by call_of client_of p.client z.own.seen) (sym h.looked)
+  all_made = subst (λ (z : View B E C). (k : ℕ) (p : Part E C) → get_elem? (parts_of z) k ≡ some p → p.mine ≡ calls_by call_of client_of p.client z.own.seen) (sym h.loaded)
       (parts_swap v.live v.own (record v.own { seen = h.log }) v.kept (λ k p. p.mine ≡ calls_by call_of client_of p.client h.log) (λ k p there. (h.sees k p there).mine) (λ same. same))

@@ -11,7 +11,7 @@ use Rattle.history_lock.specs.declared.view.View.{View}
 use Rattle.history_lock.specs.History.{calls_by}
 use Rattle.history_lock.specs.Turns.{parts_of, newcomer, left_part, right_part, both_parts, spent_view, shadow_part, Sees, Fits, Kept}
 use Rattle.history_lock.proofs.Places.{each_after, each_pushed, each_append, at_second, set_at, at_same, calls_by-none, none_later}
-use Rattle.history_lock.proofs.Turning.{own_part, whole_after, one_seat}
+use Rattle.history_lock.proofs.Turning.{own_part, served_after, one_seat}
 
 module _ {A : Type 0} where
   only_place : (P : ℕ → A → Type 0) (a : A) → P 0 a → (k : ℕ) (b : A) → get_elem? (a ∷ []) k ≡ some b → P k b
@@ -26,19 +26,19 @@ module _ {E C : Type 0} where
   parts_joined true false o m kept more p q = cc
   parts_joined false c o m kept more p q = cc
 
-module _ {M B E C : Type 0} (base : M → B) (list : M → List E) (call_of : E → C) (client_of : C → ℕ) (b : B) (n : ℕ) where
+module _ {M B E C : Type 0} (base : M → B) (list : M → List E) (call_of : E → C) (client_of : C → ℕ) (stands : B → List E → Type 0) (b : B) (n : ℕ) where
   abbrev V : Type 0
   V = View B E C
 
   abbrev Rule : State (Option M) V → Type 0
-  Rule = Kept base list call_of client_of b n
+  Rule = Kept base list call_of client_of stands b n
 
   abbrev Right : ℕ → ℕ → List E → (ℕ → ℕ × ℕ) → ℕ → V → Type 0
   Right turn served log owner = Fits call_of client_of b n turn served log owner
 
   -- the table when it is made
-  opens : (x : M) → list x ≡ [] → base x ≡ b → 1 ≤ n → Rule (opening (0 ∷ 0 ∷ []) (Some x ∷ []) (newcomer (b ∷ []) n 0 1))
-  opens x empty same some_client = record {
+  opens : (x : M) → list x ≡ [] → base x ≡ b → 1 ≤ n → stands b [] → Rule (opening (0 ∷ 0 ∷ []) (Some x ∷ []) (newcomer (b ∷ []) n 0 1))
+  opens x empty same some_client none_yet = record {
     turn = 0;
     served = 1;
     log = [];
@@ -53,14 +53,15 @@ module _ {M B E C : Type 0} (base : M → B) (list : M → List E) (call_of : E 
           (refl, record { seen = record { later = []; whole = refl }; mine = refl }, omega arith);
       own = λ _. (refl, refl, λ _. refl);
     };
-    whole = λ c below. (newcomer (b ∷ []) n 0 1, (newcomer {E = E} {C = C} (b ∷ []) n 0 1).own, refl, refl, omega arith);
+    all_served = λ c below. (newcomer (b ∷ []) n 0 1, (newcomer {E = E} {C = C} (b ∷ []) n 0 1).own, refl, refl, omega arith);
     clients = λ k d below. absurd (omega arith);
     few = some_client;
     short = omega arith;
+    history = none_yet;
   }
 
-  pub opens_filled : (xs : List (Option M)) (x : M) → xs ≡ Some x ∷ [] → list x ≡ [] → base x ≡ b → 1 ≤ n → Rule (opening (0 ∷ 0 ∷ []) xs (newcomer (b ∷ []) n 0 1))
-  opens_filled xs x is empty same some_client = subst (λ (l : List (Option M)). Rule (opening (0 ∷ 0 ∷ []) l (newcomer (b ∷ []) n 0 1))) (sym is) (opens x empty same some_client)
+  pub opens_filled : (xs : List (Option M)) (x : M) → xs ≡ Some x ∷ [] → list x ≡ [] → base x ≡ b → 1 ≤ n → stands b [] → Rule (opening (0 ∷ 0 ∷ []) xs (newcomer (b ∷ []) n 0 1))
+  opens_filled xs x is empty same some_client none_yet = subst (λ (l : List (Option M)). Rule (opening (0 ∷ 0 ∷ []) l (newcomer (b ∷ []) n 0 1))) (sym is) (opens x empty same some_client none_yet)
 
   -- the pass of client 0 makes the pass of the next client
   pub cuts : (id : ℕ) (v : V) → v.live ≡ true → v.own.client ≡ 0 → v.served < v.clients → Splits Rule id v (left_part v) (right_part v)
@@ -92,7 +93,7 @@ module _ {M B E C : Type 0} (base : M → B) (list : M → List E) (call_of : E 
             (λ j x ne there. let old = r.each j x there in record {
               holder = old.holder;
               part = stays j x old.part;
-              own = λ l. let o = old.own l in (o.0, o.1, λ z. absurd (ne (one_seat base list call_of client_of b n r.turn r.served r.log r.owner j id x v old mine l live (z ∙ sym first))));
+              own = λ l. let o = old.own l in (o.0, o.1, λ z. absurd (ne (one_seat base list call_of client_of stands b n r.turn r.served r.log r.owner j id x v old mine l live (z ∙ sym first))));
             }))
             record {
               holder = λ z. cc (z);
@@ -100,13 +101,14 @@ module _ {M B E C : Type 0} (base : M → B) (list : M → List E) (call_of : E 
                   (owner_new v.served refl, record { seen = record { later = r.log; whole = refl }; mine = sym (ap (λ (z : ℕ). calls_by call_of client_of z r.log) served_is ∙ calls_by-none call_of client_of r.served r.log r.clients) }, omega arith);
               own = λ _. (own.0, own.1, λ z. absurd (omega arith));
             };
-        whole = λ c below. dite (ℕ_discrete c v.served)
+        all_served = λ c below. dite (ℕ_discrete c v.served)
             (λ e. let o = owner_new c e in (u, u.own, ap (λ (z : ℕ × ℕ). get_elem? (views ++ u ∷ []) z.0) o ∙ at_last views u size refl, ap (λ (z : ℕ × ℕ). get_elem? (parts_of u) z.1) o, sym e))
-            (λ ne. let old : c < r.served = omega arith in let o = owner_old c old in let t = whole_after r.served r.owner s.views id v w at (λ k p e. (p, e, refl)) r.whole c old in
+            (λ ne. let old : c < r.served = omega arith in let o = owner_old c old in let t = served_after r.served r.owner s.views id v w at (λ k p e. (p, e, refl)) r.all_served c old in
             (t.0, t.1, ap (λ (z : ℕ × ℕ). get_elem? (views ++ u ∷ []) z.0) o ∙ at_longer views (u ∷ []) (r.owner c).0 t.0 t.2, ap (λ (z : ℕ × ℕ). get_elem? (parts_of t.0) z.1) o ∙ t.3, t.4));
         clients = λ k d below. let h = r.clients k d below in omega arith;
         few = (let a = own.1 in omega arith);
         short = r.short;
+        history = r.history;
       }
 
   -- a spent copy changes nothing
@@ -121,10 +123,11 @@ module _ {M B E C : Type 0} (base : M → B) (list : M → List E) (call_of : E 
     away = r.away;
     held = λ ne. let h = r.held ne in (h.0, h.1, at_longer s.views (u ∷ []) h.0 h.1 h.2, h.3);
     each = each_pushed (Right r.turn r.served r.log r.owner) s.views u r.each record { holder = λ z. cc (z); part = λ k p place. absurd (some-ne-none p (sym place)); own = λ z. cc (z) };
-    whole = λ c below. let t = r.whole c below in (t.0, t.1, at_longer s.views (u ∷ []) (r.owner c).0 t.0 t.2, t.3, t.4);
+    all_served = λ c below. let t = r.all_served c below in (t.0, t.1, at_longer s.views (u ∷ []) (r.owner c).0 t.0 t.2, t.3, t.4);
     clients = r.clients;
     few = r.few;
     short = r.short;
+    history = r.history;
   }
 
   -- a pass takes in another
@@ -163,7 +166,7 @@ module _ {M B E C : Type 0} (base : M → B) (list : M → List E) (call_of : E 
             (λ _. record { holder = mine.holder; part = joined; own = mine.own })
             (λ i y not_id here not_other. let old = r.each i y here in record { holder = old.holder; part = λ k p spot. let o = old.part k p spot in (stays i p k not_other o.0, o.1, o.2); own = old.own })
             j x place ne);
-        whole = λ c below. let t = r.whole c below in dite (ℕ_discrete (r.owner c).0 other)
+        all_served = λ c below. let t = r.all_served c below in dite (ℕ_discrete (r.owner c).0 other)
             (λ e. let o = owner_moved c e in let is : t.0 ≡ u = at_same s.views other t.0 u (ap (get_elem? s.views) (sym e) ∙ t.2) at_u in
             let spot : get_elem? (parts_of u) (r.owner c).1 ≡ some t.1 = subst (λ (z : V). get_elem? (parts_of z) (r.owner c).1 ≡ some t.1) is t.3 in (
               w,
@@ -191,6 +194,7 @@ module _ {M B E C : Type 0} (base : M → B) (list : M → List E) (call_of : E 
         clients = r.clients;
         few = r.few;
         short = r.short;
+        history = r.history;
       }
 
   -- The table when it is closed with a pass at rest that has the parts of all clients, whose calls are all that it has seen of them

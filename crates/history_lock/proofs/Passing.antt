@@ -4,15 +4,23 @@ use Rattle.history_lock.specs.declared.view.Part.{Part}
 use Rattle.history_lock.specs.declared.view.View.{View}
 use Rattle.history_lock.specs.History.{Begins, calls_by}
 use Rattle.history_lock.specs.Turns.{holding, with_seen, with_made, at_rest, both_parts, Sees}
-use Rattle.history_lock.specs.Passes.{Looks}
-use Rattle.history_lock.proofs.Places.{calls_by-own, length-calls_by}
+use Rattle.history_lock.specs.Passes.{Refreshed, OnlyLoaded}
+use Rattle.history_lock.proofs.Places.{begins_further, calls_by-own, length-calls_by}
 
 module _ {B E C : Type 0} where
-  -- a pass that has loaded the count has looked
-  pub looks_on : (v w : View B E C) (log : List E) → w ≡ with_seen v log → Begins v.own.seen log → Looks v w
-  looks_on v w log is front = let same : w.own.seen ≡ log = ap (λ (z : View B E C). z.own.seen) is in record {
+  -- a pass that has loaded the count has loaded
+  pub refreshes : (v w : View B E C) (log : List E) → w ≡ with_seen v log → Begins v.own.seen log → Refreshed v w
+  refreshes v w log is front = let same : w.own.seen ≡ log = ap (λ (z : View B E C). z.own.seen) is in record {
     seen = subst (λ (l : List E). Begins v.own.seen l) (sym same) front;
     view = is ∙ ap (with_seen v) (sym same);
+  }
+
+  -- a pass that has loaded the count once more has still only loaded it
+  pub waits_on : (v u w : View B E C) → OnlyLoaded v u → Refreshed u w → OnlyLoaded v w
+  waits_on v u w old new = record {
+    seen = begins_further v.own.seen u.own.seen w.own.seen old.seen new.seen;
+    loads = (let more : w.loads ≡ u.loads + 1 = ap (λ (z : View B E C). z.loads) new.view in let few = old.loads in omega arith);
+    view = new.view ∙ (ap (λ (z : View B E C). with_seen z w.own.seen) old.view ∙ ap (λ (k : ℕ). record v { own = record v.own { seen = w.own.seen }; loads = k }) (sym (ap (λ (z : View B E C). z.loads) new.view)));
   }
 
   -- a pass that took others in has changed in nothing but what it keeps

@@ -114,6 +114,9 @@ module _ {E : Type 0} where
   pub begins_more : (seen log more : List E) → Begins seen log → Begins seen (log ++ more)
   begins_more seen log more b = record { later = b.later ++ more; whole = ap (λ (l : List E). l ++ more) b.whole ∙ append_assoc seen b.later more }
 
+  pub begins_further : (seen more log : List E) → Begins seen more → Begins more log → Begins seen log
+  begins_further seen more log a b = record { later = a.later ++ b.later; whole = b.whole ∙ (ap (λ (l : List E). l ++ b.later) a.whole ∙ append_assoc seen a.later b.later) }
+
   pub begins_all : (log : List E) → Begins log log
   begins_all log = record { later = []; whole = sym (append-nil log) }
 

@@ -11,7 +11,7 @@ use Rattle.atomic_table.proofs.Lists.{set_else}
 use Rattle.history_lock.specs.declared.view.Part.{Part}
 use Rattle.history_lock.specs.declared.view.View.{View}
 use Rattle.history_lock.specs.History.{calls_by}
-use Rattle.history_lock.specs.Turns.{parts_of, holding, beaten, with_seen, with_made, at_rest, Sees, Fits, Whole, Kept, taken, committed, looked, freed}
+use Rattle.history_lock.specs.Turns.{parts_of, holding, beaten, with_seen, with_made, at_rest, Sees, Fits, AllServed, Kept, taken, committed, loaded, freed}
 use Rattle.history_lock.proofs.Places.{each_after, set_at, at_same, begins_all, begins_more, calls_by-other}
 
 module _ {E C : Type 0} where
@@ -50,22 +50,22 @@ module _ {B E C : Type 0} where
   own_part v live = ap (λ (b : Bool). get_elem? (if b then v.own ∷ v.kept else []) 0) live
 
   -- where each part of v has a part of w at its place, with its client, all clients stay served
-  pub whole_after : (served : ℕ) (owner : ℕ → ℕ × ℕ) (views : List (View B E C)) (id : ℕ) (v w : View B E C) → get_elem? views id ≡ some v
+  pub served_after : (served : ℕ) (owner : ℕ → ℕ × ℕ) (views : List (View B E C)) (id : ℕ) (v w : View B E C) → get_elem? views id ≡ some v
       → ((k : ℕ) (p : Part E C) → get_elem? (parts_of v) k ≡ some p → (q : Part E C) × (get_elem? (parts_of w) k ≡ some q) × (q.client ≡ p.client))
-      → Whole served owner views → Whole served owner (set views id w)
-  whole_after served owner views id v w at same whole c below = let t = whole c below in dite (ℕ_discrete (owner c).0 id)
+      → AllServed served owner views → AllServed served owner (set views id w)
+  served_after served owner views id v w at same whole c below = let t = whole c below in dite (ℕ_discrete (owner c).0 id)
       (λ e. let is : t.0 ≡ v = at_same views id t.0 v (ap (get_elem? views) (sym e) ∙ t.2) at in
       let there : get_elem? (parts_of v) (owner c).1 ≡ some t.1 = subst (λ (z : View B E C). get_elem? (parts_of z) (owner c).1 ≡ some t.1) is t.3 in
       let q = same (owner c).1 t.1 there in
       (w, q.0, ap (get_elem? (set views id w)) e ∙ set_at views id v w at, q.1, q.2 ∙ t.4))
       (λ ne. (t.0, t.1, set_else views id (owner c).0 w ne ∙ t.2, t.3, t.4))
 
-module _ {M B E C : Type 0} (base : M → B) (list : M → List E) (call_of : E → C) (client_of : C → ℕ) (b : B) (n : ℕ) where
+module _ {M B E C : Type 0} (base : M → B) (list : M → List E) (call_of : E → C) (client_of : C → ℕ) (stands : B → List E → Type 0) (b : B) (n : ℕ) where
   abbrev V : Type 0
   V = View B E C
 
   abbrev Rule : State (Option M) V → Type 0
-  Rule = Kept base list call_of client_of b n
+  Rule = Kept base list call_of client_of stands b n
 
   abbrev Right : ℕ → ℕ → List E → (ℕ → ℕ × ℕ) → ℕ → V → Type 0
   Right turn served log owner = Fits call_of client_of b n turn served log owner
@@ -77,7 +77,7 @@ module _ {M B E C : Type 0} (base : M → B) (list : M → List E) (call_of : E 
       ap (λ (z : ℕ × ℕ). z.0) (sym (old.part 0 u.own (own_part u live_u)).0 ∙ (ap owner same ∙ (mine.part 0 v.own (own_part v live_v)).0))
 
   pub takes_turn : (slots id : ℕ) (me : Me (Option M) V) (new : ℕ) → me.1 ≡ [] → me.0.live ≡ true → me.0.holds ≡ false → new ≡ me.0.own.client + 1
-      → Allows Rule slots id me 0 (λ k. either (eqb k 0) new k) (taken base list call_of client_of (step slots 0 0 new none) me)
+      → Allows Rule slots id me 0 (λ k. either (eqb k 0) new k) (taken base list call_of client_of stands (step slots 0 0 new none) me)
   takes_turn slots id me new none_out live resting is s r _ at _ = let v : V = me.0 in let mine = r.each id v at in
       let own = mine.part 0 v.own (own_part v live) in
       let found : get_or s.words 0 0 ≡ r.turn = ap (λ (ws : List ℕ). get_or ws 0 0) r.words in
@@ -102,10 +102,11 @@ module _ {M B E C : Type 0} (base : M → B) (list : M → List E) (call_of : E 
                 part = old.part;
                 own = old.own;
               });
-          whole = whole_after r.served r.owner s.views id v w at (λ k p e. (p, e, refl)) r.whole;
+          all_served = served_after r.served r.owner s.views id v w at (λ k p e. (p, e, refl)) r.all_served;
           clients = r.clients;
           few = r.few;
           short = r.short;
+          history = r.history;
         },
         (
           λ _. (x, ap (λ (l : List (ℕ × Option M)). (0, Some x) ∷ l) none_out, refl, (mine.own live).0 ∙ ap (λ (z : B). z ∷ []) (sym h.2), subst (λ (l : List E). Sees call_of client_of l v.own) (sym h.3) own.1),
@@ -134,10 +135,11 @@ module _ {M B E C : Type 0} (base : M → B) (list : M → List E) (call_of : E 
           each = each_after (Right r.turn r.served r.log r.owner) s.views id w
               (record { holder = mine.holder; part = mine.part; own = mine.own })
               (λ j u ne there. r.each j u there);
-          whole = whole_after r.served r.owner s.views id v w at (λ k p e. (p, e, refl)) r.whole;
+          all_served = served_after r.served r.owner s.views id v w at (λ k p e. (p, e, refl)) r.all_served;
           clients = r.clients;
           few = r.few;
           short = r.short;
+          history = r.history;
         },
         (
           λ e. absurd (away (sym found ∙ e)),
@@ -154,7 +156,7 @@ module _ {M B E C : Type 0} (base : M → B) (list : M → List E) (call_of : E 
       ))
 
   pub frees : (slots id : ℕ) (me : Me (Option M) V) (x : M) → me.1 ≡ (0, Some x) ∷ [] → me.0.holds ≡ true → list x ≡ me.0.hand → me.0.base ≡ base x ∷ []
-      → Allows Rule slots id me 0 (λ _. 0) (λ _. freed base list call_of client_of (step slots 0 0 0 none) me 0)
+      → Allows Rule slots id me 0 (λ _. 0) (λ _. freed base list call_of client_of stands (step slots 0 0 0 none) me 0)
   frees slots id me x has hold same_list same_base s r _ at _ = let v : V = me.0 in let mine = r.each id v at in let h = mine.holder hold in let w : V = at_rest v in
       let out : r.turn ≢ 0 = (let a = h.0 in omega arith) in (
         w,
@@ -177,16 +179,17 @@ module _ {M B E C : Type 0} (base : M → B) (list : M → List E) (call_of : E 
                 part = old.part;
                 own = old.own;
               });
-          whole = whole_after r.served r.owner s.views id v w at (λ k p e. (p, e, refl)) r.whole;
+          all_served = served_after r.served r.owner s.views id v w at (λ k p e. (p, e, refl)) r.all_served;
           clients = r.clients;
           few = r.few;
           short = r.short;
+          history = r.history;
         },
         (ap (λ (cs : List (ℕ × Option M)). rest cs) has, refl, refl),
       )
 
-  pub looks : (slots id : ℕ) (me : Me (Option M) V) → Allows Rule slots id me 1 (λ k. k) (looked base list call_of client_of (step slots 1 0 0 none) me)
-  looks slots id me s r _ at _ = let v : V = me.0 in let mine = r.each id v at in let w : V = with_seen v r.log in
+  pub loads_count : (slots id : ℕ) (me : Me (Option M) V) → Allows Rule slots id me 1 (λ k. k) (loaded base list call_of client_of stands (step slots 1 0 0 none) me)
+  loads_count slots id me s r _ at _ = let v : V = me.0 in let mine = r.each id v at in let w : V = with_seen v r.log in
       let shown : (k : ℕ) (p : Part E C) → get_elem? (parts_of w) k ≡ some p → (r.owner p.client ≡ (id, k)) × Sees call_of client_of r.log p × (p.client < r.served) =
       parts_swap v.live v.own w.own v.kept (λ k p. (r.owner p.client ≡ (id, k)) × Sees call_of client_of r.log p × (p.client < r.served)) mine.part
       (λ h. (h.0, record { seen = begins_all r.log; mine = h.1.mine }, h.2)) in (
@@ -207,17 +210,18 @@ module _ {M B E C : Type 0} (base : M → B) (list : M → List E) (call_of : E 
           each = each_after (Right r.turn r.served r.log r.owner) s.views id w
               (record { holder = mine.holder; part = shown; own = mine.own })
               (λ j u ne there. r.each j u there);
-          whole = whole_after r.served r.owner s.views id v w at (parts_stay v.live v.own w.own v.kept refl) r.whole;
+          all_served = served_after r.served r.owner s.views id v w at (parts_stay v.live v.own w.own v.kept refl) r.all_served;
           clients = r.clients;
           few = r.few;
           short = r.short;
+          history = r.history;
         },
-        (refl, refl, (r.log, refl, sym (ap (λ (ws : List ℕ). get_or ws 1 0) r.words), (λ hold. (mine.holder hold).1), λ k p e. (mine.part k p e).1)),
+        (refl, refl, (r.log, refl, sym (ap (λ (ws : List ℕ). get_or ws 1 0) r.words), (λ hold. (mine.holder hold).1), λ k p e. (mine.part k p e).1, λ live c is. subst (λ (z : B). stands z r.log) (let a = (mine.own live).0 in cc (a, is)) r.history)),
       )
 
-  pub commits : (slots id : ℕ) (me : Me (Option M) V) (x : M) (e : E) → me.1 ≡ (0, Some x) ∷ [] → me.0.holds ≡ true → list x ≡ me.0.hand ++ e ∷ [] → client_of (call_of e) ≡ me.0.own.client → length (list x) < 2 ^ 31
-      → Allows Rule slots id me 1 (λ k. (k + 1) % 2 ^ 64) (committed base list call_of client_of (step slots 1 1 0 none) me)
-  commits slots id me x e has hold longer by few s r _ at _ = let v : V = me.0 in let mine = r.each id v at in let h = mine.holder hold in let log : List E = list x in
+  pub commits : (slots id : ℕ) (me : Me (Option M) V) (x : M) (e : E) → me.1 ≡ (0, Some x) ∷ [] → me.0.holds ≡ true → list x ≡ me.0.hand ++ e ∷ [] → client_of (call_of e) ≡ me.0.own.client → length (list x) < 2 ^ 31 → me.0.base ≡ base x ∷ [] → stands (base x) (list x)
+      → Allows Rule slots id me 1 (λ k. (k + 1) % 2 ^ 64) (committed base list call_of client_of stands (step slots 1 1 0 none) me)
+  commits slots id me x e has hold longer by few same_base is_history s r _ at _ = let v : V = me.0 in let mine = r.each id v at in let h = mine.holder hold in let log : List E = list x in
       let calls : List C = calls_by call_of client_of v.own.client log in let w : V = with_made v log calls in
       let first = mine.part 0 v.own (own_part v h.2) in
       let log_is : log ≡ r.log ++ e ∷ [] = longer ∙ ap (λ (l : List E). l ++ e ∷ []) h.1 in
@@ -250,11 +254,12 @@ module _ {M B E C : Type 0} (base : M → B) (list : M → List E) (call_of : E 
                 part = λ k p place. let o = old.part k p place in (o.0, more p (λ same. ne (ap (λ (z : ℕ × ℕ). z.0) (sym o.0 ∙ (ap r.owner same ∙ first.0)))) o.1, o.2);
                 own = old.own;
               });
-          whole = whole_after r.served r.owner s.views id v w at (parts_stay v.live v.own w.own v.kept refl) r.whole;
+          all_served = served_after r.served r.owner s.views id v w at (parts_stay v.live v.own w.own v.kept refl) r.all_served;
           clients = subst (All (λ e. client_of (call_of e) < r.served)) (sym log_is)
               (All-append (λ e. client_of (call_of e) < r.served) r.log (e ∷ []) r.clients (λ k d l. let z : k ≡ 0 = omega arith in subst (λ (i : ℕ). client_of (call_of (get_or (e ∷ []) i d)) < r.served) (sym z) (let f = first.2 in omega arith)));
           few = r.few;
           short = few;
+          history = subst (λ (z : B). stands z log) (let a = (mine.own h.2).0 in cc (a, same_base)) is_history;
         },
         (refl, λ y is. ap (λ (z : M). with_made v (list z) (calls_by call_of client_of v.own.client (list z))) (ap (machine_in x) (sym has ∙ is)), refl, refl),
       )

@@ -1,5 +1,5 @@
 -- What clauses read of a lock and of a pass.
-use Rattle.std.specs.Prelude.{◌≡◌, ℕ, ◌<◌, true, [], ◌∷◌}
+use Rattle.std.specs.Prelude.{◌≡◌, ℕ, ◌<◌, true, List, [], ◌∷◌}
 use Rattle.history_lock.specs.declared.lock.TurnLock.{TurnLock}
 use Rattle.history_lock.specs.declared.machine.Machine.{Ghosts}
 use Rattle.history_lock.specs.declared.pass.Pass.{Pass}
@@ -18,11 +18,12 @@ module _ {M B E C O W A S : Type 0} {machine : Ghosts M B E C O W A S} where
   abbrev pub known : Pass M B E C O W A S machine → View B E C
   known pass = pass.seat.me.0
 
-  -- it is a pass of this lock, for one of its clients
-  abbrev pub IsPassOf : (M → B) → TurnLock M B E C O W A S → Pass M B E C O W A S machine → Type 0
-  IsPassOf base lock pass =
+  -- it is a pass of this lock, for one of its clients, and has seen a history
+  abbrev pub IsPassOf : (M → B) → (B → List E → Type 0) → TurnLock M B E C O W A S → Pass M B E C O W A S machine → Type 0
+  IsPassOf base stands lock pass =
       (pass.seat.table_id ≡ lock.table.shared.table_id)
       × ((known pass).live ≡ true)
       × ((known pass).base ≡ base_of base lock ∷ [])
       × ((known pass).clients ≡ clients_of lock)
       × ((known pass).own.client < clients_of lock)
+      × stands (base_of base lock) (known pass).own.seen

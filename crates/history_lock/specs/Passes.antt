@@ -19,9 +19,15 @@ pub record Makes {B E C : Type 0} (call_of : E → C) (call : C) (v w : View B E
   pub view : w ≡ record v { own = record v.own { seen = w.own.seen; mine = v.own.mine ++ call ∷ [] } }
 
 -- The count was loaded once, and what is seen begins with what had been seen; nothing else changed
-pub record Looks {B E C : Type 0} (v w : View B E C) : Type 0 where
+pub record Refreshed {B E C : Type 0} (v w : View B E C) : Type 0 where
   pub seen : Begins v.own.seen w.own.seen
   pub view : w ≡ with_seen v w.own.seen
+
+-- The count was loaded any number of times, and what is seen begins with what had been seen; nothing else changed
+pub record OnlyLoaded {B E C : Type 0} (v w : View B E C) : Type 0 where
+  pub seen : Begins v.own.seen w.own.seen
+  pub loads : v.loads ≤ w.loads
+  pub view : w ≡ record v { own = record v.own { seen = w.own.seen }; loads = w.loads }
 
 -- The turn was found held any number of times, which changed nothing else, and then the last try made this of the pass
 pub record Waited {B E C : Type 0} (v w : View B E C) (P : View B E C → View B E C → Type 0) : Type 0 where

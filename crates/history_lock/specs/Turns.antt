@@ -78,12 +78,12 @@ pub record Fits {B E C : Type 0} (call_of : E → C) (client_of : C → ℕ) (b 
   pub own : v.live ≡ true → (v.base ≡ b ∷ []) × (v.clients ≡ n) × (v.own.client ≡ 0 → v.served ≡ served)
 
 -- each client below this number has a pass, or is kept with one
-abbrev pub Whole : {B E C : Type 0} → ℕ → (ℕ → ℕ × ℕ) → List (View B E C) → Type 0
-Whole {B} {E} {C} served owner views = (c : ℕ) → c < served
+abbrev pub AllServed : {B E C : Type 0} → ℕ → (ℕ → ℕ × ℕ) → List (View B E C) → Type 0
+AllServed {B} {E} {C} served owner views = (c : ℕ) → c < served
     → (v : View B E C) × (p : Part E C) × (get_elem? views (owner c).0 ≡ some v) × (get_elem? (parts_of v) (owner c).1 ≡ some p) × (p.client ≡ c)
 
 -- The rule of the table, for a machine with the base b and for n clients
-pub record Kept {M B E C : Type 0} (base : M → B) (list : M → List E) (call_of : E → C) (client_of : C → ℕ) (b : B) (n : ℕ) (s : State (Option M) (View B E C)) : Type 0 where
+pub record Kept {M B E C : Type 0} (base : M → B) (list : M → List E) (call_of : E → C) (client_of : C → ℕ) (stands : B → List E → Type 0) (b : B) (n : ℕ) (s : State (Option M) (View B E C)) : Type 0 where
   pub turn : ℕ
   pub served : ℕ
   pub log : List E
@@ -98,13 +98,15 @@ pub record Kept {M B E C : Type 0} (base : M → B) (list : M → List E) (call_
   -- what each pass knows is true
   pub each : (j : ℕ) (v : View B E C) → get_elem? s.views j ≡ some v → Fits call_of client_of b n turn served log owner j v
   -- the clients that are served are just those below this number, and the history has entries of no others
-  pub whole : Whole served owner s.views
+  pub all_served : AllServed served owner s.views
   pub clients : All (λ e. client_of (call_of e) < served) log
   pub few : served ≤ n
   pub short : length log < 2 ^ 31
+  -- the entries are a history of this machine
+  pub history : stands b log
 
 -- What the steps tell: st is the step, found what its word was, m what the pass knows and holds before, and m' after. The two counts of a pass rise at these steps alone, so each step names its word: loads counts loads of the count word, and lost the exchanges that found the turn word held
-module _ {M B E C : Type 0} (base : M → B) (list : M → List E) (call_of : E → C) (client_of : C → ℕ) where
+module _ {M B E C : Type 0} (base : M → B) (list : M → List E) (call_of : E → C) (client_of : C → ℕ) (stands : B → List E → Type 0) where
   abbrev Seat : Type 0
   Seat = Me (Option M) (View B E C)
 
@@ -119,13 +121,14 @@ module _ {M B E C : Type 0} (base : M → B) (list : M → List E) (call_of : E 
   abbrev pub committed : Step (Option M) → Seat → ℕ → Seat → Type 0
   committed st m found m' = (m'.1 ≡ m.1) × ((x : M) → m.1 ≡ (0, Some x) ∷ [] → m'.0 ≡ with_made m.0 (list x) (calls_by call_of client_of m.0.own.client (list x))) × (st.word ≡ 1) × (st.first ≡ 1)
 
-  -- The load of the count: the history has as many entries, and what this pass and those that it keeps know is true of it
-  abbrev pub looked : Step (Option M) → Seat → ℕ → Seat → Type 0
-  looked st m found m' =
+  -- The load of the count: the history has as many entries, and what this pass and those that it keeps know is true of it, and it is one of this machine
+  abbrev pub loaded : Step (Option M) → Seat → ℕ → Seat → Type 0
+  loaded st m found m' =
       (m'.1 ≡ m.1)
       × (st.word ≡ 1)
       × ((log : List E) × (m'.0 ≡ with_seen m.0 log) × (length log ≡ found) × (m.0.holds ≡ true → m.0.hand ≡ log)
-      × ((k : ℕ) (p : Part E C) → get_elem? (parts_of m.0) k ≡ some p → Sees call_of client_of log p))
+      × ((k : ℕ) (p : Part E C) → get_elem? (parts_of m.0) k ≡ some p → Sees call_of client_of log p)
+      × (m.0.live ≡ true → (b : B) → m.0.base ≡ b ∷ [] → stands b log))
 
   -- The store to the turn word that frees the turn
   abbrev pub freed : Step (Option M) → Seat → ℕ → Seat → Type 0

@@ -8,7 +8,7 @@ ghost use Rattle.history_lock.specs.Turns.{parts_of, Sees};
 
 use crate::lock::TurnLock;
 use crate::machine::Machine;
-use crate::moves::look;
+use crate::moves::load;
 use crate::pass::Pass;
 use crate::plays::{Glue, Shadow};
 use crate::rule::{Board, Place, Top};
@@ -24,7 +24,7 @@ impl<M: Machine> TurnLock<M> {
     /// seen the whole history. It is spent: it's a pass of no lock any more.
     pub fn close(self, passes: Vec<Pass<M>>) -> (M, Pass<M>)
         requires one_each { vec_len passes ≡ clients_of self }
-        requires passes { (i : ℕ) (p : _) → slice_get passes.items i ≡ Some p → IsPassOf M.base self p × ((known p).own.client ≡ i) }
+        requires passes { (i : ℕ) (p : _) → slice_get passes.items i ≡ Some p → IsPassOf M.base M.stands self p × ((known p).own.client ≡ i) }
 
         ensures base { M.base result.0 ≡ base_of M.base self }
         ensures seen { ((known result.1).own.client ≡ 0) × ((known result.1).own.seen ≡ M.list result.0) }
@@ -113,7 +113,7 @@ fn join_all<M: Machine>(top: &Top<M>, passes: Vec<Pass<M>>) -> Joined<M>
         mut seat,
     } = first_of(&mut passes);
     gather(top, &mut seat, passes);
-    look(top, &mut seat);
+    load(top, &mut seat);
     Joined { client, made, seat }
 }
 

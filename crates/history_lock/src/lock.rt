@@ -3,7 +3,7 @@ ghost use Rattle.std.specs.Prelude.{◌≡◌, ◌<◌, ◌≤◌, length, IfOk,
 
 use crate::answers::{Looked, Turned};
 use crate::machine::Machine;
-use crate::moves::{TURN, commit, look, release, take};
+use crate::moves::{COUNT, TURN, commit, load, release, take};
 use crate::pass::Pass;
 use crate::rule::{About, Turns};
 use crate::view::View;
@@ -32,13 +32,13 @@ impl<M: Machine> TurnLock<M> {
     ghost use Rattle.history_lock.specs.Answers.{IfDid, IfBusy, IfRefused, IfSaw, OnUnseen, OnNoMemory};
     ghost use Rattle.history_lock.specs.Turns.{beaten};
     ghost use Rattle.history_lock.specs.Lock.{base_of, clients_of, known, IsPassOf};
-    ghost use Rattle.history_lock.specs.Passes.{Makes, Looks, Waited};
+    ghost use Rattle.history_lock.specs.Passes.{Makes, Refreshed, OnlyLoaded, Waited};
 
     /// Makes one turn with the call, unless another pass holds the turn. It never waits.
     ///
     /// The call has to be one of the pass's client, which the machine allows after the calls that the
-    /// pass has made. `Busy` comes exactly where the exchange found the turn held by another pass: the
-    /// pass counts it, nothing else changes and no memory is taken. `Refused` is the machine's own
+    /// pass has made. `Busy` comes exactly where the pass's count of lost exchanges
+    /// rose: nothing else changes, and no memory is taken. `Refused` is the machine's own
     /// refusal, on the history that the pass has then seen; nothing was added to it.
     pub fn try_turn(
         &self,
@@ -46,14 +46,14 @@ impl<M: Machine> TurnLock<M> {
         pass: &mut Pass<M>,
         call: M::Call,
     ) -> Turned<M::Out, M::Call, M::Why>
-        requires pass { IsPassOf M.base self.now pass.old }
+        requires pass { IsPassOf M.base M.stands self.now pass.old }
         requires client { M.client_of call ≡ (known pass.old).own.client }
         requires may { M.may_turn (base_of M.base self.now) (known pass.old).own.mine call }
 
-        ensures pass { IsPassOf M.base self.now pass.new }
-        ensures did { IfDid result (λ out. Makes M.call_of call (known pass.old) (known pass.new) × (out ≡ M.out_of (base_of M.base self.now) (known pass.new).own.seen)) }
+        ensures pass { IsPassOf M.base M.stands self.now pass.new }
+        ensures did { IfDid result (λ out. Makes M.call_of call (known pass.old) (known pass.new) × M.out_is (base_of M.base self.now) (known pass.new).own.seen out) }
         ensures busy { IfBusy result (λ back. (back ≡ call) × (known pass.new ≡ beaten (known pass.old)) × (1 < clients_of self.now)) }
-        ensures refused { IfRefused result (λ back why. (back ≡ call) × Looks (known pass.old) (known pass.new) × M.why_of (base_of M.base self.now) (known pass.new).own.seen why) }
+        ensures refused { IfRefused result (λ back why. (back ≡ call) × Refreshed (known pass.old) (known pass.new) × M.why_of (base_of M.base self.now) (known pass.new).own.seen why) }
     {
         let top = &self.table.shared;
         let Some(mut machine) = take(top, &mut pass.seat, pass.client) else {
@@ -66,7 +66,7 @@ impl<M: Machine> TurnLock<M> {
                 Turned::Did(out)
             }
             Err((back, why)) => {
-                look(top, &mut pass.seat);
+                load(top, &mut pass.seat);
                 release(top, &mut pass.seat, machine);
                 Turned::Refused(back, why)
             }
@@ -82,15 +82,14 @@ impl<M: Machine> TurnLock<M> {
         pass: &mut Pass<M>,
         call: M::Call,
     ) -> Result<M::Out, (M::Call, M::Why)>
-        requires pass { IsPassOf M.base self.now pass.old }
+        requires pass { IsPassOf M.base M.stands self.now pass.old }
         requires client { M.client_of call ≡ (known pass.old).own.client }
         requires may { M.may_turn (base_of M.base self.now) (known pass.old).own.mine call }
 
-        ensures pass { IsPassOf M.base self.now pass.new }
-        ensures did { IfOk result (λ out. Waited (known pass.old) (known pass.new) (λ v w. Makes M.call_of call v w × (out ≡ M.out_of (base_of M.base self.now) w.own.seen))) }
-        ensures refused { IfErr result (λ back. (back.0 ≡ call) × Waited (known pass.old) (known pass.new) (λ v w. Looks v w × M.why_of (base_of M.base self.now) w.own.seen back.1)) }
+        ensures pass { IsPassOf M.base M.stands self.now pass.new }
+        ensures did { IfOk result (λ out. Waited (known pass.old) (known pass.new) (λ v w. Makes M.call_of call v w × M.out_is (base_of M.base self.now) w.own.seen out)) }
+        ensures refused { IfErr result (λ back. (back.0 ≡ call) × Waited (known pass.old) (known pass.new) (λ v w. Refreshed v w × M.why_of (base_of M.base self.now) w.own.seen back.1)) }
     {
-        let top = &self.table.shared;
         let mut call = call;
         for _ in rt.forever() {
             match self.try_turn(alloc, pass, call) {
@@ -98,12 +97,19 @@ impl<M: Machine> TurnLock<M> {
                 Turned::Refused(back, why) => return Err((back, why)),
                 Turned::Busy(back) => call = back,
             }
-            let holder = top.peek(TURN);
-            if holder != 0 {
-                top.park(rt, TURN, (holder % (1 << 32)) as u32);
-            }
+            self.wait_for_turn(rt);
         }
         unreachable!()
+    }
+
+    /// Sleeps while the turn is held, for a caller that was answered `Busy`. It may return before the turn
+    /// is free, and the turn may be taken again before the caller tries.
+    pub fn wait_for_turn(&self, rt: &impl Wait) {
+        let top = &self.table.shared;
+        let holder = top.peek(TURN);
+        if holder != 0 {
+            top.park(rt, TURN, (holder % (1 << 32)) as u32);
+        }
     }
 
     /// Asks the machine what the history shows, unless another pass holds the turn. It never waits, and
@@ -113,19 +119,19 @@ impl<M: Machine> TurnLock<M> {
     /// history as it was when the pass loaded its length, which the pass has then seen. `NoMemory` comes
     /// only where the look is a costly one, and `Busy` as in `try_turn`.
     pub fn try_look(&self, alloc: Global, pass: &mut Pass<M>, ask: &M::Ask) -> Looked<M::Seen>
-        requires pass { IsPassOf M.base self.now pass.old }
+        requires pass { IsPassOf M.base M.stands self.now pass.old }
         requires may { M.may_look (known pass.old).own.seen ask.now }
 
-        ensures pass { IsPassOf M.base self.now pass.new }
-        ensures saw { IfSaw result (λ shown. Looks (known pass.old) (known pass.new) × (shown ≡ M.seen_of (base_of M.base self.now) (known pass.new).own.seen ask.now)) }
+        ensures pass { IsPassOf M.base M.stands self.now pass.new }
+        ensures saw { IfSaw result (λ shown. Refreshed (known pass.old) (known pass.new) × M.seen_is (base_of M.base self.now) (known pass.new).own.seen ask.now shown) }
         ensures busy { OnUnseen result ((known pass.new ≡ beaten (known pass.old)) × (1 < clients_of self.now)) }
-        ensures no_memory { OnNoMemory result (Looks (known pass.old) (known pass.new) × M.costly (base_of M.base self.now) (known pass.new).own.seen ask.now) }
+        ensures no_memory { OnNoMemory result (Refreshed (known pass.old) (known pass.new) × M.costly (base_of M.base self.now) (known pass.new).own.seen ask.now) }
     {
         let top = &self.table.shared;
         let Some(machine) = take(top, &mut pass.seat, pass.client) else {
             return Looked::Busy;
         };
-        look(top, &mut pass.seat);
+        load(top, &mut pass.seat);
         let answer = machine.look(alloc, ask);
         release(top, &mut pass.seat, machine);
         match answer {
@@ -137,12 +143,34 @@ impl<M: Machine> TurnLock<M> {
     /// The number of entries of the history, which the pass has then seen. It never waits, not even
     /// while another pass holds the turn, and takes no memory.
     pub fn front(&self, pass: &mut Pass<M>) -> u64
-        requires pass { IsPassOf M.base self.now pass.old }
+        requires pass { IsPassOf M.base M.stands self.now pass.old }
 
-        ensures pass { IsPassOf M.base self.now pass.new }
-        ensures looks { Looks (known pass.old) (known pass.new) }
+        ensures pass { IsPassOf M.base M.stands self.now pass.new }
+        ensures refreshed { Refreshed (known pass.old) (known pass.new) }
         ensures length { result ≡ length (known pass.new).own.seen }
     {
-        look(&self.table.shared, &mut pass.seat)
+        load(&self.table.shared, &mut pass.seat)
+    }
+
+    /// Waits until the history has more entries than this, and answers how many it has; the pass has then
+    /// seen them. It sleeps on the count of entries, which each turn that adds one raises and wakes, and
+    /// takes neither the turn nor memory. It may wait forever.
+    pub fn wait_for_more(&self, rt: &impl Wait, pass: &mut Pass<M>, entries: u64) -> u64
+        requires pass { IsPassOf M.base M.stands self.now pass.old }
+
+        ensures pass { IsPassOf M.base M.stands self.now pass.new }
+        ensures loaded { OnlyLoaded (known pass.old) (known pass.new) × ((known pass.old).loads < (known pass.new).loads) }
+        ensures more { (entries < result) × (result ≡ length (known pass.new).own.seen) }
+    {
+        for _ in rt.forever() {
+            let count = self.front(pass);
+            if entries < count {
+                return count;
+            }
+            self.table
+                .shared
+                .park(rt, COUNT, (count % (1 << 32)) as u32);
+        }
+        unreachable!()
     }
 }

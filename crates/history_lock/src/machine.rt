@@ -30,6 +30,9 @@ pub trait Machine {
     // The history for which the machine stands.
     ghost list: { Self → List Self.Entry };
 
+    // These entries are a history of a machine with this base.
+    ghost stands: { Self.Base → List Self.Entry → Type 0 };
+
     // The call of an entry, and the client of a call.
     ghost call_of: { Self.Entry → Self.Call };
 
@@ -41,14 +44,14 @@ pub trait Machine {
     // This may be asked of this history.
     ghost may_look: { List Self.Entry → Self.Ask → Type 0 };
 
-    // The answer of the turn that appended the last entry.
-    ghost out_of: { Self.Base → List Self.Entry → Self.Out };
+    // The turn that appended the last entry may give this answer.
+    ghost out_is: { Self.Base → List Self.Entry → Self.Out → Type 0 };
 
     // A turn on this history may be refused for this reason.
     ghost why_of: { Self.Base → List Self.Entry → Self.Why → Type 0 };
 
-    // What a look at this history shows, and whether it takes memory.
-    ghost seen_of: { Self.Base → List Self.Entry → Self.Ask → Self.Seen };
+    // A look at this history may show this, and it may take memory.
+    ghost seen_is: { Self.Base → List Self.Entry → Self.Ask → Self.Seen → Type 0 };
 
     ghost costly: { Self.Base → List Self.Entry → Self.Ask → Type 0 };
 
@@ -60,13 +63,13 @@ pub trait Machine {
     ) -> Result<Self::Out, (Self::Call, Self::Why)>
         requires may { may_turn (base self.old) (calls_by call_of client_of (client_of call) (list self.old)) call }
         ensures base { base self.new ≡ base self.old }
-        ensures done { IfOk result (λ out. (entry : Self.Entry) × (list self.new ≡ list self.old ++ entry ∷ []) × (call_of entry ≡ call) × (out ≡ out_of (base self.old) (list self.new)) × (length (list self.new) < 2 ^ 31)) }
+        ensures done { IfOk result (λ out. (entry : Self.Entry) × (list self.new ≡ list self.old ++ entry ∷ []) × (call_of entry ≡ call) × out_is (base self.old) (list self.new) out × stands (base self.old) (list self.new) × (length (list self.new) < 2 ^ 31)) }
         ensures refused { IfErr result (λ back. (list self.new ≡ list self.old) × (back.0 ≡ call) × why_of (base self.old) (list self.old) back.1) };
 
     /// Answers what the history shows. There may be no memory only where the look is a costly one.
     fn look(&self, alloc: Global, ask: &Self::Ask) -> Result<Self::Seen, NoMemory>
         requires may { may_look (list self.now) ask.now }
-        ensures shown { IfOk result (λ seen. seen ≡ seen_of (base self.now) (list self.now) ask.now) }
+        ensures shown { IfOk result (λ seen. seen_is (base self.now) (list self.now) ask.now seen) }
         ensures no_memory { OnErr result (costly (base self.now) (list self.now) ask.now) };
 
     // What may be asked of a history may be asked of every longer one.

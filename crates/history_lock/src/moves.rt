@@ -7,13 +7,13 @@ ghost use Rattle.history_lock.specs.History.{calls_by};
 ghost use Rattle.history_lock.specs.Turns.{parts_of, holding, beaten, with_seen, with_made, at_rest, Sees};
 
 use crate::machine::Machine;
-use crate::plays::{Commit, Free, Look, Take};
+use crate::plays::{Commit, Free, Load, Take};
 use crate::rule::{Place, Top};
 
 // The turn word, the count word and the slot of the machine.
 pub(crate) const TURN: usize = 0;
 
-const COUNT: usize = 1;
+pub(crate) const COUNT: usize = 1;
 
 const SLOT: usize = 0;
 
@@ -35,13 +35,14 @@ pub(crate) fn take<M: Machine>(top: &Top<M>, seat: &mut Place<M>, client: u32) -
 }
 
 // Loads the count of entries.
-pub(crate) fn look<M: Machine>(top: &Top<M>, seat: &mut Place<M>) -> u64
+pub(crate) fn load<M: Machine>(top: &Top<M>, seat: &mut Place<M>) -> u64
     requires table { (seat.old.table_id ≡ top.now.table_id) × (top.now.table_id.words ≡ 2) }
     ensures same { (seat.new.table_id ≡ seat.old.table_id) × (seat.new.id ≡ seat.old.id) }
-    ensures looked { (log : List M.Entry) × (seat.new.me ≡ (with_seen seat.old.me.0 log, seat.old.me.1)) × (length log ≡ result) × (seat.old.me.0.holds ≡ true → seat.old.me.0.hand ≡ log)
-        × ((k : ℕ) (p : Part M.Entry M.Call) → get_elem? (parts_of seat.old.me.0) k ≡ some p → Sees M.call_of M.client_of log p) }
+    ensures loaded { (log : List M.Entry) × (seat.new.me ≡ (with_seen seat.old.me.0 log, seat.old.me.1)) × (length log ≡ result) × (seat.old.me.0.holds ≡ true → seat.old.me.0.hand ≡ log)
+        × ((k : ℕ) (p : Part M.Entry M.Call) → get_elem? (parts_of seat.old.me.0) k ≡ some p → Sees M.call_of M.client_of log p)
+        × (seat.old.me.0.live ≡ true → (b : M.Base) → seat.old.me.0.base ≡ b ∷ [] → M.stands b log) }
 {
-    top.load::<Look>(seat, COUNT)
+    top.load::<Load>(seat, COUNT)
 }
 
 // Puts the machine back into its slot.
@@ -75,6 +76,7 @@ pub(crate) fn commit<M: Machine>(top: &Top<M>, seat: &mut Place<M>, machine: M)
     requires holds { (seat.old.me.1 ≡ (0, None) ∷ []) × (seat.old.me.0.holds ≡ true) }
     requires base { seat.old.me.0.base ≡ M.base machine ∷ [] }
     requires made { (entry : M.Entry) × (M.list machine ≡ seat.old.me.0.hand ++ entry ∷ []) × (M.client_of (M.call_of entry) ≡ seat.old.me.0.own.client) × (length (M.list machine) < 2 ^ 31) }
+    requires stands { M.stands (M.base machine) (M.list machine) }
     ensures same { (seat.new.table_id ≡ seat.old.table_id) × (seat.new.id ≡ seat.old.id) }
     ensures made { seat.new.me ≡ (at_rest (with_made seat.old.me.0 (M.list machine) (calls_by M.call_of M.client_of seat.old.me.0.own.client (M.list machine))), []) }
 {
@@ -82,4 +84,5 @@ pub(crate) fn commit<M: Machine>(top: &Top<M>, seat: &mut Place<M>, machine: M)
     top.fetch_add::<Commit>(seat, COUNT, 1);
     top.store::<Free>(seat, TURN, 0);
     top.wake_one(TURN);
+    top.wake_all(COUNT);
 }

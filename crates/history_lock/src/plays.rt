@@ -1,5 +1,5 @@
 //! What each step on the table tells, and how a view is cut in two and two are made one.
-ghost use Rattle.history_lock.specs.Turns.{taken, committed, looked, freed, left_part, right_part, both_parts, spent_view, shadow_part};
+ghost use Rattle.history_lock.specs.Turns.{taken, committed, loaded, freed, left_part, right_part, both_parts, spent_view, shadow_part};
 
 use crate::machine::Machine;
 use crate::view::View;
@@ -9,28 +9,28 @@ use atomic_table::{Join, Play, Split};
 pub(crate) struct Take;
 
 impl<M: Machine> Play<Option<M>, View<M::Base, M::Entry, M::Call>> for Take {
-    ghost then = { taken M.base M.list M.call_of M.client_of };
+    ghost then = { taken M.base M.list M.call_of M.client_of M.stands };
 }
 
 /// Adds an entry to the history.
 pub(crate) struct Commit;
 
 impl<M: Machine> Play<Option<M>, View<M::Base, M::Entry, M::Call>> for Commit {
-    ghost then = { committed M.base M.list M.call_of M.client_of };
+    ghost then = { committed M.base M.list M.call_of M.client_of M.stands };
 }
 
-/// Sees the history.
-pub(crate) struct Look;
+/// Loads the count of entries.
+pub(crate) struct Load;
 
-impl<M: Machine> Play<Option<M>, View<M::Base, M::Entry, M::Call>> for Look {
-    ghost then = { looked M.base M.list M.call_of M.client_of };
+impl<M: Machine> Play<Option<M>, View<M::Base, M::Entry, M::Call>> for Load {
+    ghost then = { loaded M.base M.list M.call_of M.client_of M.stands };
 }
 
 /// Frees the turn.
 pub(crate) struct Free;
 
 impl<M: Machine> Play<Option<M>, View<M::Base, M::Entry, M::Call>> for Free {
-    ghost then = { freed M.base M.list M.call_of M.client_of };
+    ghost then = { freed M.base M.list M.call_of M.client_of M.stands };
 }
 
 /// Makes the pass of the next client.

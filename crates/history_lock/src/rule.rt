@@ -25,7 +25,7 @@ impl<M: Machine> TableRule<Option<M>, View<M::Base, M::Entry, M::Call>, About<M>
     ghost use Rattle.std.specs.Prelude.{◌∷◌, []};
     ghost use Rattle.history_lock.specs.Turns.{Kept, newcomer};
 
-    ghost holds = { λ key. Kept M.base M.list M.call_of M.client_of (M.base key.first.value) key.clients };
+    ghost holds = { λ key. Kept M.base M.list M.call_of M.client_of M.stands (M.base key.first.value) key.clients };
 
     ghost first = { λ key. newcomer (M.base key.first.value ∷ []) key.clients 0 1 };
 }

@@ -25,10 +25,11 @@ impl<M: Machine> TurnLock<M> {
         clients: u32,
     ) -> Result<(TurnLock<M>, Vec<Pass<M>>), (M, NoMemory)>
         requires empty { M.list machine ≡ [] }
+        requires history { M.stands (M.base machine) [] }
         requires clients { (1 ≤ clients) × (clients ≤ 512) }
         ensures lock { IfOk result (λ r. (base_of M.base r.0 ≡ M.base machine) × (clients_of r.0 ≡ clients)) }
         ensures one_each { IfOk result (λ r. vec_len r.1 ≡ clients) }
-        ensures passes { IfOk result (λ r. (i : ℕ) (p : _) → slice_get r.1.items i ≡ Some p → IsPassOf M.base r.0 p × (known p ≡ newcomer (M.base machine ∷ []) clients i (if i == 0 then clients else 0))) }
+        ensures passes { IfOk result (λ r. (i : ℕ) (p : _) → slice_get r.1.items i ≡ Some p → IsPassOf M.base M.stands r.0 p × (known p ≡ newcomer (M.base machine ∷ []) clients i (if i == 0 then clients else 0))) }
         ensures no_memory { IfErr result (λ back. back.0 ≡ machine) }
     {
         let Ok(passes) = Vec::with_capacity(alloc, clients as usize) else {

@@ -2,6 +2,7 @@
 ghost use Rattle.std.specs.Prelude.{◌≡◌, ℕ, ◌+◌, ◌<◌, ◌^◌, [], length, slice_get, Some, IfSome, vec_len};
 ghost use Rattle.std.specs.Thread.{IsSync};
 ghost use Rattle.history_lock.specs.Lock.{clients_of, known, IsPassOf};
+ghost use Rattle.history_lock.specs.Added.{IsWithin};
 
 mod adder;
 
@@ -22,9 +23,9 @@ fn started(
 ) -> Option<(TurnLock<Adder>, Pass<Adder>, Pass<Adder>, Pass<Adder>)>
     requires { limit < 2 ^ 31 }
     ensures lock { IfSome result (λ r. clients_of r.0 ≡ 3) }
-    ensures first { IfSome result (λ r. IsPassOf (λ adder. adder.limit) r.0 r.1 × ((known r.1).own.client ≡ 0)) }
-    ensures second { IfSome result (λ r. IsPassOf (λ adder. adder.limit) r.0 r.2 × ((known r.2).own.client ≡ 1)) }
-    ensures third { IfSome result (λ r. IsPassOf (λ adder. adder.limit) r.0 r.3 × ((known r.3).own.client ≡ 2)) }
+    ensures first { IfSome result (λ r. IsPassOf (λ adder. adder.limit) IsWithin r.0 r.1 × ((known r.1).own.client ≡ 0)) }
+    ensures second { IfSome result (λ r. IsPassOf (λ adder. adder.limit) IsWithin r.0 r.2 × ((known r.2).own.client ≡ 1)) }
+    ensures third { IfSome result (λ r. IsPassOf (λ adder. adder.limit) IsWithin r.0 r.3 × ((known r.3).own.client ≡ 2)) }
 {
     let Ok((lock, mut passes)) = TurnLock::start(alloc, Adder::new(alloc, limit), 3) else {
         return None;
@@ -44,9 +45,9 @@ fn closed(
     third: Pass<Adder>,
 ) -> Option<(Adder, Pass<Adder>)>
     requires lock { clients_of lock ≡ 3 }
-    requires first { IsPassOf (λ adder. adder.limit) lock first × ((known first).own.client ≡ 0) }
-    requires second { IsPassOf (λ adder. adder.limit) lock second × ((known second).own.client ≡ 1) }
-    requires third { IsPassOf (λ adder. adder.limit) lock third × ((known third).own.client ≡ 2) }
+    requires first { IsPassOf (λ adder. adder.limit) IsWithin lock first × ((known first).own.client ≡ 0) }
+    requires second { IsPassOf (λ adder. adder.limit) IsWithin lock second × ((known second).own.client ≡ 1) }
+    requires third { IsPassOf (λ adder. adder.limit) IsWithin lock third × ((known third).own.client ≡ 2) }
 {
     let mut passes = Vec::with_capacity(alloc, 3).ok()?;
     passes.push_reserved(first);
@@ -57,8 +58,8 @@ fn closed(
 
 // Tries to add the client's next number.
 fn add(alloc: Global, lock: &TurnLock<Adder>, pass: &mut Pass<Adder>) -> Turned<usize, Added, Why>
-    requires { IsPassOf (λ adder. adder.limit) lock.now pass.old }
-    ensures pass { IsPassOf (λ adder. adder.limit) lock.now pass.new }
+    requires { IsPassOf (λ adder. adder.limit) IsWithin lock.now pass.old }
+    ensures pass { IsPassOf (λ adder. adder.limit) IsWithin lock.now pass.new }
     ensures client { (known pass.new).own.client ≡ (known pass.old).own.client }
 {
     let call = Added {
@@ -68,7 +69,8 @@ fn add(alloc: Global, lock: &TurnLock<Adder>, pass: &mut Pass<Adder>) -> Turned<
     lock.try_turn(alloc, pass, call)
 }
 
-// Adds this many numbers of the client, each as soon as the turn is free.
+// Adds this many numbers of the client, each as soon as the turn is free. Client 0 first waits until the
+// others have added more than twice as many.
 fn add_all<R: Wait>(
     rt: &R,
     alloc: Global,
@@ -76,10 +78,13 @@ fn add_all<R: Wait>(
     mut pass: Pass<Adder>,
     numbers: u32,
 ) -> Pass<Adder>
-    requires { IsPassOf (λ adder. adder.limit) lock.now pass }
-    ensures pass { IsPassOf (λ adder. adder.limit) lock.now result }
+    requires { IsPassOf (λ adder. adder.limit) IsWithin lock.now pass }
+    ensures pass { IsPassOf (λ adder. adder.limit) IsWithin lock.now result }
     ensures client { (known result).own.client ≡ (known pass).own.client }
 {
+    if pass.client() == 0 {
+        lock.wait_for_more(rt, &mut pass, numbers as u64 * 2);
+    }
     for _ in 0..numbers {
         let call = Added {
             client: pass.client(),
@@ -113,16 +118,16 @@ fn on_threads<R: Threads + Wait + Sync>(
     passes: Vec<Pass<Adder>>,
     numbers: u32,
 ) -> Option<Vec<Pass<Adder>>>
-    requires { (i : ℕ) (p : _) → slice_get passes.items i ≡ Some p → IsPassOf (λ adder. adder.limit) lock.now p × ((known p).own.client ≡ i) }
+    requires { (i : ℕ) (p : _) → slice_get passes.items i ≡ Some p → IsPassOf (λ adder. adder.limit) IsWithin lock.now p × ((known p).own.client ≡ i) }
     ensures one_each { IfSome result (λ v. vec_len v ≡ vec_len passes) }
-    ensures passes { IfSome result (λ v. (i : ℕ) (p : _) → slice_get v.items i ≡ Some p → IsPassOf (λ adder. adder.limit) lock.now p × ((known p).own.client ≡ i)) }
+    ensures passes { IfSome result (λ v. (i : ℕ) (p : _) → slice_get v.items i ≡ Some p → IsPassOf (λ adder. adder.limit) IsWithin lock.now p × ((known p).own.client ≡ i)) }
 {
     let Ok(passes) = thread::map_vec(
         rt,
         passes,
         &|pass: Pass<Adder>| -> Pass<Adder>
-            requires { IsSync R.row × IsPassOf (λ adder. adder.limit) lock.now pass }
-            ensures { IsPassOf (λ adder. adder.limit) lock.entry.now result × ((known result).own.client ≡ (known pass).own.client) }
+            requires { IsSync R.row × IsPassOf (λ adder. adder.limit) IsWithin lock.now pass }
+            ensures { IsPassOf (λ adder. adder.limit) IsWithin lock.entry.now result × ((known result).own.client ≡ (known pass).own.client) }
         { add_all(rt, alloc, lock, pass, numbers) },
     ) else {
         return None;
@@ -138,6 +143,7 @@ fn one_thread_with_three_passes(rt: HostRuntime) -> Result<(), Fail> {
     assert_eq!(rt; add(alloc, &lock, &mut second), Turned::Did(2));
     assert_eq!(rt; add(alloc, &lock, &mut first), Turned::Did(3));
     assert_eq!(rt; lock.front(&mut third), 3);
+    assert_eq!(rt; lock.wait_for_more(&rt, &mut third, 2), 3);
     assert_eq!(rt; lock.try_look(alloc, &mut third, &0), Looked::Saw(2));
     assert_eq!(rt; add(alloc, &lock, &mut third), Turned::Did(4));
     let fifth = Added {
@@ -160,7 +166,7 @@ fn one_thread_with_three_passes(rt: HostRuntime) -> Result<(), Fail> {
 }
 
 // Whether each client's numbers are 1, 2 and so on, up to this one, in order.
-fn is_whole(machine: &Adder, clients: u32, numbers: u32) -> bool {
+fn is_complete(machine: &Adder, clients: u32, numbers: u32) -> bool {
     for client in 0..clients {
         let mut next = 1u32;
         for entry in &machine.log {
@@ -182,7 +188,7 @@ fn is_whole(machine: &Adder, clients: u32, numbers: u32) -> bool {
 fn four_threads_with_a_thousand_turns_each(rt: HostRuntime) -> Result<(), Fail> {
     let (machine, seen) = raced(&rt, rt.alloc(), 1000).ok_or("memory")?;
     assert_eq!(rt; machine.log.len(), 4000);
-    assert!(rt; is_whole(&machine, 4, 1000));
+    assert!(rt; is_complete(&machine, 4, 1000));
     assert_eq!(rt; (seen.client(), seen.made()), (0, 1000));
     Ok(())
 }

@@ -1,5 +1,6 @@
 //! A tiny machine: the list of what its clients added, each time their next number.
 ghost use Rattle.std.specs.Prelude.{◌≡◌, [], ◌+◌, ◌≤◌, ◌<◌, ◌^◌, ◌==◌, List, length, count_by, vec_len};
+ghost use Rattle.history_lock.specs.Added.{IsWithin};
 ghost use Rattle.history_lock.specs.declared.tests.adder.Why.TheVariants.{Full};
 
 use crate::machine::Machine;
@@ -58,6 +59,8 @@ impl Machine for Adder {
 
     ghost list = { λ adder. adder.log.items };
 
+    ghost stands = { IsWithin };
+
     ghost call_of = { λ entry. entry };
 
     ghost client_of = { λ call. call.client };
@@ -66,11 +69,11 @@ impl Machine for Adder {
 
     ghost may_look = { λ log client. Unit {0} };
 
-    ghost out_of = { λ limit log. length log };
+    ghost out_is = { λ limit log out. out ≡ length log };
 
-    ghost why_of = { λ limit log why. why ≡ Full → limit ≤ length log };
+    ghost why_of = { λ limit log why. why ≡ Full → limit ≡ length log };
 
-    ghost seen_of = { λ limit log client. count_by (λ entry. entry.client == client) log };
+    ghost seen_is = { λ limit log client seen. seen ≡ count_by (λ entry. entry.client == client) log };
 
     ghost costly = { λ limit log client. ⊥ };
 

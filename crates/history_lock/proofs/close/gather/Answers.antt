@@ -11,7 +11,7 @@ join_seat-requires g c = let i = c.loop-pass.invariant in let v = c.loop-pass.se
       ap (λ s. s.table_id) same ∙ theirs.0,
       rests.0,
       search rules,
-      glues _ _ _ _ _ _ _ v _ u (ap (λ w. w.live) i.view ∙ c.requires.rests.1) (ap (λ w. w.holds) i.view ∙ c.requires.rests.2) (ap (λ s. s.me.0.live) same ∙ theirs.1) rests.1,
+      glues _ _ _ _ _ _ _ _ v _ u (ap (λ w. w.live) i.view ∙ c.requires.rests.1) (ap (λ w. w.holds) i.view ∙ c.requires.rests.2) (ap (λ s. s.me.0.live) same ∙ theirs.1) rests.1,
     )
 
 pub loop-pass-preserved : goal.loop-pass-preserved

@@ -6,7 +6,7 @@ use Rattle.history_lock.proofs.start.deal.Goals as goal
 
 pub split_seat-seat-requires : goal.split_seat-seat-requires
 split_seat-seat-requires g c = let v = c.loop-client.first.me.0 in let is = c.loop-client.invariant.view in let a = ap (λ w. w.served) is in let b = ap (λ w. w.clients) is in
-    (search rules, search rules, cuts _ _ _ _ _ _ _ v (ap (λ w. w.live) is) (ap (λ w. w.own.client) is) (omega arith))
+    (search rules, search rules, cuts _ _ _ _ _ _ _ _ v (ap (λ w. w.live) is) (ap (λ w. w.own.client) is) (omega arith))
 
 pub loop-client-preserved : goal.loop-client-preserved
 loop-client-preserved g c = let i = c.loop-client.invariant in let e = c.split_seat-seat.ensures in let n = c.new_pass.ensures in let whole = c.loop-client.passes.ok.0 in let count : c.loop-client.client ≡ length c.loop-client.passes.items + 1 = omega arith in record {

@@ -10,7 +10,7 @@ pub join_all-client-requires-clause-passes : goal.join_all-client-requires-claus
 join_all-client-requires-clause-passes g c i p at = let t = c.requires.passes i p at in (t.0.0, t.0.1, t.1)
 
 pub split_seat-seen-requires : goal.split_seat-seen-requires
-split_seat-seen-requires g c = let z = c.args.self.sized.0 in (c.join_all-client.ensures.place.0, omega arith, shadows _ _ _ _ _ _ _ _)
+split_seat-seen-requires g c = let z = c.args.self.sized.0 in (c.join_all-client.ensures.place.0, omega arith, shadows _ _ _ _ _ _ _ _ _)
 
 pub finish-machine-requires-clause-all : goal.finish-machine-requires-clause-all
 finish-machine-requires-clause-all g c client below = let t = c.join_all-client.ensures.all client below in
