@@ -1,2 +1,3 @@
 pub mod BytesLemmas
 pub mod ChangeLemmas
+pub mod ChildLemmas

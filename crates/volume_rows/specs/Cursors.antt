@@ -1,6 +1,6 @@
 -- Where an enumeration stands.
-use Rattle.volume_rows.specs.declared.rows.Cursor.{Cursor as GivenCursor}
-use Rattle.volume_rows.specs.declared.rows.Cursor.TheVariants as given
+use Rattle.volume_rows.specs.declared.cursors.Cursor.{Cursor as GivenCursor}
+use Rattle.volume_rows.specs.declared.cursors.Cursor.TheVariants as given
 use Rattle.fsa_model.specs.Volume.{Cursor, Start, Dot, DotDot, After}
 
 abbrev pub cursor_of : GivenCursor → Cursor

@@ -1,6 +1,8 @@
 pub mod Changes
+pub mod Children
 pub mod Cursors
 pub mod Effects
+pub mod Enumerated
 pub mod Infos
 pub mod Noting
 pub mod Streams

@@ -13,10 +13,10 @@
 //! changes.note(links, 1, name, None, action, bits);   // takes no memory
 //! ```
 //!
-//! The calls group so: links (`find_child`, `find_link_of`, `find_link_number`, `has_link`, `has_child`,
-//! `count_links`, `count_unmarked_links`, `is_at_or_below`); files (`has_directory`, `FileRow::set_basic`,
+//! The calls group so: links (`find_child`, `find_child_after`, `find_link_of`, `find_link_number`, `has_link`,
+//! `has_child`, `count_links`, `count_unmarked_links`, `is_at_or_below`); files (`has_directory`, `FileRow::set_basic`,
 //! `set_owner`, `set_dacl`); handles (`find_handle`, `find_next`,
-//! `count_on`, `is_one_of`, `some_clashes`, `is_open_by_others`); streams (`find_stream`, `is_stream_of`, and `StreamRow` with
+//! `count_on`, `is_one_of`, `some_clashes`, `is_open_by_others`) and their enumerations (`Enumeration`, `Cursor`); streams (`find_stream`, `is_stream_of`, and `StreamRow` with
 //! its bytes); the space that streams take (`charge_for`, `sum_of_clusters`) and what an owner may be
 //! charged (`find_limit`); oplocks (`effect`, `is_awaited`, `in_both`, `is_within`, `is_same_key`, `is_oplock_of`,
 //! `find_break`, `find_target`);
@@ -36,6 +36,8 @@
 
 mod bytes;
 mod changes;
+mod children;
+mod cursors;
 mod effects;
 mod growth;
 mod handles;
@@ -49,6 +51,8 @@ mod streams;
 mod waiting;
 
 pub use changes::{ChangeLog, Entry};
+pub use children::find_child_after;
+pub use cursors::{Cursor, Enumeration};
 pub use effects::{
     BreakEffect, effect, has_read, has_write, in_both, is_awaited, is_same_key, is_within,
 };
@@ -61,7 +65,7 @@ pub use links::{
 };
 pub use noting::Changes;
 pub use opens::{count_on, find_next, is_at_or_below, is_one_of, is_open_by_others, some_clashes};
-pub use rows::{Cursor, Enumeration, FileRow, HandleRow, LinkRow, Need, StreamInfo, StreamRow};
+pub use rows::{FileRow, HandleRow, LinkRow, Need, StreamInfo, StreamRow};
 pub use streams::{find_stream, is_stream_of};
 pub use waiting::{
     OplockRow, PendingRow, WatchRow, find_break, find_limit, find_next_pending, find_pending,

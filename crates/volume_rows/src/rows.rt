@@ -4,6 +4,7 @@ ghost use Rattle.std.specs.Prelude.{◌≡◌, ◌≤◌, ◌+◌, ◌⊎◌, le
 ghost use Rattle.fsa_types.specs.StreamBytes.{put, cut};
 
 use crate::bytes::put_at;
+use crate::cursors::Enumeration;
 use fsa_types::{Bytes, Dacl, Name, NoMemory};
 use std::marker::Model;
 
@@ -104,28 +105,6 @@ impl Model for LinkRow {
     ghost view = { λ r. record { parent = r.parent; name = r.name; file = r.file; deleted = r.deleted } };
 }
 
-/// Where an enumeration of a directory stands.
-#[derive(Debug, Drop)]
-pub enum Cursor {
-    /// At its start.
-    Start,
-    /// After `.`.
-    Dot,
-    /// After `..`.
-    DotDot,
-    /// After this name.
-    After(Name),
-}
-
-/// The enumeration of a directory through a handle.
-#[derive(Debug, Drop)]
-pub struct Enumeration {
-    /// The expression that names have to match.
-    pub expression: Name,
-    /// Where it stands.
-    pub cursor: Cursor,
-}
-
 /// An open, after [MS-FSA] 'Per Open'.
 #[derive(Debug, Drop)]
 pub struct HandleRow {
@@ -150,12 +129,9 @@ pub struct HandleRow {
 }
 
 impl Model for HandleRow {
-    ghost use Rattle.std.specs.Prelude.{option_map};
     ghost use Rattle.fsa_model.specs.Volume.{Handle};
 
     ghost Value = { Handle };
-
-    ghost use Rattle.volume_rows.specs.Cursors.{cursor_of};
 
     ghost view = { λ r. record {
       client = r.client;
@@ -166,7 +142,7 @@ impl Model for HandleRow {
       share = r.share;
       key = r.key;
       delete_on_close = r.delete_on_close;
-      enumeration = option_map (λ e. (e.expression, cursor_of e.cursor)) r.enumeration;
+      enumeration = r.enumeration;
     } };
 }
 
