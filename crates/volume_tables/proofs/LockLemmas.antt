@@ -7,12 +7,12 @@ use Rattle.std.proofs.lemmas.Bool.{cases_Bool, eqb-true, both_ways, ne_eqb, and_
 use Rattle.std.proofs.lemmas.List.{append-nil, map-append}
 use Rattle.std.proofs.lemmas.List.Elements.{filter-append, All-push, All-filter, filter_passes}
 use Rattle.fsa_types.specs.Ranges.{without_first}
-use Rattle.fsa_types.specs.Rows.{row_of, lives, without_row, IsNumbered}
+use Rattle.fsa_types.specs.Rows.{row_of, lives, without_row, with_row_changed, IsNumbered}
 use Rattle.fsa_types.proofs.RowLemmas.{AreRising, AreRising-rest, AreRising-first, without_row-above}
 use Rattle.fsa_model.specs.Edits.{is_lock_on}
 use Rattle.fsa_model.specs.Lookups.{is_open_on, number_of}
 use Rattle.fsa_model.specs.Volume.{Handle, Lock}
-use Rattle.fsa_model.proofs.RowLaws.{any-push, any-filter, find-all, option_cases, eqb-swap}
+use Rattle.fsa_model.proofs.RowLaws.{any-filter, any-map, any-push, any-same, change_at, change_at-number, find-all, option_cases, eqb-swap}
 use Rattle.range_locks.specs.RangeTable.{Ranges, is_of, is_range}
 use Rattle.range_locks.specs.declared.range.Range.{Range}
 use Rattle.volume_tables.specs.Ranges.{ranges_in, room_at, AreSetIn, KeepsRanges}
@@ -31,6 +31,45 @@ ranges_on-same old new (entry ∷ locks) stream same =
       | inl on ↦ (let still : is_on_stream new stream entry.1 ≡ true = rw here on in rw (on, still) (ap (λ ranges. range_of_lock entry ∷ ranges) rest))
       | inr off ↦ (let still : is_on_stream new stream entry.1 ≡ false = rw here off in rw (off, still) rest)
     ]
+
+-- and so do handles of which something else than the stream is changed
+is_on_stream-changed : (change : Handle → Handle) (handles : List (ℕ × Handle)) (id stream : ℕ) (lock : Lock) → ((row : Handle) → (change row).stream ≡ row.stream)
+    → is_on_stream (with_row_changed change handles id) stream lock ≡ is_on_stream handles stream lock
+is_on_stream-changed change [] id stream lock same = refl
+is_on_stream-changed change (entry ∷ handles) id stream lock same =
+    let rest = is_on_stream-changed change handles id stream lock same in
+    elim (cases_Bool (entry.0 == id)) [
+      | inl changed ↦ elim (cases_Bool (entry.0 == lock.handle)) [
+        | inl own ↦ rw (changed, own) (ap (λ (on : Option ℕ). option_map_or (λ s. s == stream) on false) (same entry.1))
+        | inr other ↦ rw (changed, other) rest
+      ]
+      | inr kept ↦ elim (cases_Bool (entry.0 == lock.handle)) [
+        | inl own ↦ rw (kept, own) refl
+        | inr other ↦ rw (kept, other) rest
+      ]
+    ]
+
+ranges_on-changed : (change : Handle → Handle) (handles : List (ℕ × Handle)) (id : ℕ) (locks : List (ℕ × Lock)) (stream : ℕ) → ((row : Handle) → (change row).stream ≡ row.stream)
+    → ranges_on (with_row_changed change handles id) locks stream ≡ ranges_on handles locks stream
+ranges_on-changed change handles id [] stream same = refl
+ranges_on-changed change handles id (entry ∷ locks) stream same =
+    let here = is_on_stream-changed change handles id stream entry.1 same in
+    let rest = ranges_on-changed change handles id locks stream same in
+    elim (cases_Bool (is_on_stream handles stream entry.1)) [
+      | inl on ↦ (let still : is_on_stream (with_row_changed change handles id) stream entry.1 ≡ true = here ∙ on in rw (on, still) (ap (λ ranges. range_of_lock entry ∷ ranges) rest))
+      | inr off ↦ (let still : is_on_stream (with_row_changed change handles id) stream entry.1 ≡ false = here ∙ off in rw (off, still) rest)
+    ]
+
+lives-changed : {R : Type 0} (change : R → R) (rows : List (ℕ × R)) (id other : ℕ) → lives (with_row_changed change rows id) other ≡ lives rows other
+lives-changed change rows id other =
+    any-map (λ e. e.0 == other) (change_at change id) rows ∙ any-same (λ e. (change_at change id e).0 == other) (λ e. e.0 == other) rows (λ e. rw (change_at-number change id e) refl)
+
+pub AreTabled-changed : (change : Handle → Handle) (handles : List (ℕ × Handle)) (locks : List (ℕ × Lock)) (tables : List (ℕ × Ranges)) (id : ℕ) → ((row : Handle) → (change row).stream ≡ row.stream)
+    → AreTabled handles locks tables → AreTabled (with_row_changed change handles id) locks tables
+AreTabled-changed change handles locks tables id same is = record {
+  live = λ k d within. lives-changed change handles id (get_or locks k d).1.handle ∙ is.live k d within;
+  ranges = λ stream. is.ranges stream ∙ sym (ranges_on-changed change handles id locks stream same);
+}
 
 -- a handle more, which has no lock
 pub AreTabled-handle : (handles : List (ℕ × Handle)) (locks : List (ℕ × Lock)) (tables : List (ℕ × Ranges)) (more : ℕ × Handle) → AreTabled handles locks tables

@@ -2,7 +2,7 @@
 
 ghost use Rattle.std.specs.Prelude.{ℕ, ◌≡◌, ◌≤◌, ◌<◌, ◌+◌, ◌^◌, ◌++◌, ◌∷◌, [], ◌==◌, not, false, Some, IsSome, IfSome, IfNone, OnOk, filter};
 ghost use Rattle.std.specs.Option.{option_copied, option_map_or, ForSome};
-ghost use Rattle.fsa_types.specs.Rows.{row_of, without_row, IsNumbered};
+ghost use Rattle.fsa_types.specs.Rows.{row_of, with_row_changed, without_row, IsNumbered};
 ghost use Rattle.fsa_model.specs.Edits.{is_lock_on};
 ghost use Rattle.fsa_model.specs.Lookups.{number_of};
 ghost use Rattle.fsa_types.specs.Ranges.{without_first};
@@ -19,7 +19,7 @@ use object_tables::Table;
 use range_locks::{Range, RangeTable};
 use std::alloc::Global;
 use std::marker::Model;
-use volume_rows::HandleRow;
+use volume_rows::{Enumeration, HandleRow};
 
 /// Handles under numbers that rise from 1, the byte-range locks that they hold, under numbers of their
 /// own, and for each stream how many more locks can be added on it without taking memory. A lock is on
@@ -122,6 +122,13 @@ impl HandleTable {
         id
     }
 
+    /// Sets the enumeration of a handle; where there is no such handle nothing changes. It takes no memory.
+    pub fn set_enumeration(&mut self, id: u64, enumeration: Enumeration)
+        ensures { self.new ≡ record self.old { rows = with_row_changed (λ row. record row { enumeration = Some enumeration }) self.old.rows id } }
+    {
+        set_enumeration(&mut self.table, id, enumeration);
+    }
+
     /// Takes the handle of this number out, with the locks that it holds; where there is none nothing
     /// changes. It takes no memory, and leaves the room for locks as it was.
     pub fn remove(&mut self, id: u64)
@@ -211,6 +218,17 @@ fn stream_of(table: &Table<HandleRow>, handle: u64) -> Option<u64>
 {
     let row = table.get(handle)?;
     row.stream
+}
+
+// Sets the enumeration of a handle.
+fn set_enumeration(table: &mut Table<HandleRow>, handle: u64, enumeration: Enumeration)
+    ensures rows { table.new.rows ≡ with_row_changed (λ row. record row { enumeration = Some enumeration }) table.old.rows handle }
+    ensures last { table.new.last ≡ table.old.last }
+    ensures room { table.new.room ≡ table.old.room }
+{
+    if let Some(row) = table.get_mut(handle) {
+        row.enumeration = Some(enumeration);
+    }
 }
 
 // Takes all ranges of a handle on this stream out, where it has one.
