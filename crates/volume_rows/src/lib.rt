@@ -15,7 +15,7 @@
 //!
 //! The calls group so: links (`find_child`, `find_child_after`, `find_link_of`, `find_link_number`, `has_link`,
 //! `has_child`, `count_links`, `count_unmarked_links`, `is_at_or_below`); files (`has_directory`, `FileRow::set_basic`,
-//! `set_owner`, `set_dacl`); handles (`find_handle`, `find_next`,
+//! `set_owner`, `set_dacl`, `set_point`); handles (`find_handle`, `find_next`,
 //! `count_on`, `is_one_of`, `some_clashes`, `is_open_by_others`) and their enumerations (`Enumeration`, `Cursor`); streams (`find_stream`, `is_stream_of`, and `StreamRow` with
 //! its bytes); the space that streams take (`charge_for`, `sum_of_clusters`) and what an owner may be
 //! charged (`find_limit`); oplocks (`effect`, `is_awaited`, `in_both`, `is_within`, `is_same_key`, `is_oplock_of`,

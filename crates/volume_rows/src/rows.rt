@@ -82,6 +82,13 @@ impl FileRow {
     {
         self.dacl = dacl;
     }
+
+    /// Sets the reparse point.
+    pub fn set_point(&mut self, point: Option<(u32, Bytes)>)
+        ensures { self.new ≡ record self.old { point = point } }
+    {
+        self.point = point;
+    }
 }
 
 /// A name of a file in its parent directory, after [MS-FSA] 'Per Link'.
