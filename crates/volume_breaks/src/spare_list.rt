@@ -1,6 +1,6 @@
 //! Items in order, with spare room that stays as items go.
 
-ghost use Rattle.std.specs.Prelude.{◌≡◌, ◌≤◌, [], OnOk};
+ghost use Rattle.std.specs.Prelude.{◌≡◌, ◌≤◌, ◌+◌, ◌++◌, ◌∷◌, [], OnOk};
 ghost use Rattle.std.specs.Fn.{CalledAt};
 ghost use Rattle.std.specs.List.Retain.{IsFiltered};
 
@@ -9,7 +9,7 @@ use std::alloc::Global;
 use std::marker::Model;
 
 /// Items in order, with the room that was taken for more. Unlike that of a `Series`, the room stays as
-/// it is where items go. No call puts an item in yet.
+/// it is where items go.
 #[derive(Drop)]
 pub struct SpareList<T> {
     items: Vec<T>,
@@ -60,6 +60,18 @@ impl<T: Drop> SpareList<T> {
         ensures { result.now ≡ self.now.items }
     {
         self.items.as_slice()
+    }
+
+    /// Puts an item at the end. There has to be room for it. It takes no memory.
+    pub fn push(&mut self, item: T)
+        requires { 1 ≤ self.old.room }
+        ensures items { self.new.items ≡ self.old.items ++ item ∷ [] }
+        ensures left { self.old.room ≡ self.new.room + 1 }
+    {
+        let Ok(()) = self.items.push(item) else {
+            unreachable!()
+        };
+        self.room -= 1;
     }
 
     /// Keeps the items at which `keep` answers `true`. It takes no memory, and leaves the room as it was.
