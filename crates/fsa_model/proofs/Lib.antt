@@ -9,6 +9,8 @@ pub mod Examples
 pub mod FrameLaws
 pub mod FrameOplocks
 pub mod FrameWatches
+pub mod GeneratorExamples
+pub mod GeneratorLaws
 pub mod GrantLaws
 pub mod GrantedLaws
 pub mod HeldLaws
@@ -55,6 +57,7 @@ pub mod SoundWaits
 pub mod SpeltLaws
 pub mod SpeltLines
 pub mod SpeltVerbs
+pub mod SummaryExamples
 pub mod TakenLaws
 pub mod TryFrame
 pub mod TryLaws

@@ -11,6 +11,7 @@ pub mod Fault
 pub mod FieldText
 pub mod Flush
 pub mod Frame
+pub mod Generator
 pub mod Grant
 pub mod Growth
 pub mod History
@@ -56,6 +57,7 @@ pub mod Soundness
 pub mod Spelled
 pub mod Spelling
 pub mod Starving
+pub mod Summary
 pub mod Text
 pub mod Try
 pub mod Turn

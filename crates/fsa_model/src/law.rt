@@ -2,7 +2,7 @@
 //! does anything.
 
 ghost use Rattle.std.specs.List.{flat_map};
-ghost use Rattle.std.specs.Prelude.{◌≡◌, [], ◌∷◌, ◌++◌, suc, ℕ, Bool, List, Some, Ok};
+ghost use Rattle.std.specs.Prelude.{◌≡◌, [], ◌∷◌, ◌++◌, suc, ℕ, Bool, List, Some, Ok, length};
 ghost use Rattle.fsa_types.specs.PackedRows.{PackRow};
 ghost use Rattle.fsa_types.specs.Packing.{bytes};
 ghost use Rattle.fsa_types.specs.Rows.{row_of};
@@ -12,6 +12,7 @@ ghost use Rattle.fsa_types.specs.declared.request.Request.TheVariants.{Notify};
 ghost use Rattle.fsa_types.specs.declared.request.What.TheVariants.{Ask};
 ghost use Rattle.fsa_model.specs.Engine.{CallsDiffer, EndsOnce, GrantsPend, HeldAreBlocked, HoldsByLiving, NoneReady, SomeGoesOn, TakesReleased};
 ghost use Rattle.fsa_model.specs.Frame.{InFrame, PointsFit};
+ghost use Rattle.fsa_model.specs.Generator.{generated, generated_text};
 ghost use Rattle.fsa_model.specs.History.{HistoryEntry, Run, run};
 ghost use Rattle.fsa_model.specs.Lookups.{handle_of};
 ghost use Rattle.fsa_model.specs.PackedText.{RowsFit, packed_text, row_text};
@@ -95,4 +96,10 @@ pub fn a_script_is_what_its_bytes_spell()
 /// What is printed of a buffer of packed rows is the text of each row, in order.
 pub fn packed_rows_are_printed()
     ensures rows { (kind : PackKind) (rows : List PackRow) → RowsFit rows → packed_text kind (bytes kind rows) ≡ flat_map (row_text kind) rows }
+{}
+
+/// The generated script of each seed has 4,096 calls, and its text writes it, as a reader of scripts asks.
+pub fn a_generated_script_is_spelled()
+    ensures spelled { (seed : ℕ) → SpellsScript (generated_text seed) (generated seed) }
+    ensures long { (seed : ℕ) → length (generated seed).lines ≡ 4096 }
 {}
