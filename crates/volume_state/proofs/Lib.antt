@@ -7,6 +7,7 @@ pub mod MovedLaws
 pub mod OpenLaws
 pub mod PathLaws
 pub mod PendingLaws
+pub mod PointLaws
 pub mod StreamLemmas
 pub mod ThereLaws
 pub mod WaitLaws

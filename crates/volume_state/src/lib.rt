@@ -20,7 +20,8 @@
 //! `dir_link`, `has_child`, `links_of`, `is_at_or_below`, `handles_on`, `clashes`, `locks_of`, `bytes_of`,
 //! `clock`, `has_left`, `table`, `sids`,
 //! `oplocks`); waits for calls (`waits`, `all_wait`, `next_over`, `list_waits`); the space that streams
-//! take, and what an owner is charged for it and may be (`clusters`, `charge`, `charge_of_file`, `limit`); the room that a note takes (`note_room`, `note_room_in`);
+//! take, and what an owner is charged for it and may be (`clusters`, `charge`, `charge_of_file`, `limit`); the
+//! reparse point of a file (`point`); the room that a note takes (`note_room`, `note_room_in`);
 //! changes of one table (`add_..`, `move_link`, `drop_..`, `mark_..`, `put_bytes`, `set_..`, `end`, `leave`,
 //! `advance`); changes noted (`note`); and oplocks: their grant (`is_not_granted`, `grant`), their break
 //! (`begin`, `waited`), the answer to it (`answer_break`), and their end (`give_up`, `drop_oplock`).
@@ -44,10 +45,11 @@
 //! the pending calls for each wait among them, and never through the calls that have ended; `list_waits` puts
 //! each wait in its place among the others.
 //!
-//! Caveats: no call puts a watch or a limit in yet. The calls that look for them and take them out are whole
+//! Caveats: no call puts a watch in yet. The calls that look for them and take them out are whole
 //! all the same, for any that there are.
 #![tactic(auto)]
 
+mod control;
 mod files;
 mod growth;
 mod handles;
