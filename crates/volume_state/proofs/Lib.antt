@@ -5,6 +5,7 @@ pub mod HandleLaws
 pub mod MarkLaws
 pub mod MovedLaws
 pub mod OpenLaws
+pub mod OrderLaws
 pub mod PathLaws
 pub mod PendingLaws
 pub mod PointLaws
