@@ -1,31 +1,49 @@
-//! The information of a file over a volume. So far its owner and its access list can be set, after [MS-FSA]
-//! 'Server Requests Setting of Security Information': one try of the call, from its first check.
+//! The information of a file over a volume: what is told of it, after [MS-FSA] 'Server Requests a Query of
+//! File Information', its times and attributes, after 'Server Requests Setting of File Information', and its
+//! owner and access list, after 'Server Requests Setting of Security Information'. Each is one try of the
+//! call, from its first check.
 //!
 //! ```text
-//! match try_set_security(alloc, &mut volume, &call, turn) {
+//! match try_query_info(alloc, &mut volume, &call, turn) {
 //!     Tried::Done(reply) => ..       // it has ended, well or with a refusal
 //!     Tried::NoMemory => ..          // nothing has changed
 //!     Tried::Stay(_) | Tried::Hold { .. } => ..    // never: it breaks no oplock and waits for nothing
 //! }
 //! ```
 //!
-//! The definition is `Security` of `fsa_model`. The files here follow it: what is asked for and the rights
-//! that it needs (`asked`), the limit of a new owner (`quota`), the list with its generic rights mapped
-//! (`list`), the room (`room`), the changes (`change`) and the checks in order (`security`).
+//! The definitions are `QueryInfo`, `SetBasic` and `Security` of `fsa_model`, and the files here follow them.
+//! Of a query: what is shown of a file and a stream (`shown`), the buffers without entries (`kinds`), the
+//! streams (`streams`), and the checks in order (`query`). Of times and attributes: times (`times`), what is
+//! asked and noted (`basics`), and the changes and the checks (`basic`). Of the owner and the access list:
+//! what is asked for and the rights that it needs (`asked`), the limit of a new owner (`quota`), the list with
+//! its generic rights mapped (`list`), the changes (`change`) and the checks (`security`). `room` and `links`
+//! serve all.
 //!
-//! - The call has to be a SetSecurity with at most 32 entries, and its client one of the volume's.
-//! - All room is taken after the checks and before the first change. A refusal leaves the volume as it was.
-//! - The charge of a new owner goes over the files once for each stream, and the note over the links once
-//!   for each ancestor.
+//! - The call has to be of its kind; a SetSecurity has at most 32 entries, and its client is one of the
+//!   volume's.
+//! - All room is taken after the checks and before the first change. A refusal leaves the volume as it was,
+//!   and a query always does.
+//! - A list of streams goes over all streams of the volume once for each stream of the file, the charge of a
+//!   new owner over the files once for each stream, and a note over the links once for each ancestor.
 #![tactic(auto)]
 
 mod asked;
+mod basic;
+mod basics;
 mod change;
+mod kinds;
+mod links;
 mod list;
+mod query;
 mod quota;
 mod room;
 mod security;
+mod shown;
+mod streams;
 #[cfg(test)]
 mod tests;
+mod times;
 
+pub use basic::try_set_basic;
+pub use query::try_query_info;
 pub use security::try_set_security;

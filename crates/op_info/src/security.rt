@@ -1,8 +1,7 @@
-//! The checks in order.
+//! Setting the owner and the access list: the checks in order.
 
 ghost use Rattle.std.specs.Prelude.{◌≡◌, ◌<◌, OnOk, OnErr, IsTrue, length};
 ghost use Rattle.fsa_types.specs.Request.{dacl_fits, what_fits};
-ghost use Rattle.fsa_model.specs.Lookups.{file_of_link};
 ghost use Rattle.fsa_model.specs.Security.{set_security_at, set_security_of, try_set_security, with_security};
 ghost use Rattle.op_info.specs.Calls.{IsSetSecurity, asked_set_security};
 ghost use Rattle.volume_state.specs.Room.{KeepsEnds};
@@ -10,25 +9,13 @@ ghost use Rattle.volume_state.specs.Tried.{Gives, HasHoldRoom};
 
 use crate::asked::{is_foreign, lacks_right};
 use crate::change::set_security;
+use crate::links::file_of_link;
 use crate::list::list_put;
 use crate::quota::passes_limit;
 use crate::room::room_to_set;
 use fsa_types::{Call, DaclChange, NoMemory, Request, Status, What};
 use std::alloc::Global;
 use volume_state::{Tried, Volume};
-
-// The file of a link; of link 0 it is the root.
-fn file_of_link(volume: &Volume, link: u64) -> Option<u64>
-    ensures { result ≡ file_of_link volume.now.content.links link }
-{
-    if link == 0 {
-        return Some(volume.root());
-    }
-    match volume.link(link) {
-        None => None,
-        Some(row) => Some(row.file),
-    }
-}
 
 // The owner and the list are set, where there is memory for it.
 fn set_in_room(

@@ -1,15 +1,15 @@
-//! One call each on a volume with one file, with ample memory.
+//! One call each on a volume with one file, with ample memory; and lists of the same queries in several rooms.
 
-ghost use Rattle.std.specs.Prelude.{◌≡◌, ◌<◌, ◌+◌, ◌-◌, ◌^◌, ◌==◌, ◌&&◌, IfOk, All, IsTrue, None, false, length};
+ghost use Rattle.std.specs.Prelude.{◌≡◌, ◌<◌, ◌≤◌, ◌+◌, ◌-◌, ◌^◌, ◌==◌, ◌&&◌, IfOk, All, IsTrue, None, false, length};
 ghost use Rattle.fsa_types.specs.Request.{dacl_fits, what_fits};
 ghost use Rattle.fsa_model.specs.Lookups.{child_of, handle_of, has_row, is_directory};
 ghost use Rattle.fsa_model.specs.Sound.{LeadsUp, PointFits};
-ghost use Rattle.op_info.specs.Calls.{IsSetSecurity};
+ghost use Rattle.op_info.specs.Calls.{IsQueryInfo, IsSetBasic, IsSetSecurity};
 
-use crate::try_set_security;
+use crate::{try_query_info, try_set_basic, try_set_security};
 use fsa_types::{
-    Ace, Bytes, Call, Client, ClientList, Dacl, DaclChange, Name, NoMemory, Request, Setup,
-    SidList, Status, UpcaseTable, What,
+    Ace, Body, Bytes, Call, Client, ClientList, Dacl, DaclChange, InfoKind, Name, NoMemory,
+    Request, Setup, SidList, Status, UpcaseTable, What,
 };
 use std::alloc::Global;
 use std::test::Fail;
@@ -75,6 +75,7 @@ fn put_file(
     requires new { child_of volume.old.content dir name ≡ None }
     requires call { handle_of volume.old.content 0 1 ≡ None }
     ensures client { volume.new.content.clients ≡ volume.old.content.clients }
+    ensures streams { volume.new.content.last_stream ≤ volume.old.content.last_stream + 1 }
 {
     volume.reserve(&Need {
         files: 1,
@@ -107,6 +108,7 @@ fn open_file(alloc: Global, volume: &mut Volume, access: u32) -> Result<u64, Fai
     requires numbers { (volume.old.content.last_file < 2 ^ 32 - 4) × (volume.old.content.last_link < 2 ^ 32 - 4) × (volume.old.content.last_stream < 2 ^ 32 - 4) × (volume.old.content.last_handle < 2 ^ 32 - 4) }
     requires client { 0 < length volume.old.content.clients }
     ensures client { volume.new.content.clients ≡ volume.old.content.clients }
+    ensures streams { volume.new.content.last_stream ≤ volume.old.content.last_stream + 1 }
 {
     let name = Name::copy_of(alloc, &[97])?;
     let stream = Name::copy_of(alloc, &[])?;
@@ -245,5 +247,211 @@ fn a_call_has_its_answer_where_memory_is_there(rt: HostRuntime) -> Result<(), Fa
         set(alloc, 0xC_0000, 2, Some(9), DaclChange::Keep)?,
         no_handle
     );
+    Ok(())
+}
+
+// A further stream of a file, of this name.
+fn put_stream(volume: &mut Volume, file: u64, name: Name) -> Result<(), Fail>
+    requires numbers { volume.old.content.last_stream < 2 ^ 32 - 2 }
+    ensures streams { volume.new.content.last_stream ≤ volume.old.content.last_stream + 1 }
+{
+    volume.reserve(&Need {
+        streams: 1,
+        ..Need::nothing()
+    })?;
+    if volume.file(file).is_none()
+        || volume.is_directory(file)
+        || volume.stream_of(file, name.units()).is_some()
+    {
+        return Err(Fail::from("the file can't have the stream"));
+    }
+    let _ = volume.add_stream(file, name);
+    Ok(())
+}
+
+// A file that is open with READ_ATTRIBUTES, with the streams `b` and `A` beside its default stream.
+fn open_streams(alloc: Global, volume: &mut Volume) -> Result<(), Fail>
+    requires numbers { (volume.old.content.last_file < 2 ^ 32 - 4) × (volume.old.content.last_link < 2 ^ 32 - 4) × (volume.old.content.last_stream < 2 ^ 32 - 4) × (volume.old.content.last_handle < 2 ^ 32 - 4) }
+    requires client { 0 < length volume.old.content.clients }
+{
+    let file = open_file(alloc, volume, 0x80)?;
+    put_stream(volume, file, Name::copy_of(alloc, &[98])?)?;
+    put_stream(volume, file, Name::copy_of(alloc, &[65])?)
+}
+
+// A query of the client's handle 1.
+fn query_of(kind: InfoKind, room: u32) -> Call
+    ensures verb { IsQueryInfo result.what }
+{
+    Call {
+        client: 0,
+        number: 2,
+        what: What::Ask(Request::QueryInfo {
+            handle: 1,
+            kind,
+            room,
+        }),
+    }
+}
+
+// The status of a query, and the bytes of its answer.
+fn query(
+    alloc: Global,
+    volume: &mut Volume,
+    kind: InfoKind,
+    room: u32,
+) -> Result<(Status, Bytes), Fail> {
+    let call = query_of(kind, room);
+    let Tried::Done(reply) = try_query_info(alloc, volume, &call, 1) else {
+        return Err(Fail::from("the call hasn't ended"));
+    };
+    let bytes = match reply.body {
+        Body::Got(bytes) | Body::Packed(_, bytes) => bytes,
+        _ => Bytes::copy_of(alloc, &[])?,
+    };
+    Ok((reply.status, bytes))
+}
+
+#[test]
+fn each_kind_has_its_least_room(rt: HostRuntime) -> Result<(), Fail> {
+    let alloc = rt.alloc();
+    let mut volume = fresh_volume(alloc)?;
+    open_streams(alloc, &mut volume)?;
+    let short = Status::InfoLengthMismatch;
+    // an entry takes 38, 40 and 40 bytes, and the first is padded to 40
+    for (kind, room, status, len) in [
+        (InfoKind::Basic, 39, short, 0),
+        (InfoKind::Basic, 40, Status::Success, 40),
+        (InfoKind::Standard, 23, short, 0),
+        (InfoKind::Standard, 24, Status::Success, 24),
+        (InfoKind::Internal, 7, short, 0),
+        (InfoKind::Internal, 8, Status::Success, 8),
+        (InfoKind::Tag, 7, short, 0),
+        (InfoKind::Tag, 8, Status::Success, 8),
+        (InfoKind::Streams, 23, short, 0),
+        (InfoKind::Streams, 24, Status::BufferOverflow, 0),
+        (InfoKind::Streams, 37, Status::BufferOverflow, 0),
+        (InfoKind::Streams, 38, Status::BufferOverflow, 38),
+        (InfoKind::Streams, 79, Status::BufferOverflow, 38),
+        (InfoKind::Streams, 80, Status::BufferOverflow, 80),
+        (InfoKind::Streams, 119, Status::BufferOverflow, 80),
+        (InfoKind::Streams, 120, Status::Success, 120),
+    ] {
+        let (told, bytes) = query(alloc, &mut volume, kind, room)?;
+        assert_eq!(rt; (told, bytes.bytes().len()), (status, len), "in {room}");
+    }
+    // the letters of the names of the second and of the third
+    let (_, bytes) = query(alloc, &mut volume, InfoKind::Streams, 120)?;
+    assert_eq!(rt; bytes.bytes().get(66), Some(&65));
+    assert_eq!(rt; bytes.bytes().get(106), Some(&98));
+    Ok(())
+}
+
+// What a file is after a call that sets its times and attributes.
+#[derive(Clone, Copy, Debug, PartialEq, Eq)]
+struct Basic {
+    status: Status,
+    creation: u64,
+    access: u64,
+    write: u64,
+    change: u64,
+    attributes: u32,
+}
+
+// A call that sets these times and attributes of the file of the client's handle 1; the status is that which
+// is awaited.
+fn set_of(asked: Basic) -> Call
+    ensures verb { IsSetBasic result.what }
+{
+    Call {
+        client: 0,
+        number: 2,
+        what: What::Ask(Request::SetBasic {
+            handle: 1,
+            creation: asked.creation,
+            access: asked.access,
+            write: asked.write,
+            change: asked.change,
+            attributes: asked.attributes,
+        }),
+    }
+}
+
+// What the call makes of a file that is open with these rights, on a new volume.
+fn set_basic_on(alloc: Global, volume: &mut Volume, access: u32, call: &Call) -> Result<Basic, Fail>
+    requires numbers { (volume.old.content.last_file < 2 ^ 32 - 4) × (volume.old.content.last_link < 2 ^ 32 - 4) × (volume.old.content.last_stream < 2 ^ 32 - 4) × (volume.old.content.last_handle < 2 ^ 32 - 4) }
+    requires client { 0 < length volume.old.content.clients }
+    requires verb { IsSetBasic call.now.what }
+{
+    let file = open_file(alloc, volume, access)?;
+    let Tried::Done(reply) = try_set_basic(alloc, volume, call, 1) else {
+        return Err(Fail::from("the call hasn't ended"));
+    };
+    let Some(row) = volume.file(file) else {
+        return Err(Fail::from("the file is gone"));
+    };
+    Ok(Basic {
+        status: reply.status,
+        creation: row.creation,
+        access: row.access,
+        write: row.write,
+        change: row.change,
+        attributes: row.attributes,
+    })
+}
+
+// The same at tick 5.
+fn set_basic(alloc: Global, access: u32, asked: Basic) -> Result<Basic, Fail> {
+    let call = set_of(asked);
+    let mut volume = fresh_volume(alloc)?;
+    volume.advance(5);
+    set_basic_on(alloc, &mut volume, access, &call)
+}
+
+#[test]
+fn times_are_set_left_or_taken_from_the_clock(rt: HostRuntime) -> Result<(), Fail> {
+    let alloc = rt.alloc();
+    let basic = |status, creation, access, write, change, attributes| Basic {
+        status,
+        creation,
+        access,
+        write,
+        change,
+        attributes,
+    };
+    let (done, wrong) = (Status::Success, Status::InvalidParameter);
+    let unchanged = |status| basic(status, 1, 2, 3, 4, 0x20);
+    for (access, asked, after) in [
+        (
+            0x100,
+            basic(done, 0, 0, 0, 0, 0),
+            basic(done, 1, 2, 3, 5, 0x20),
+        ),
+        (
+            0x100,
+            basic(done, u64::MAX, u64::MAX - 1, u64::MAX, u64::MAX - 1, 0),
+            unchanged(done),
+        ),
+        (
+            0x100,
+            basic(done, 6, 7, 8, 9, 0x81),
+            basic(done, 6, 7, 8, 9, 0x1),
+        ),
+        (0x100, basic(wrong, 0, 0, 0, 1 << 63, 0), unchanged(wrong)),
+        (
+            0x100,
+            basic(wrong, u64::MAX - 2, 0, 0, 0, 0),
+            unchanged(wrong),
+        ),
+        (0x100, basic(wrong, 6, 0, 0, 0, 0x8), unchanged(wrong)),
+        (0x100, basic(wrong, 6, 0, 0, 0, 0x10), unchanged(wrong)),
+        (
+            0x80,
+            basic(wrong, 6, 0, 0, 0, 0x10),
+            unchanged(Status::AccessDenied),
+        ),
+    ] {
+        assert_eq!(rt; set_basic(alloc, access, asked)?, after);
+    }
     Ok(())
 }
