@@ -1,5 +1,5 @@
 -- The fields of the lines of reparse points and quotas are read again as they are written.
-use Rattle.std.proofs.Common.{◌≡◌, ℕ, ◌≤◌, ◌&&◌, true, List, ◌++◌, length, refl}
+use Rattle.std.proofs.Common.{◌≡◌, ℕ, ◌≤◌, ◌&&◌, true, List, length, refl}
 use Rattle.std.specs.Prelude.{Ok, nat_le}
 use Rattle.std.specs.List.{list_all}
 use Rattle.fsa_types.specs.declared.request.What.TheVariants.{Ask}

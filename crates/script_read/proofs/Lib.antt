@@ -3,6 +3,7 @@ mod ByteLineLemmas
 mod ClockLineLemmas
 mod ControlLineLemmas
 mod DaclLemmas
+mod GeneratorLemmas
 mod InformationLineLemmas
 mod LeastLemmas
 mod LineLemmas

@@ -2,6 +2,7 @@
 
 ghost use Rattle.std.specs.Prelude.{◌≡◌, ℕ, List, true, Ok, Err};
 ghost use Rattle.fsa_model.specs.Fault.{Fault};
+ghost use Rattle.fsa_model.specs.Generator.{generated, generated_text};
 ghost use Rattle.fsa_model.specs.Lines.{Line, line_of};
 ghost use Rattle.fsa_model.specs.Script.{script_of};
 ghost use Rattle.fsa_model.specs.ScriptText.{SpellsScript};
@@ -30,4 +31,9 @@ pub fn a_script_is_read_from_what_spells_it()
     ensures spelled { (bytes : List ℕ) (script : Script) → SpellsScript bytes script → script_of bytes ≡ Ok script }
     ensures back { (bytes : List ℕ) (script : Script) → script_of bytes ≡ Ok script → SpellsScript bytes script }
     ensures none { (bytes : List ℕ) (fault : Fault) (script : Script) → script_of bytes ≡ Err fault → ¬ SpellsScript bytes script }
+{}
+
+/// The text of the generated script of a seed is read as that script.
+pub fn a_generated_script_is_read()
+    ensures { (seed : ℕ) → script_of (generated_text seed) ≡ Ok (generated seed) }
 {}

@@ -19,6 +19,8 @@
 //! It asks nothing of the bytes. It takes time linear in them, and one allocation for each list that
 //! the script has, beside two lists with room for as many clients and calls as there are lines.
 //!
+//! `generate(alloc, seed)` gives the generated script of a seed: 4,096 calls of four clients.
+//!
 //! Caveats. The verbs are `create`, `close`, `read`, `write`, `flush`, `setend`, `lock`, `unlock`,
 //! `oplock`, `ack`, `rename`, `link`, `setdelete`, `query`, `setbasic`, `setsecurity`, `querydir`,
 //! `setreparse`, `getreparse`, `deletereparse`, `setquota`, `queryquota`, `cancel`, `tick` and `wait`;
@@ -36,6 +38,9 @@ mod dacl;
 #[cfg(test)]
 mod dacl_tests;
 mod fault;
+mod generator;
+#[cfg(test)]
+mod generator_tests;
 mod information_lines;
 mod law;
 mod line;
@@ -60,6 +65,9 @@ mod wait_lines;
 mod word;
 
 pub use fault::{ReadFault, ScriptFault, ScriptKind};
-pub use law::{a_script_is_read_from_what_spells_it, least_fault, one_reading};
+pub use generator::generate;
+pub use law::{
+    a_generated_script_is_read, a_script_is_read_from_what_spells_it, least_fault, one_reading,
+};
 pub use read::read_script;
 pub use script::Script;
