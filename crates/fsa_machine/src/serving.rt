@@ -11,9 +11,13 @@ ghost use Rattle.volume_state.specs.Tried.{Gives, HasHoldRoom};
 
 use crate::waiting::{try_cancel, try_wait};
 use fsa_types::{Call, Request, Status, What};
+use op_control::{
+    try_delete_reparse, try_get_reparse, try_query_quota, try_set_quota, try_set_reparse,
+};
 use op_data::{try_flush, try_lock, try_read, try_set_end, try_unlock, try_write};
 use op_delete::{try_close, try_leave, try_set_disposition};
-use op_info::try_set_security;
+use op_dir::try_query_dir;
+use op_info::{try_query_info, try_set_basic, try_set_security};
 use op_link::{try_link, try_rename};
 use op_open::try_create;
 use op_oplock::{try_ack, try_oplock};
@@ -50,16 +54,16 @@ fn try_request(
         Request::Rename { .. } => try_rename(alloc, volume, call, turn),
         Request::Link { .. } => try_link(alloc, volume, call, turn),
         Request::SetDisposition { .. } => try_set_disposition(alloc, volume, call, turn),
-        // No line can ask these so far.
-        Request::QueryDir { .. }
-        | Request::Notify { .. }
-        | Request::QueryInfo { .. }
-        | Request::SetBasic { .. }
-        | Request::SetReparse { .. }
-        | Request::GetReparse { .. }
-        | Request::DeleteReparse { .. }
-        | Request::SetQuota { .. }
-        | Request::QueryQuota { .. } => unreachable!(),
+        Request::QueryDir { .. } => try_query_dir(alloc, volume, call, turn),
+        Request::QueryInfo { .. } => try_query_info(alloc, volume, call, turn),
+        Request::SetBasic { .. } => try_set_basic(alloc, volume, call, turn),
+        Request::SetReparse { .. } => try_set_reparse(alloc, volume, call, turn),
+        Request::GetReparse { .. } => try_get_reparse(alloc, volume, call, turn),
+        Request::DeleteReparse { .. } => try_delete_reparse(alloc, volume, call, turn),
+        Request::SetQuota { .. } => try_set_quota(alloc, volume, call, turn),
+        Request::QueryQuota { .. } => try_query_quota(alloc, volume, call, turn),
+        // No line can ask this so far.
+        Request::Notify { .. } => unreachable!(),
     }
 }
 

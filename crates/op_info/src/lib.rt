@@ -40,8 +40,6 @@ mod room;
 mod security;
 mod shown;
 mod streams;
-#[cfg(test)]
-mod tests;
 mod times;
 
 pub use basic::try_set_basic;
