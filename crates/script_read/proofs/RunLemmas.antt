@@ -4,7 +4,7 @@ use Rattle.std.specs.Prelude.{Result, Ok, Err, ◌==◌, nat_le, is_some}
 use Rattle.std.proofs.lemmas.List.{append_assoc, length-append}
 use Rattle.std.proofs.lemmas.List.Elements.{All-from_recursion}
 use Rattle.std.proofs.lemmas.List.Splits.{slice_split_at}
-use Rattle.std.proofs.lemmas.Bool.{cases_Bool, ne_eqb}
+use Rattle.std.proofs.lemmas.Bool.{ne_eqb}
 use Rattle.fsa_types.specs.CaseTable.{ascii_pairs, is_at_fault}
 use Rattle.fsa_types.specs.declared.request.What.{What}
 use Rattle.fsa_model.specs.Fault.{Kind, BadCut, BadSyntax, BadClient, Fault, ◌>>=◌, only_if}
