@@ -12,18 +12,18 @@
 //!
 //! The parts group so: room (`room_to_wait`); breaks (`break_for`, `held`); the walk along a path (`walk`,
 //! `has_point`), and a request that a reparse point stops (`stopped`); a file (`creation_time`, `access_time`,
-//! `write_time`, `attributes_of`, `owner_of`, `is_readonly`, `set_change_time`); a link (`linked_file`,
-//! `is_link_marked`, `name_bit`); a stream (`is_marked`, `is_named_stream`, `named_stream`); handles
-//! (`is_any_open`); rights (`has_right`, `grants`). Those of a walk, a file, a link, a stream and handles have
-//! the names of their definitions in `fsa_model` (`has_point` asks its `point_of`, `set_change_time` is its
-//! `with_change_time`); a break is its `with_breaks` and `waits_for`, and
-//! `has_right` is `has_any` of `fsa_types`. `Room` has the conditions that verbs name: room for a break and a
-//! call that is held (`HasWaitRoom`), and room for a note (`HasNoteRoom`).
+//! `write_time`, `attributes_of`, `owner_of`, `is_readonly`, `set_change_time`); a link (`file_of_link`,
+//! `linked_file`, `is_link_marked`, `is_link_of_parent`, `name_bit`); a stream (`is_marked`,
+//! `is_named_stream`, `named_stream`); handles (`is_any_open`); rights (`has_right`, `grants`). Those of a
+//! walk, a file, a link, a stream and handles have the names of their definitions in `fsa_model` (`has_point`
+//! asks its `point_of`, `set_change_time` is its `with_change_time`); a break is its `with_breaks` and
+//! `waits_for`, and `has_right` is `has_any` of `fsa_types`. `Room` has the conditions that verbs name: room
+//! for a break and a call that is held (`HasWaitRoom`), and room for a note (`HasNoteRoom`).
 //!
 //! - A break asks that its room was taken and that numbers are left for breaks; nothing can be refused then.
 //!   The parts on a file, a link, a stream, handles and rights ask nothing and change nothing, but that
 //!   `grants` asks for a client of the volume, and `set_change_time` changes that: of a file, a link or a
-//!   stream that isn't there they tell 0, or that it isn't so.
+//!   stream that isn't there they tell 0, that there is none, or that it isn't so.
 //! - A break costs what `volume_breaks` says, a walk one look-up of each kind for each component, `grants` the
 //!   entries of an access list, `is_any_open` a look at all handles, each with the links above it where the set
 //!   is what lies below a directory, and any other part of a volume a look-up or a few.
@@ -44,7 +44,7 @@ pub use files::{
     access_time, attributes_of, creation_time, is_readonly, owner_of, set_change_time, write_time,
 };
 pub use handles::is_any_open;
-pub use links::{is_link_marked, linked_file, name_bit};
+pub use links::{file_of_link, is_link_marked, is_link_of_parent, linked_file, name_bit};
 pub use paths::{Walked, has_point, walk};
 pub use rights::{grants, has_right};
 pub use room::room_to_wait;

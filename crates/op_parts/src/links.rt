@@ -2,8 +2,8 @@
 
 ghost use Rattle.std.specs.Prelude.{◌≡◌, true, false, IfSome};
 ghost use Rattle.fsa_types.specs.Rows.{row_of};
-ghost use Rattle.fsa_model.specs.Close.{name_bit};
-ghost use Rattle.fsa_model.specs.Lookups.{has_child, is_directory, is_link_marked, linked_file};
+ghost use Rattle.fsa_model.specs.Close.{is_link_of_parent, name_bit};
+ghost use Rattle.fsa_model.specs.Lookups.{file_of_link, has_child, is_directory, is_link_marked, linked_file};
 
 use bitflags::Flags;
 use fsa_types::NotifyFilter;
@@ -16,6 +16,30 @@ pub fn linked_file(volume: &Volume, link: u64) -> u64
     match volume.link(link) {
         None => 0,
         Some(row) => row.file,
+    }
+}
+
+/// The file of a link, of link 0 the root; `None` exactly where there is no such link.
+pub fn file_of_link(volume: &Volume, link: u64) -> Option<u64>
+    ensures { result ≡ file_of_link volume.now.content.links link }
+{
+    if link == 0 {
+        return Some(volume.root());
+    }
+    match volume.link(link) {
+        None => None,
+        Some(row) => Some(row.file),
+    }
+}
+
+/// Whether the link is that of a directory with a link in it, marked or not.
+pub fn is_link_of_parent(volume: &Volume, link: u64) -> bool
+    ensures of_parent { result ≡ is_link_of_parent volume.now.content link }
+    ensures empty { result ≡ false → IfSome (row_of volume.now.content.links link) (λ row. has_child volume.now.content.links row.file ≡ false) }
+{
+    match volume.link(link) {
+        None => false,
+        Some(row) => volume.has_child(row.file),
     }
 }
 
