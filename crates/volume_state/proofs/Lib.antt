@@ -1,3 +1,4 @@
+pub mod ChildLaws
 pub mod DropLaws
 pub mod GrantLaws
 pub mod GrowthLemmas

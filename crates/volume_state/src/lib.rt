@@ -15,8 +15,8 @@
 //! ```
 //!
 //! The calls group so: making and room (`new`, `reserve`, `reserve_bytes`); what is there (`file`,
-//! `link`, `stream`, `handle`, `pending`, `ended`, each by number, and `child`, `stream_of`,
-//! `default_stream`, `stream_after`,
+//! `link`, `stream`, `handle`, `pending`, `ended`, each by number, and `child`, `first_child`, `child_after`,
+//! `link_of`, `cursor`, `stream_of`, `default_stream`, `stream_after`,
 //! `handle_of`, `next_handle_of`, `next_pending`, `pending_calls`, `pending_room`, `root`, `is_directory`,
 //! `dir_link`, `has_child`, `links_of`, `is_at_or_below`, `handles_on`, `clashes`, `locks_of`, `bytes_of`,
 //! `clock`, `has_left`, `table`, `sids`,
@@ -50,7 +50,9 @@
 //! all the same, for any that there are.
 #![tactic(auto)]
 
+mod children;
 mod control;
+mod cursors;
 mod files;
 mod growth;
 mod handles;

@@ -1,0 +1,20 @@
+use Rattle.std.proofs.Common.{Some, ◌∙◌, ap}
+use Rattle.std.specs.Prelude.{filter}
+use Rattle.volume_state.specs.Children.{is_unmarked}
+use Rattle.volume_state.specs.Inside.{content_of}
+use Rattle.volume_state.proofs.ChildLaws.{children-all, children-listed, children-lives}
+use Rattle.volume_state.proofs.volume.Volume.child_after.Goals as goal
+
+pub returns-clause-lives : goal.returns-clause-lives
+returns-clause-lives c =
+    rw (← c.self.view_is, c.find_child_after.ensures, c.as_slice.ensures.rows) (children-lives (content_of c.self.inside) c.args.dir (Some c.args.units.now) c.self.invariant.0)
+
+pub returns-clause-all : goal.returns-clause-all
+returns-clause-all c =
+    rw (← c.self.view_is, c.find_child_after.ensures, c.as_slice.ensures.rows) (children-all (content_of c.self.inside) c.args.dir (Some c.args.units.now) c.self.invariant.0)
+
+pub returns-clause-listed : goal.returns-clause-listed
+returns-clause-listed c =
+    rw (← c.self.view_is, c.find_child_after.ensures, c.as_slice.ensures.rows)
+    (ap (filter is_unmarked) (children-all (content_of c.self.inside) c.args.dir (Some c.args.units.now) c.self.invariant.0)
+    ∙ children-listed (content_of c.self.inside) c.args.dir (Some c.args.units.now) c.self.invariant.0)
