@@ -1,6 +1,6 @@
 //! Buffers of entries, written.
 
-ghost use Rattle.std.specs.Prelude.{◌≡◌, ◌+◌, ◌<◌, ◌≤◌, ◌^◌, ◌++◌, length, take, map, All, IfOk, OnOk};
+ghost use Rattle.std.specs.Prelude.{◌≡◌, ◌+◌, ◌<◌, ◌≤◌, ◌^◌, ◌++◌, length, take, map, IfOk, OnOk};
 ghost use Rattle.fsa_types.specs.declared.reply.PackKind.TheVariants.{Streams, Changes};
 ghost use Rattle.fsa_types.specs.PackedRows.{pack_kind};
 ghost use Rattle.fsa_types.specs.Packing.{entries_bytes, bytes, fitting, packed};
@@ -69,10 +69,11 @@ fn pack<T: Row>(
     Ok((Bytes::from(out), count))
 }
 
-/// The buffer of these changes, after [MS-FSCC] 'FILE_NOTIFY_INFORMATION'. Each name has to have
-/// fewer than 2^31 - 8 units.
+/// The buffer of these changes, after [MS-FSCC] 'FILE_NOTIFY_INFORMATION'. The lengths of each entry have to
+/// fit 32 bits: it is so where each name has fewer than 2^31 - 8 units, and where all of them take less than
+/// 2^32 bytes.
 pub fn pack_changes(alloc: Global, rows: &[ChangeRow]) -> Result<Bytes, NoMemory>
-    requires { All (λ row. length row.name + 8 < 2 ^ 31) rows.now }
+    requires { AreWritable Changes (map (packed Changes) rows.now) }
     ensures bytes { IfOk result (λ made. made ≡ bytes Changes rows.now) }
     ensures entries { OnOk result (AreEntries Changes (map (packed Changes) rows.now)) }
 {
