@@ -1,57 +1,11 @@
--- The log of changes: what is written later leaves what was noted before.
-use Rattle.std.proofs.Common.{◌≡◌, ℕ, suc, ◌+◌, ◌-◌, ◌≤◌, List, [], ◌∷◌, ◌++◌, length, take, drop, get_or, refl, ap, sym, ◌∙◌, arith, add-one, inl, inr, Some, None, length-append, length-drop}
-use Rattle.std.specs.Prelude.{map, option_map, reverse, All}
-use Rattle.std.proofs.lemmas.List.{take-append-le, drop-append-le, reverse-append, reverse-reverse, length-reverse}
+-- The walk up from a directory that a note takes, and the paths that it writes.
+use Rattle.std.proofs.Common.{◌≡◌, ℕ, ◌+◌, ◌-◌, ◌≤◌, List, [], ◌∷◌, ◌++◌, length, refl, ap, sym, ◌∙◌, arith, add-one, inl, inr, Some, None, length-append}
+use Rattle.std.specs.Prelude.{option_map, reverse}
+use Rattle.std.proofs.lemmas.List.{reverse-append, reverse-reverse, length-reverse}
 use Rattle.fsa_model.specs.Changes.{ancestors, path_units}
 use Rattle.fsa_model.specs.Lookups.{link_of_file}
 use Rattle.fsa_model.specs.Volume.{Link}
 use Rattle.fsa_model.proofs.RowLaws.{option_cases}
-use Rattle.volume_rows.specs.Changes.{relative, change_of, changes_of, IsLog}
-use Rattle.volume_rows.specs.declared.changes.Entry.{Entry}
-
-pub map-same : {X Y : Type 0} (f g : X → Y) (xs : List X) → All (λ x. f x ≡ g x) xs → map f xs ≡ map g xs
-map-same f g [] same = refl
-map-same f g (x ∷ xs) same = rw (same 0 x (omega arith)) (ap (λ rest. g x ∷ rest) (map-same f g xs (λ k d within. same (suc k) d (omega arith))))
-
--- a part stays where more is written behind
-pub part-append : {X : Type 0} (xs more : List X) (first n : ℕ) → first + n ≤ length xs → take n (drop first (xs ++ more)) ≡ take n (drop first xs)
-part-append {X} xs more first n within =
-    rw (drop-append-le first xs more (omega arith)) (take-append-le n (drop first xs) more (omega (arith, length-drop {A = X})))
-
-pub changes_of-units : (units more : List ℕ) (dirs : List (ℕ × ℕ)) (entries : List Entry) (first_unit first_dir : ℕ) → IsLog units dirs entries first_unit first_dir
-    → changes_of (units ++ more) dirs entries ≡ changes_of units dirs entries
-changes_of-units units more dirs entries first_unit first_dir log =
-    map-same (change_of (units ++ more) dirs) (change_of units dirs) entries (λ k d within.
-    let lies = log.entries_lie k d within in
-    let start = log.unit_lies in
-    ap (λ (path : List ℕ). record {
-      action = (get_or entries k d).action;
-      bits = (get_or entries k d).bits;
-      seen_from = map (relative path) (take (get_or entries k d).dirs (drop (get_or entries k d).first_dir dirs));
-    })
-    (part-append units more (get_or entries k d).first_unit (get_or entries k d).units (omega arith)))
-
-pub changes_of-dirs : (units : List ℕ) (dirs more : List (ℕ × ℕ)) (entries : List Entry) (first_unit first_dir : ℕ) → IsLog units dirs entries first_unit first_dir
-    → changes_of units (dirs ++ more) entries ≡ changes_of units dirs entries
-changes_of-dirs units dirs more entries first_unit first_dir log =
-    map-same (change_of units (dirs ++ more)) (change_of units dirs) entries (λ k d within.
-    let lies = log.entries_lie k d within in
-    let start = log.dir_lies in
-    ap (λ (seen : List (ℕ × ℕ)). record {
-      action = (get_or entries k d).action;
-      bits = (get_or entries k d).bits;
-      seen_from = map (relative (take (get_or entries k d).units (drop (get_or entries k d).first_unit units))) seen;
-    })
-    (part-append dirs more (get_or entries k d).first_dir (get_or entries k d).dirs (omega arith)))
-
-pub seen-units : (units more : List ℕ) (dirs : List (ℕ × ℕ)) (entries : List Entry) (first_unit first_dir : ℕ) → IsLog units dirs entries first_unit first_dir
-    → map (relative (drop first_unit (units ++ more))) (drop first_dir dirs) ≡ map (relative (drop first_unit units)) (drop first_dir dirs)
-seen-units units more dirs entries first_unit first_dir log =
-    map-same (relative (drop first_unit (units ++ more))) (relative (drop first_unit units)) (drop first_dir dirs) (λ k d within.
-    let lies = log.names_lie k d within in
-    let start = log.unit_lies in
-    rw (drop-append-le first_unit units more start)
-    (ap (λ (name : List ℕ). ((get_or (drop first_dir dirs) k d).0, reverse name)) (take-append-le (get_or (drop first_dir dirs) k d).1 (drop first_unit units) more lies)))
 
 -- the names by which an ancestor sees something are no shorter than its own
 pub path_units-own : (most : ℕ) (links : List (ℕ × Link)) (dir : ℕ) (name : List ℕ) → length name ≤ path_units (ancestors (most + 1) links dir name)

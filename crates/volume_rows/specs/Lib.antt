@@ -1,4 +1,3 @@
-pub mod Changes
 pub mod Children
 pub mod Cursors
 pub mod Effects

@@ -1,5 +1,5 @@
 //! What the tables of a volume hold, and scans over it: the rows of files, links, streams, handles,
-//! oplocks, pending calls and watches, the bytes of one stream, the log of changes, and look-ups over
+//! oplocks, pending calls and watches, the bytes of one stream, changes that are noted, and look-ups over
 //! slices of rows. It knows no volume; `volume_state` keeps its tables of these rows, and answers by
 //! these scans.
 //!
@@ -20,8 +20,8 @@
 //! its bytes); the space that streams take (`charge_for`, `sum_of_clusters`) and what an owner may be
 //! charged (`find_limit`); oplocks (`effect`, `is_awaited`, `in_both`, `is_within`, `is_same_key`, `is_oplock_of`,
 //! `find_break`, `find_target`);
-//! pending calls (`find_pending`, `find_next_pending`, `is_call`) and watches (`is_watch_of`); and
-//! changes noted (`Changes`).
+//! pending calls (`find_pending`, `find_next_pending`, `is_call`) and watches (`find_watch`,
+//! `is_watch_of`); and changes noted (`Changes`), in the log of `notify_queue`.
 //!
 //! Contracts see a row as the row of `fsa_model`'s record, a stream beside the room that was taken for
 //! its bytes, and the changes that were noted beside the room for more.
@@ -35,7 +35,6 @@
 #![tactic(auto)]
 
 mod bytes;
-mod changes;
 mod children;
 mod cursors;
 mod effects;
@@ -50,7 +49,6 @@ mod sharing;
 mod streams;
 mod waiting;
 
-pub use changes::{ChangeLog, Entry};
 pub use children::find_child_after;
 pub use cursors::{Cursor, Enumeration};
 pub use effects::{
@@ -69,5 +67,5 @@ pub use rows::{FileRow, HandleRow, LinkRow, Need, StreamInfo, StreamRow};
 pub use streams::{find_stream, is_stream_of};
 pub use waiting::{
     OplockRow, PendingRow, WatchRow, find_break, find_limit, find_next_pending, find_pending,
-    find_target, is_call, is_oplock_of, is_watch_of,
+    find_target, find_watch, is_call, is_oplock_of, is_watch_of,
 };

@@ -6,10 +6,10 @@ ghost use Rattle.fsa_model.specs.Changes.{ancestors, path_units, stream_suffix};
 ghost use Rattle.fsa_model.specs.Lookups.{link_of_file};
 ghost use Rattle.volume_rows.specs.Noting.{suffix_of};
 
-use crate::changes::ChangeLog;
 use crate::links::find_link_of;
 use crate::rows::LinkRow;
 use fsa_types::NoMemory;
+use notify_queue::ChangeLog;
 use std::alloc::Global;
 use std::marker::Model;
 
@@ -17,11 +17,10 @@ const BACKSLASH: u16 = 92;
 
 const COLON: u16 = 58;
 
-/// The changes that were noted.
+/// The changes that were noted: a log with no change begun.
 #[derive(Debug, Drop)]
 pub struct Changes {
-    /// The log, with no change begun.
-    pub log: ChangeLog,
+    log: ChangeLog,
 }
 
 impl Model for Changes {
@@ -52,6 +51,13 @@ impl Changes {
         ensures kept { (self.old.room ≤ self.new.room) × (self.old.units ≤ self.new.units) × (self.old.dirs ≤ self.new.dirs) }
     {
         self.log.reserve(changes, units, dirs)
+    }
+
+    /// The log of them.
+    pub fn log(&self) -> &ChangeLog
+        ensures { result.now.changes ≡ self.now.changes }
+    {
+        &self.log
     }
 
     /// Notes a change of what has this name in this directory, or of this stream of it. Room has to be

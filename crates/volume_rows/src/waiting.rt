@@ -69,7 +69,7 @@ impl Model for PendingRow {
 }
 
 /// A watch of a directory, after [MS-FSA] 'Per ChangeNotifyEntry'.
-#[derive(Debug, Drop)]
+#[derive(Clone, Copy, Debug)]
 pub struct WatchRow {
     /// Its handle.
     pub handle: u64,
@@ -87,6 +87,8 @@ impl Model for WatchRow {
     ghost Value = { Watch };
 
     ghost view = { λ r. record { handle = r.handle; filter = r.filter; tree = r.tree; from = r.from } };
+
+    ghost inverse = { λ w. record { handle = w.handle; filter = w.filter; tree = w.tree; from = w.from } };
 }
 
 /// Whether an oplock is of this handle.
@@ -129,6 +131,13 @@ pub fn is_watch_of(watch: &WatchRow, handle: u64) -> bool
     ensures { result ≡ (watch.now.handle == handle) }
 {
     watch.handle == handle
+}
+
+/// The watch of this handle; `None` exactly where there is none.
+pub fn find_watch(watches: &[WatchRow], handle: u64) -> Option<&WatchRow>
+    ensures { option_copied result ≡ find (λ watch. watch.handle == handle) watches.now }
+{
+    watches.iter().find(|watch| is_watch_of(watch, handle))
 }
 
 /// Whether this call of this client is the one that is pending.

@@ -1,5 +1,5 @@
-use Rattle.volume_rows.proofs.ChangeLemmas.{changes_of-units, seen-units}
-use Rattle.volume_rows.proofs.changes.ChangeLog.add_unit.Goals as goal
+use Rattle.notify_queue.proofs.LogLemmas.{changes_of-units, seen-units}
+use Rattle.notify_queue.proofs.log.ChangeLog.add_unit.Goals as goal
 
 pub returns-clause-changes : goal.returns-clause-changes
 returns-clause-changes c =

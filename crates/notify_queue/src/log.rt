@@ -1,6 +1,7 @@
 //! The log of changes.
 
-ghost use Rattle.std.specs.Prelude.{ℕ, ◌≡◌, ◌≤◌, ◌<◌, ◌+◌, ◌-◌, ◌++◌, ◌∷◌, [], length, reverse, OnOk};
+ghost use Rattle.std.specs.Prelude.{ℕ, ◌≡◌, ◌≤◌, ◌<◌, ◌+◌, ◌-◌, ◌*◌, ◌^◌, ◌++◌, ◌∷◌, [], length, reverse, OnOk};
+ghost use Rattle.notify_queue.specs.Log.{ArePieces, changes_of};
 
 use fsa_types::NoMemory;
 use object_tables::Series;
@@ -24,6 +25,17 @@ pub struct Entry {
     pub dirs: usize,
 }
 
+// What a log is made of.
+#[derive(Clone, Copy, Debug)]
+pub(crate) struct Pieces<'a> {
+    // Where each change lies.
+    pub entries: &'a [Entry],
+    // The units of all paths.
+    pub units: &'a [u16],
+    // The ancestors of all changes.
+    pub dirs: &'a [(u64, usize)],
+}
+
 /// The changes in order, and a change begun. Paths are written from their last unit to their first,
 /// so that the name relative to an ancestor is the part that was written when the ancestor is reached.
 #[derive(Debug, Drop)]
@@ -41,7 +53,7 @@ pub struct ChangeLog {
 
 impl Model for ChangeLog {
     ghost use Rattle.std.specs.Prelude.{drop, map};
-    ghost use Rattle.volume_rows.specs.Changes.{Log, IsLog, changes_of, relative};
+    ghost use Rattle.notify_queue.specs.Log.{Log, IsLog, changes_of, relative};
 
     ghost Value = { Log };
 
@@ -59,7 +71,7 @@ impl Model for ChangeLog {
 
 impl ChangeLog {
     // No change, and none begun.
-    pub(crate) fn new(alloc: Global) -> ChangeLog
+    pub fn new(alloc: Global) -> ChangeLog
         ensures changes { result.changes ≡ [] }
         ensures path { result.path ≡ [] }
         ensures seen { result.seen ≡ [] }
@@ -74,12 +86,7 @@ impl ChangeLog {
     }
 
     // Takes room for so many changes, units and ancestors in all.
-    pub(crate) fn reserve(
-        &mut self,
-        changes: usize,
-        units: usize,
-        dirs: usize,
-    ) -> Result<(), NoMemory>
+    pub fn reserve(&mut self, changes: usize, units: usize, dirs: usize) -> Result<(), NoMemory>
         ensures same { (self.new.changes ≡ self.old.changes) × (self.new.path ≡ self.old.path) × (self.new.seen ≡ self.old.seen) }
         ensures room { OnOk result ((changes ≤ self.new.room) × (units ≤ self.new.units) × (dirs ≤ self.new.dirs)) }
         ensures kept { (self.old.room ≤ self.new.room) × (self.old.units ≤ self.new.units) × (self.old.dirs ≤ self.new.dirs) }
@@ -91,7 +98,7 @@ impl ChangeLog {
     }
 
     // Puts a unit before the path begun.
-    pub(crate) fn add_unit(&mut self, unit: u16)
+    pub fn add_unit(&mut self, unit: u16)
         requires room { 1 ≤ self.old.units }
         ensures path { self.new.path ≡ self.old.path ++ unit ∷ [] }
         ensures seen { self.new.seen ≡ self.old.seen }
@@ -103,7 +110,7 @@ impl ChangeLog {
     }
 
     // The change begun is seen from this ancestor, by the path begun.
-    pub(crate) fn add_dir(&mut self, dir: u64)
+    pub fn add_dir(&mut self, dir: u64)
         requires room { 1 ≤ self.old.dirs }
         ensures path { self.new.path ≡ self.old.path }
         ensures seen { self.new.seen ≡ self.old.seen ++ (dir, reverse self.old.path) ∷ [] }
@@ -116,7 +123,7 @@ impl ChangeLog {
     }
 
     // Notes the change begun, and begins another.
-    pub(crate) fn finish(&mut self, action: u32, bits: u32)
+    pub fn finish(&mut self, action: u32, bits: u32)
         requires room { 1 ≤ self.old.room }
         ensures path { self.new.path ≡ [] }
         ensures seen { self.new.seen ≡ [] }
@@ -137,4 +144,33 @@ impl ChangeLog {
         self.first_unit = self.units.len();
         self.first_dir = self.dirs.len();
     }
+
+    /// How many changes there are.
+    pub fn len(&self) -> usize
+        ensures { result ≡ length self.now.changes }
+    {
+        self.entries.len()
+    }
+
+    // What it is made of.
+    pub(crate) fn pieces(&self) -> Pieces<'_>
+        ensures changes { self.now.changes ≡ changes_of result.units.now result.dirs.now result.entries.now }
+        ensures pieces { ArePieces result.units.now result.dirs.now result.entries.now }
+    {
+        let entries = self.entries.as_slice();
+        let units = self.units.as_slice();
+        are_few(entries, units);
+        Pieces {
+            entries,
+            units,
+            dirs: self.dirs.as_slice(),
+        }
+    }
+}
+
+// Slices fit the memory that there can be.
+fn are_few(entries: &[Entry], units: &[u16])
+    ensures { 15 * length entries.now + 2 * length units.now < 2 ^ 64 }
+{
+    let _counts = (entries.len(), units.len());
 }

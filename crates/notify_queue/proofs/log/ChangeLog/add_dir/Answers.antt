@@ -1,5 +1,5 @@
-use Rattle.volume_rows.proofs.ChangeLemmas.{changes_of-dirs}
-use Rattle.volume_rows.proofs.changes.ChangeLog.add_dir.Goals as goal
+use Rattle.notify_queue.proofs.LogLemmas.{changes_of-dirs}
+use Rattle.notify_queue.proofs.log.ChangeLog.add_dir.Goals as goal
 
 pub returns-clause-changes : goal.returns-clause-changes
 returns-clause-changes c =

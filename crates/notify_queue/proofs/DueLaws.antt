@@ -1,0 +1,125 @@
+-- What is due, from the parts of a log, and how many bytes it takes.
+use Rattle.std.proofs.Common.{◌≡◌, ℕ, zero, suc, ◌+◌, ◌*◌, ◌/◌, ◌<◌, ◌≤◌, Bool, true, false, cond, List, [], ◌∷◌, ◌++◌, length, take, drop, refl, ap, sym, ◌∙◌, rules, arith, inl, inr, Some, None, Option}
+use Rattle.std.specs.Prelude.{◌==◌, ◌||◌, ◌&&◌, find, map, filter, reverse, option_map}
+use Rattle.std.specs.List.{list_any}
+use Rattle.std.specs.Option.{option_map_or}
+use Rattle.std.proofs.lemmas.Bool.{cases_Bool}
+use Rattle.std.proofs.lemmas.List.{drop-map, length-reverse}
+use Rattle.fsa_types.specs.Access.{has_any}
+use Rattle.fsa_types.specs.declared.reply.PackKind.TheVariants.{Changes}
+use Rattle.fsa_types.specs.Packing.{packed, size_of as size_of_entry}
+use Rattle.fsa_types.specs.PackedRows.{change_row, PackRow}
+use Rattle.fsa_model.specs.Volume.{Change}
+use Rattle.fsa_model.specs.Watching.{is_seen_from, packed_changes}
+use Rattle.fsa_model.proofs.RowLaws.{any-map}
+use Rattle.pack_info.proofs.NumberLaws.{length-name_of}
+use Rattle.pack_info.proofs.PackLaws.{size-one, size-more}
+use Rattle.notify_queue.specs.Due.{row_of_watch, asks_for, told, due_of, due_among, is_seen_among, written_for, rounded, rows_of, size_due, size_of, size_from}
+use Rattle.notify_queue.specs.Log.{relative, change_of, changes_of, units_in}
+use Rattle.notify_queue.specs.declared.log.Entry.{Entry}
+use Rattle.notify_queue.specs.declared.watch.Watch.{Watch}
+
+-- ---- ancestors
+
+pub seen-among : (path : List ℕ) (dir : ℕ) (whole : Bool) (seen : List (ℕ × ℕ)) → is_seen_from dir whole (map (relative path) seen) ≡ is_seen_among dir whole seen
+seen-among path dir whole [] = refl
+seen-among path dir whole (parent ∷ above) =
+    ap (λ (any : Bool). parent.0 == dir || (whole && any)) (any-map (λ (ancestor : ℕ × List ℕ). ancestor.0 == dir) (relative path) above)
+
+-- the name from the directory is what of the path was written when it was reached
+pub name-written : (path : List ℕ) (dir : ℕ) (seen : List (ℕ × ℕ))
+    → option_map_or (λ (ancestor : ℕ × List ℕ). ancestor.1) (find (λ (ancestor : ℕ × List ℕ). ancestor.0 == dir) (map (relative path) seen)) [] ≡ reverse (take (written_for dir seen) path)
+name-written path dir [] = refl
+name-written path dir (ancestor ∷ seen) = elim (cases_Bool (ancestor.0 == dir)) [
+  | inl is ↦ rw is refl
+  | inr isnt ↦ rw isnt (name-written path dir seen)
+]
+
+pub asks-parts : (watch : Watch) (units : List ℕ) (dirs : List (ℕ × ℕ)) (entry : Entry)
+    → asks_for watch units dirs entry ≡ (is_seen_among watch.dir watch.tree (take entry.dirs (drop entry.first_dir dirs)) && has_any entry.bits watch.filter)
+asks-parts watch units dirs entry =
+    ap (λ (seen : Bool). seen && has_any entry.bits watch.filter)
+    (seen-among (take entry.units (drop entry.first_unit units)) watch.dir watch.tree (take entry.dirs (drop entry.first_dir dirs)))
+
+-- the path of an entry relative to the directory, from its last unit to its first
+abbrev pub path_of : Watch → List ℕ → List (ℕ × ℕ) → Entry → List ℕ
+path_of watch units dirs entry = take (written_for watch.dir (take entry.dirs (drop entry.first_dir dirs))) (take entry.units (drop entry.first_unit units))
+
+told-name : (watch : Watch) (units : List ℕ) (dirs : List (ℕ × ℕ)) (entry : Entry) (path : List ℕ) → path ≡ path_of watch units dirs entry → (told watch units dirs entry).1 ≡ reverse path
+told-name watch units dirs entry path is =
+    name-written (take entry.units (drop entry.first_unit units)) watch.dir (take entry.dirs (drop entry.first_dir dirs)) ∙ ap (λ (name : List ℕ). reverse name) (sym is)
+
+pub size-told : (size : ℕ) (watch : Watch) (units : List ℕ) (dirs : List (ℕ × ℕ)) (entry : Entry) (path : List ℕ) → asks_for watch units dirs entry ≡ true → path ≡ path_of watch units dirs entry
+    → (size + 3) / 4 * 4 + 12 + 2 * length path ≡ cond (asks_for watch units dirs entry) (rounded size + size_of (told watch units dirs entry)) size
+size-told size watch units dirs entry path asked is =
+    let long : length (told watch units dirs entry).1 ≡ length path = ap (λ (name : List ℕ). length name) (told-name watch units dirs entry path is) ∙ length-reverse path in
+    rw asked (omega (arith, long))
+
+pub row-told : (watch : Watch) (units : List ℕ) (dirs : List (ℕ × ℕ)) (entry : Entry) (path : List ℕ) → asks_for watch units dirs entry ≡ true → path ≡ path_of watch units dirs entry
+    → rows_of (cond (asks_for watch units dirs entry) (told watch units dirs entry ∷ []) []) ≡ change_row entry.action (reverse path) ∷ []
+row-told watch units dirs entry path asked is = rw asked (ap (λ (name : List ℕ). change_row entry.action name ∷ []) (told-name watch units dirs entry path is))
+
+-- ---- sizes
+
+entry-size : (change : ℕ × List ℕ) → size_of_entry Changes (packed Changes (change_row change.0 change.1)) ≡ size_of change
+entry-size change = omega (arith, length-name_of Changes change.1)
+
+size_from-more : (size : ℕ) (change : ℕ × List ℕ) (changes : List (ℕ × List ℕ)) → size_from size (change ∷ changes) ≡ rounded size + length (packed_changes (change ∷ changes))
+size_from-more size change [] = omega (arith, entry-size change, size-one Changes (packed Changes (change_row change.0 change.1)))
+size_from-more size change (next ∷ changes) =
+    let behind = size_from-more (rounded size + size_of change) next changes in
+    let both = size-more Changes (packed Changes (change_row change.0 change.1)) (packed Changes (change_row next.0 next.1)) (map (packed Changes) (rows_of changes)) in
+    omega (arith, behind, both, entry-size change)
+
+pub size_from-is : (due : List (ℕ × List ℕ)) → size_from 0 due ≡ length (packed_changes due)
+size_from-is [] = refl
+size_from-is (change ∷ changes) = omega (arith, size_from-more 0 change changes)
+
+positive : (size : ℕ) (change : ℕ × List ℕ) (changes : List (ℕ × List ℕ)) → 0 < size_from size (change ∷ changes)
+positive size change [] = omega arith
+positive size change (next ∷ changes) = positive (rounded size + size_of change) next changes
+
+pub size_due-is : (due : List (ℕ × List ℕ)) → size_due due ≡ cond (length (packed_changes due) == 0) None (Some (length (packed_changes due)))
+size_due-is [] = refl
+size_due-is (change ∷ changes) =
+    let more = positive 0 change changes in
+    let is = size_from-is (change ∷ changes) in
+    let some : (length (packed_changes (change ∷ changes)) == 0) ≡ false = grind arith in
+    rw some refl
+
+-- ---- entry by entry
+
+pub size-step : (watch : Watch) (units : List ℕ) (dirs : List (ℕ × ℕ)) (entry : Entry) (more : List Entry) (size : ℕ)
+    → size_from (cond (asks_for watch units dirs entry) (rounded size + size_of (told watch units dirs entry)) size) (due_among watch units dirs more) ≡ size_from size (due_among watch units dirs (entry ∷ more))
+size-step watch units dirs entry more size = elim (cases_Bool (asks_for watch units dirs entry)) [
+  | inl is ↦ rw is refl
+  | inr isnt ↦ rw isnt refl
+]
+
+pub rows-step : (watch : Watch) (units : List ℕ) (dirs : List (ℕ × ℕ)) (entry : Entry) (more : List Entry)
+    → rows_of (cond (asks_for watch units dirs entry) (told watch units dirs entry ∷ []) []) ++ rows_of (due_among watch units dirs more) ≡ rows_of (due_among watch units dirs (entry ∷ more))
+rows-step watch units dirs entry more = elim (cases_Bool (asks_for watch units dirs entry)) [
+  | inl is ↦ rw is refl
+  | inr isnt ↦ rw isnt refl
+]
+
+-- ---- the whole
+
+filter-changes : (watch : Watch) (units : List ℕ) (dirs : List (ℕ × ℕ)) (entries : List Entry) → due_among watch units dirs entries ≡ due_of (changes_of units dirs entries) (record watch { from = 0 })
+filter-changes watch units dirs [] = refl
+filter-changes watch units dirs (entry ∷ entries) = elim (cases_Bool (asks_for watch units dirs entry)) [
+  | inl is ↦ rw is (ap (λ (due : List (ℕ × List ℕ)). told watch units dirs entry ∷ due) (filter-changes watch units dirs entries))
+  | inr isnt ↦ rw isnt (filter-changes watch units dirs entries)
+]
+
+due_among-is : (watch : Watch) (units : List ℕ) (dirs : List (ℕ × ℕ)) (entries : List Entry) → due_among watch units dirs (drop watch.from entries) ≡ due_of (changes_of units dirs entries) watch
+due_among-is watch units dirs entries = filter-changes watch units dirs (drop watch.from entries) ∙ ap (λ (changes : List Change). due_of changes (record watch { from = 0 })) (sym (drop-map (change_of units dirs) watch.from entries))
+
+pub due-is : (changes : List Change) (watch : Watch) (units : List ℕ) (dirs : List (ℕ × ℕ)) (entries due : List Entry) → changes ≡ changes_of units dirs entries → due ≡ drop watch.from entries
+    → due_among watch units dirs due ≡ due_of changes watch
+due-is changes watch units dirs entries due noted from = rw (noted, from) (due_among-is watch units dirs entries)
+
+pub units_in-drop : (n : ℕ) (entries : List Entry) → units_in (drop n entries) ≤ units_in entries
+units_in-drop zero entries = omega arith
+units_in-drop (suc n) [] = omega arith
+units_in-drop (suc n) (entry ∷ entries) = omega (arith, units_in-drop n entries)

@@ -1,0 +1,2 @@
+pub mod DueLaws
+pub mod LogLemmas

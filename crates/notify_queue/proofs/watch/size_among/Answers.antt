@@ -1,0 +1,18 @@
+use Rattle.std.proofs.Common.{List, ap, sym, ◌∙◌, suc, arith}
+use Rattle.notify_queue.specs.Due.{due_among, size_from}
+use Rattle.notify_queue.specs.declared.log.Entry.{Entry}
+use Rattle.notify_queue.proofs.DueLaws.{size-step}
+use Rattle.notify_queue.proofs.watch.size_among.Goals as goal
+
+pub entries-preserved : goal.entries-preserved
+entries-preserved c =
+    let step = size-step c.args.watch.now c.args.units.now c.args.dirs.now c.in-Some.entry.now c.in-Some.more.now c.entries.size in
+    let few = rw c.in-Some.ensures.cases.0 at c.entries.invariant.few in
+    let lie = rw c.in-Some.ensures.cases.0 at c.entries.invariant.lie in
+    let bound = c.size_with-size.ensures.bound in
+    record {
+      all = rw c.size_with-size.ensures.size
+          (step ∙ ap (λ (entries : List Entry). size_from c.entries.size (due_among c.args.watch.now c.args.units.now c.args.dirs.now entries)) (sym c.in-Some.ensures.cases.0) ∙ c.entries.invariant.all);
+      lie = λ k d within. lie (suc k) d (omega arith);
+      few = omega arith;
+    }

@@ -1,0 +1,113 @@
+//! What is due to watches of two directories, and its bytes, spelled by hand; and that a report leaves
+//! nothing due.
+
+use super::*;
+use fsa_types::{Bytes, NoMemory};
+use std::alloc::Global;
+use std::test::Fail;
+
+// `b` in the directory 5, which is `a` in the root, and then `c` in the root.
+fn noted(alloc: Global) -> Result<ChangeLog, NoMemory> {
+    let mut log = ChangeLog::new(alloc);
+    log.reserve(2, 4, 3)?;
+    log.add_unit(98);
+    log.add_dir(5);
+    log.add_unit(92);
+    log.add_unit(97);
+    log.add_dir(1);
+    log.finish(1, 1);
+    log.add_unit(99);
+    log.add_dir(1);
+    log.finish(3, 16);
+    Ok(log)
+}
+
+// A watch, and the packed entries of what is due to it.
+struct Case {
+    watch: Watch,
+    packed: &'static [u8],
+}
+
+const fn watch(dir: u64, filter: u32, tree: bool, from: u64) -> Watch {
+    Watch {
+        dir,
+        filter,
+        tree,
+        from,
+    }
+}
+
+const BELOW_AND_IN: &[u8] = &[
+    0x14, 0, 0, 0, 1, 0, 0, 0, 6, 0, 0, 0, 97, 0, 92, 0, 98, 0, 0, 0, 0, 0, 0, 0, 3, 0, 0, 0, 2, 0,
+    0, 0, 99, 0,
+];
+
+const B: &[u8] = &[0, 0, 0, 0, 1, 0, 0, 0, 2, 0, 0, 0, 98, 0];
+
+const C: &[u8] = &[0, 0, 0, 0, 3, 0, 0, 0, 2, 0, 0, 0, 99, 0];
+
+const CASES: [Case; 6] = [
+    Case {
+        watch: watch(1, 17, true, 0),
+        packed: BELOW_AND_IN,
+    },
+    Case {
+        watch: watch(1, 17, false, 0),
+        packed: C,
+    },
+    Case {
+        watch: watch(5, 17, false, 0),
+        packed: B,
+    },
+    Case {
+        watch: watch(1, 17, true, 1),
+        packed: C,
+    },
+    Case {
+        watch: watch(1, 2, true, 0),
+        packed: &[],
+    },
+    Case {
+        watch: watch(6, 17, true, 0),
+        packed: &[],
+    },
+];
+
+// Whether the size of what is due is that of these bytes; there is none where they are none.
+fn is_size(size: Option<u64>, packed: &[u8]) -> bool {
+    match size {
+        None => packed.is_empty(),
+        Some(size) => size == packed.len() as u64 && !packed.is_empty(),
+    }
+}
+
+// Whether these bytes are given.
+fn is_given(taken: Option<Bytes>, packed: &[u8]) -> bool {
+    match taken {
+        None => false,
+        Some(bytes) => bytes.bytes() == packed,
+    }
+}
+
+// Whether a report with just enough room gives these bytes, and one with less gives none; and nothing is
+// due after either.
+fn reports(alloc: Global, log: &ChangeLog, case: &Case) -> Result<bool, NoMemory> {
+    let size = is_size(case.watch.due_size(log), case.packed);
+    let room = case.packed.len() as u32;
+    let mut watch = case.watch;
+    let given = is_given(watch.take(alloc, log, room)?, case.packed);
+    let mut other = case.watch;
+    let withheld = room == 0 || other.take(alloc, log, room - 1)?.is_none();
+    let none_left = watch.due_size(log).is_none() && (room == 0 || other.due_size(log).is_none());
+    Ok(size && given && withheld && none_left)
+}
+
+#[test]
+fn what_is_due_is_told_once(rt: HostRuntime) -> Result<(), Fail> {
+    let log = noted(rt.alloc())?;
+    for case in &CASES {
+        let right = reports(rt.alloc(), &log, case)?;
+        assert!(rt; right, "{:?}", case.watch);
+    }
+    Ok(())
+}

@@ -1,0 +1,255 @@
+//! Watches of directories.
+
+ghost use Rattle.std.specs.Prelude.{ℕ, List, ◌≡◌, ◌≤◌, ◌<◌, ◌+◌, ◌*◌, ◌^◌, ◌==◌, ◌++◌, ◌∷◌, [], All, cond, drop, find, length, map, reverse, take, IfOk, OnErr, OnOk};
+ghost use Rattle.std.specs.List.{list_any};
+ghost use Rattle.std.specs.Option.{option_copied};
+ghost use Rattle.fsa_types.specs.Access.{has_any};
+ghost use Rattle.fsa_model.specs.Watching.{packed_changes};
+ghost use Rattle.notify_queue.specs.Due.{asks_for, due_among, due_of, is_seen_among, packed_within, rounded, rows_of, size_due, size_from, size_of, told, written_for};
+ghost use Rattle.notify_queue.specs.Log.{units_in};
+
+use crate::log::{ChangeLog, Entry};
+use fsa_types::{Bytes, Name, NoMemory};
+use pack_info::{ChangeRow, pack_changes};
+use std::alloc::Global;
+
+/// A watch of a directory, after [MS-FSA] 'Per ChangeNotifyEntry'.
+#[derive(Clone, Copy, Debug, PartialEq, Eq)]
+pub struct Watch {
+    /// The file number of the directory.
+    pub dir: u64,
+    /// What it asks for, as a `NotifyFilter`.
+    pub filter: u32,
+    /// Whether all below the directory counts.
+    pub tree: bool,
+    /// The place in the list of changes, from 0, from which on they are due.
+    pub from: u64,
+}
+
+impl Watch {
+    /// How many bytes a report of what is due takes; `None` exactly where nothing is due. It takes no
+    /// memory.
+    pub fn due_size(&self, log: &ChangeLog) -> Option<u64>
+        ensures { result ≡ size_due (due_of log.now.changes self.now) }
+    {
+        let size = size_of_due(self, log);
+        if size == 0 { None } else { Some(size) }
+    }
+
+    /// The packed entries of what is due, after [MS-FSCC] 'FILE_NOTIFY_INFORMATION'; `None` exactly where they
+    /// take more than `room` bytes. In both cases only what is noted from now on is due. `NoMemory` changes
+    /// nothing, and comes only where they take no more.
+    pub fn take(
+        &mut self,
+        alloc: Global,
+        log: &ChangeLog,
+        room: u32,
+    ) -> Result<Option<Bytes>, NoMemory>
+        ensures packed { IfOk result (λ packed. packed ≡ packed_within (due_of log.now.changes self.old) room) }
+        ensures seen { OnOk result (self.new ≡ record self.old { from = length log.now.changes }) }
+        ensures unchanged { OnErr result (self.new ≡ self.old) }
+        ensures within { OnErr result (length (packed_changes (due_of log.now.changes self.old)) ≤ room) }
+    {
+        let packed = if size_of_due(self, log) > room as u64 {
+            None
+        } else {
+            Some(packed_due(alloc, self, log)?)
+        };
+        self.from = log.len() as u64;
+        Ok(packed)
+    }
+}
+
+// How many bytes a report of what is due takes.
+fn size_of_due(watch: &Watch, log: &ChangeLog) -> u64
+    ensures { result ≡ length (packed_changes (due_of log.now.changes watch.now)) }
+{
+    let pieces = log.pieces();
+    let entries = from_place(pieces.entries, watch.from);
+    size_among(watch, entries, pieces.units, pieces.dirs)
+}
+
+// The packed entries of what is due, which have to take less than 2^32 bytes.
+fn packed_due(alloc: Global, watch: &Watch, log: &ChangeLog) -> Result<Bytes, NoMemory>
+    requires { length (packed_changes (due_of log.now.changes watch.now)) < 2 ^ 32 }
+    ensures { IfOk result (λ packed. packed ≡ packed_changes (due_of log.now.changes watch.now)) }
+{
+    let rows = rows_due(alloc, watch, log)?;
+    pack_changes(alloc, &rows)
+}
+
+// The rows of what is due.
+fn rows_due(alloc: Global, watch: &Watch, log: &ChangeLog) -> Result<Vec<ChangeRow>, NoMemory>
+    ensures { IfOk result (λ rows. rows.items ≡ rows_of (due_of log.now.changes watch.now)) }
+{
+    let pieces = log.pieces();
+    let entries = from_place(pieces.entries, watch.from);
+    rows_among(alloc, watch, entries, pieces.units, pieces.dirs)
+}
+
+// The entries from this place on.
+fn from_place(entries: &[Entry], place: u64) -> &[Entry]
+    ensures { result.now ≡ drop place entries.now }
+{
+    let place = place as usize;
+    if place < entries.len() {
+        &entries[place..]
+    } else {
+        &[]
+    }
+}
+
+// How many bytes a report of what is due of these entries takes.
+fn size_among(watch: &Watch, entries: &[Entry], units: &[u16], dirs: &[(u64, usize)]) -> u64
+    requires lie { All (λ entry. (entry.first_unit + entry.units ≤ length units.now) × (entry.first_dir + entry.dirs ≤ length dirs.now)) entries.now }
+    requires few { 15 * length entries.now + 2 * units_in entries.now < 2 ^ 64 }
+    ensures { result ≡ size_from 0 (due_among watch.now units.now dirs.now entries.now) }
+{
+    let mut rest = entries;
+    let mut size = 0;
+    'entries: while let Some((entry, more)) = rest.split_first() {
+        size = size_with(size, watch, entry, units, dirs);
+        rest = more;
+    }
+    size
+}
+
+// The rows of what is due of these entries.
+fn rows_among(
+    alloc: Global,
+    watch: &Watch,
+    entries: &[Entry],
+    units: &[u16],
+    dirs: &[(u64, usize)],
+) -> Result<Vec<ChangeRow>, NoMemory>
+    requires lie { All (λ entry. (entry.first_unit + entry.units ≤ length units.now) × (entry.first_dir + entry.dirs ≤ length dirs.now)) entries.now }
+    ensures { IfOk result (λ rows. rows.items ≡ rows_of (due_among watch.now units.now dirs.now entries.now)) }
+{
+    let mut rest = entries;
+    let mut rows = Vec::new(alloc);
+    'entries: while let Some((entry, more)) = rest.split_first() {
+        push_row(alloc, &mut rows, watch, entry, units, dirs)?;
+        rest = more;
+    }
+    Ok(rows)
+}
+
+// So many bytes with the entry behind them, where the watch asks for its change.
+fn size_with(size: u64, watch: &Watch, entry: &Entry, units: &[u16], dirs: &[(u64, usize)]) -> u64
+    requires lies { (entry.now.first_unit + entry.now.units ≤ length units.now) × (entry.now.first_dir + entry.now.dirs ≤ length dirs.now) }
+    requires few { size + 15 + 2 * entry.now.units < 2 ^ 64 }
+    ensures size { result ≡ cond (asks_for watch.now units.now dirs.now entry.now) (rounded size + size_of (told watch.now units.now dirs.now entry.now)) size }
+    ensures bound { result ≤ size + 15 + 2 * entry.now.units }
+{
+    if !asks_for(watch, entry, dirs) {
+        return size;
+    }
+    let name = path_for(watch.dir, entry, units, dirs);
+    (size + 3) / 4 * 4 + 12 + 2 * name.len() as u64
+}
+
+// Puts the row of the entry at the end, where the watch asks for its change.
+fn push_row(
+    alloc: Global,
+    rows: &mut Vec<ChangeRow>,
+    watch: &Watch,
+    entry: &Entry,
+    units: &[u16],
+    dirs: &[(u64, usize)],
+) -> Result<(), NoMemory>
+    requires lies { (entry.now.first_unit + entry.now.units ≤ length units.now) × (entry.now.first_dir + entry.now.dirs ≤ length dirs.now) }
+    ensures { OnOk result (rows.new.items ≡ rows.old.items ++ rows_of (cond (asks_for watch.now units.now dirs.now entry.now) (told watch.now units.now dirs.now entry.now ∷ []) [])) }
+{
+    if !asks_for(watch, entry, dirs) {
+        return Ok(());
+    }
+    let name = reversed(alloc, path_for(watch.dir, entry, units, dirs))?;
+    rows.push(ChangeRow {
+        action: entry.action,
+        name,
+    })?;
+    Ok(())
+}
+
+// Whether the watch asks for the change of this entry.
+fn asks_for(watch: &Watch, entry: &Entry, dirs: &[(u64, usize)]) -> bool
+    requires lies { entry.now.first_dir + entry.now.dirs ≤ length dirs.now }
+    ensures { (units : List ℕ) → result ≡ asks_for watch.now units dirs.now entry.now }
+{
+    let seen = &dirs[entry.first_dir..entry.first_dir + entry.dirs];
+    is_seen(seen, watch.dir, watch.tree) && has_any(entry.bits, watch.filter)
+}
+
+// Whether some of these bits are set.
+fn has_any(bits: u32, filter: u32) -> bool
+    ensures { result ≡ has_any bits filter }
+{
+    bits & filter != 0
+}
+
+// Whether the directory is the first of these, or, where the whole tree counts, any of them.
+fn is_seen(seen: &[(u64, usize)], dir: u64, tree: bool) -> bool
+    ensures { result ≡ is_seen_among dir tree seen.now }
+{
+    match seen.split_first() {
+        None => false,
+        Some((parent, above)) => parent.0 == dir || (tree && has_dir(above, dir)),
+    }
+}
+
+// Whether the directory is one of these.
+fn has_dir(seen: &[(u64, usize)], dir: u64) -> bool
+    ensures { result ≡ list_any (λ ancestor. ancestor.0 == dir) seen.now }
+{
+    seen.iter().any(|ancestor| ancestor.0 == dir)
+}
+
+// The path of the entry relative to the directory, from its last unit to its first.
+fn path_for<'a>(dir: u64, entry: &Entry, units: &'a [u16], dirs: &[(u64, usize)]) -> &'a [u16]
+    requires lies { (entry.now.first_unit + entry.now.units ≤ length units.now) × (entry.now.first_dir + entry.now.dirs ≤ length dirs.now) }
+    ensures path { result.now ≡ take (written_for dir (take entry.now.dirs (drop entry.now.first_dir dirs.now))) (take entry.now.units (drop entry.now.first_unit units.now)) }
+    ensures short { length result.now ≤ entry.now.units }
+{
+    let seen = &dirs[entry.first_dir..entry.first_dir + entry.dirs];
+    let path = &units[entry.first_unit..entry.first_unit + entry.units];
+    first_units(path, written_for(seen, dir))
+}
+
+// How much of the path was written when the directory was reached; 0 where it wasn't.
+fn written_for(seen: &[(u64, usize)], dir: u64) -> usize
+    ensures { result ≡ written_for dir seen.now }
+{
+    match find_dir(seen, dir) {
+        None => 0,
+        Some(ancestor) => ancestor.1,
+    }
+}
+
+// The directory among these.
+fn find_dir(seen: &[(u64, usize)], dir: u64) -> Option<&(u64, usize)>
+    ensures { option_copied result ≡ find (λ ancestor. ancestor.0 == dir) seen.now }
+{
+    seen.iter().find(|ancestor| ancestor.0 == dir)
+}
+
+// The first units, as many as there are.
+fn first_units(path: &[u16], count: usize) -> &[u16]
+    ensures { result.now ≡ take count path.now }
+{
+    if count < path.len() {
+        &path[..count]
+    } else {
+        path
+    }
+}
+
+// The name of these units, from the last to the first.
+fn reversed(alloc: Global, units: &[u16]) -> Result<Name, NoMemory>
+    ensures { IfOk result (λ name. name ≡ reverse units.now) }
+{
+    let mut name = Vec::new(alloc);
+    for i in 0..units.len() {
+        name.push(units[units.len() - 1 - i])?;
+    }
+    Ok(Name::from(name))
+}
