@@ -1,6 +1,6 @@
 //! Items in order, with spare room that stays as items go.
 
-ghost use Rattle.std.specs.Prelude.{◌≡◌, ◌≤◌, ◌+◌, ◌++◌, ◌∷◌, [], OnOk};
+ghost use Rattle.std.specs.Prelude.{◌≡◌, ◌≤◌, ◌<◌, ◌+◌, ◌++◌, ◌∷◌, [], length, slice_set, OnOk};
 ghost use Rattle.std.specs.Fn.{CalledAt};
 ghost use Rattle.std.specs.List.Retain.{IsFiltered};
 
@@ -72,6 +72,15 @@ impl<T: Drop> SpareList<T> {
             unreachable!()
         };
         self.room -= 1;
+    }
+
+    /// Puts an item in the place of another.
+    pub fn set(&mut self, place: usize, item: T)
+        requires { place < length self.old.items }
+        ensures items { self.new.items ≡ slice_set self.old.items place item }
+        ensures room { self.new.room ≡ self.old.room }
+    {
+        self.items[place] = item;
     }
 
     /// Keeps the items at which `keep` answers `true`. It takes no memory, and leaves the room as it was.
