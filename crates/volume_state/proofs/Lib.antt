@@ -13,3 +13,4 @@ pub mod PointLaws
 pub mod StreamLemmas
 pub mod ThereLaws
 pub mod WaitLaws
+pub mod WatchLaws

@@ -25,7 +25,8 @@
 //! reparse point of a file (`point`); the room that a note takes (`note_room`, `note_room_in`);
 //! changes of one table (`add_..`, `move_link`, `drop_..`, `mark_..`, `put_bytes`, `set_..`, `end`, `leave`,
 //! `advance`); changes noted (`note`); and oplocks: their grant (`is_not_granted`, `grant`), their break
-//! (`begin`, `waited`), the answer to it (`answer_break`), and their end (`give_up`, `drop_oplock`).
+//! (`begin`, `waited`), the answer to it (`answer_break`), and their end (`give_up`, `drop_oplock`); and watches
+//! (`has_watch`, `start_watch`) with what is due to them (`due_size`, `take_report`).
 //!
 //! Contracts see a volume as three things: its content, which is the record of plain lists of
 //! `fsa_model`; what stands beside it, the breaks that the last `begin` waits for among it; and the
@@ -45,9 +46,6 @@
 //! in time linear in what they wait for, and `next_held` asks nothing but the queue. `next_over` looks through
 //! the pending calls for each wait among them, and never through the calls that have ended; `list_waits` puts
 //! each wait in its place among the others.
-//!
-//! Caveats: no call puts a watch in yet. The calls that look for them and take them out are whole
-//! all the same, for any that there are.
 #![tactic(auto)]
 
 mod children;
@@ -69,6 +67,7 @@ mod streams;
 mod tried;
 mod volume;
 mod waits;
+mod watches;
 
 pub use fsa_types::{Class, HandleSet};
 pub use oplocks::Grant;
