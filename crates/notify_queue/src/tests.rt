@@ -22,13 +22,15 @@ fn noted(alloc: Global) -> Result<ChangeLog, NoMemory> {
     Ok(log)
 }
 
-// A watch, and the packed entries of what is due to it.
+// A watch, and how many bytes the packed entries of what is due to it take, and which.
+#[derive(Clone, Copy)]
 struct Case {
     watch: Watch,
+    size: u32,
     packed: &'static [u8],
 }
 
-const fn watch(dir: u64, filter: u32, tree: bool, from: u64) -> Watch {
+fn watch(dir: u64, filter: u32, tree: bool, from: u64) -> Watch {
     Watch {
         dir,
         filter,
@@ -46,38 +48,46 @@ const B: &[u8] = &[0, 0, 0, 0, 1, 0, 0, 0, 2, 0, 0, 0, 98, 0];
 
 const C: &[u8] = &[0, 0, 0, 0, 3, 0, 0, 0, 2, 0, 0, 0, 99, 0];
 
-const CASES: [Case; 6] = [
-    Case {
-        watch: watch(1, 17, true, 0),
-        packed: BELOW_AND_IN,
-    },
-    Case {
-        watch: watch(1, 17, false, 0),
-        packed: C,
-    },
-    Case {
-        watch: watch(5, 17, false, 0),
-        packed: B,
-    },
-    Case {
-        watch: watch(1, 17, true, 1),
-        packed: C,
-    },
-    Case {
-        watch: watch(1, 2, true, 0),
-        packed: &[],
-    },
-    Case {
-        watch: watch(6, 17, true, 0),
-        packed: &[],
-    },
-];
+fn cases() -> [Case; 6] {
+    [
+        Case {
+            watch: watch(1, 17, true, 0),
+            size: 34,
+            packed: BELOW_AND_IN,
+        },
+        Case {
+            watch: watch(1, 17, false, 0),
+            size: 14,
+            packed: C,
+        },
+        Case {
+            watch: watch(5, 17, false, 0),
+            size: 14,
+            packed: B,
+        },
+        Case {
+            watch: watch(1, 17, true, 1),
+            size: 14,
+            packed: C,
+        },
+        Case {
+            watch: watch(1, 2, true, 0),
+            size: 0,
+            packed: &[],
+        },
+        Case {
+            watch: watch(6, 17, true, 0),
+            size: 0,
+            packed: &[],
+        },
+    ]
+}
 
-// Whether the size of what is due is that of these bytes; there is none where they are none.
-fn is_size(size: Option<u64>, packed: &[u8]) -> bool {
+// Whether so many bytes are due; there is no size where they are none.
+fn is_size(size: Option<u64>, wanted: u32) -> bool {
     match size {
-        None => packed.is_empty(),
-        Some(size) => size == packed.len() as u64 && !packed.is_empty(),
+        None => wanted == 0,
+        Some(size) => size == wanted as u64 && size > 0,
     }
 }
 
@@ -92,8 +102,8 @@ fn is_given(taken: Option<Bytes>, packed: &[u8]) -> bool {
 // Whether a report with just enough room gives these bytes, and one with less gives none; and nothing is
 // due after either.
 fn reports(alloc: Global, log: &ChangeLog, case: &Case) -> Result<bool, NoMemory> {
-    let size = is_size(case.watch.due_size(log), case.packed);
-    let room = case.packed.len() as u32;
+    let size = is_size(case.watch.due_size(log), case.size);
+    let room = case.size;
     let mut watch = case.watch;
     let given = is_given(watch.take(alloc, log, room)?, case.packed);
     let mut other = case.watch;
@@ -105,7 +115,7 @@ fn reports(alloc: Global, log: &ChangeLog, case: &Case) -> Result<bool, NoMemory
 #[test]
 fn what_is_due_is_told_once(rt: HostRuntime) -> Result<(), Fail> {
     let log = noted(rt.alloc())?;
-    for case in &CASES {
+    for case in &cases() {
         let right = reports(rt.alloc(), &log, case)?;
         assert!(rt; right, "{:?}", case.watch);
     }
