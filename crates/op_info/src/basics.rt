@@ -1,6 +1,6 @@
 //! The times and attributes that are asked for, and what of them is noted.
 
-ghost use Rattle.std.specs.Prelude.{◌≡◌, ◌≤◌, not};
+ghost use Rattle.std.specs.Prelude.{◌≡◌, ◌≤◌};
 ghost use Rattle.fsa_types.specs.Access.{has_any};
 ghost use Rattle.fsa_types.specs.Masks.{DIRECTORY};
 ghost use Rattle.fsa_model.specs.Open.{has_other, kept_attributes};

@@ -2,7 +2,6 @@
 
 ghost use Rattle.std.specs.Prelude.{◌≡◌, IfOk};
 ghost use Rattle.std.specs.Option.{option_map_or};
-ghost use Rattle.fsa_types.specs.FixedBuffers.{internal_bytes};
 ghost use Rattle.fsa_model.specs.QueryInfo.{basic_of, is_delete_pending, standard_of, tag_of};
 ghost use Rattle.fsa_model.specs.Walk.{point_of};
 

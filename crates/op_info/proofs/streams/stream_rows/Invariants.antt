@@ -1,4 +1,4 @@
-use Rattle.std.proofs.Common.{◌≡◌, ◌++◌, ℕ, length, Some}
+use Rattle.std.proofs.Common.{◌≡◌, ◌++◌, length, Some}
 use Rattle.std.specs.Prelude.{map}
 use Rattle.fsa_types.specs.PackedRows.{stream_row}
 use Rattle.fsa_model.specs.QueryInfo.{stream_rows}
