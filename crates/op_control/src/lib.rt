@@ -27,8 +27,6 @@ mod get_reparse;
 mod points;
 mod quota;
 mod set_reparse;
-#[cfg(test)]
-mod tests;
 
 pub use delete_reparse::try_delete_reparse;
 pub use get_reparse::try_get_reparse;

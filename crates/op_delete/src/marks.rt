@@ -8,19 +8,8 @@ ghost use Rattle.fsa_model.specs.Lookups.{has_child};
 ghost use Rattle.fsa_model.specs.SetDisposition.{marked_handles, with_mark};
 ghost use Rattle.op_delete.specs.Room.{NotesTakeNoMore};
 
-use op_parts::named_stream;
+use op_parts::{is_link_of_parent, named_stream};
 use volume_state::{HandleRow, HandleSet, Volume};
-
-/// Whether the link is that of a directory with a link in it, marked or not.
-pub fn is_link_of_parent(volume: &Volume, link: u64) -> bool
-    ensures of_parent { result ≡ is_link_of_parent volume.now.content link }
-    ensures empty { result ≡ false → IfSome (row_of volume.now.content.links link) (λ row. has_child volume.now.content.links row.file ≡ false) }
-{
-    match volume.link(link) {
-        None => false,
-        Some(row) => volume.has_child(row.file),
-    }
-}
 
 // Marks a link, unless it is that of a directory with a link in it.
 fn mark_empty(volume: &mut Volume, link: u64)

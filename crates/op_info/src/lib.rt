@@ -16,8 +16,8 @@
 //! streams (`streams`), and the checks in order (`query`). Of times and attributes: times (`times`), what is
 //! asked and noted (`basics`), and the changes and the checks (`basic`). Of the owner and the access list:
 //! what is asked for and the rights that it needs (`asked`), the limit of a new owner (`quota`), the list with
-//! its generic rights mapped (`list`), the changes (`change`) and the checks (`security`). `room` and `links`
-//! serve all.
+//! its generic rights mapped (`list`), the changes (`change`) and the checks (`security`). `room` serves
+//! all.
 //!
 //! - The call has to be of its kind; a SetSecurity has at most 32 entries, and its client is one of the
 //!   volume's.
@@ -32,7 +32,6 @@ mod basic;
 mod basics;
 mod change;
 mod kinds;
-mod links;
 mod list;
 mod query;
 mod quota;

@@ -7,10 +7,9 @@ ghost use Rattle.volume_state.specs.Room.{KeepsEnds};
 ghost use Rattle.volume_state.specs.Tried.{Gives, HasHoldRoom};
 
 use crate::kinds::{basic_of, standard_of, tag_of};
-use crate::links::file_of_link;
 use crate::streams::query_streams_by;
 use fsa_types::{AccessMask, Body, Bytes, Call, InfoKind, Request, Status, What};
-use op_parts::has_right;
+use op_parts::{file_of_link, has_right};
 use pack_info::pack_internal;
 use std::alloc::Global;
 use volume_state::{HandleRow, Tried, Volume};

@@ -9,11 +9,11 @@ ghost use Rattle.volume_state.specs.Tried.{Gives, HasHoldRoom};
 
 use crate::asked::{is_foreign, lacks_right};
 use crate::change::set_security;
-use crate::links::file_of_link;
 use crate::list::list_put;
 use crate::quota::passes_limit;
 use crate::room::room_to_set;
 use fsa_types::{Call, DaclChange, NoMemory, Request, Status, What};
+use op_parts::file_of_link;
 use std::alloc::Global;
 use volume_state::{Tried, Volume};
 
