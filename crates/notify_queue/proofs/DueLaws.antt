@@ -1,20 +1,19 @@
 -- What is due, from the parts of a log, and how many bytes it takes.
-use Rattle.std.proofs.Common.{◌≡◌, ℕ, zero, suc, ◌+◌, ◌*◌, ◌/◌, ◌<◌, ◌≤◌, Bool, true, false, cond, List, [], ◌∷◌, ◌++◌, length, take, drop, refl, ap, sym, ◌∙◌, rules, arith, inl, inr, Some, None, Option}
-use Rattle.std.specs.Prelude.{◌==◌, ◌||◌, ◌&&◌, find, map, filter, reverse, option_map}
-use Rattle.std.specs.List.{list_any}
+use Rattle.std.proofs.Common.{◌≡◌, ℕ, zero, suc, ◌+◌, ◌*◌, ◌/◌, ◌<◌, ◌≤◌, Bool, true, false, cond, List, [], ◌∷◌, ◌++◌, length, take, drop, refl, ap, sym, ◌∙◌, rules, arith, inl, inr, Some, None}
+use Rattle.std.specs.Prelude.{◌==◌, ◌||◌, ◌&&◌, find, map, filter, reverse}
 use Rattle.std.specs.Option.{option_map_or}
 use Rattle.std.proofs.lemmas.Bool.{cases_Bool}
 use Rattle.std.proofs.lemmas.List.{drop-map, length-reverse}
 use Rattle.fsa_types.specs.Access.{has_any}
 use Rattle.fsa_types.specs.declared.reply.PackKind.TheVariants.{Changes}
 use Rattle.fsa_types.specs.Packing.{packed, size_of as size_of_entry}
-use Rattle.fsa_types.specs.PackedRows.{change_row, PackRow}
+use Rattle.fsa_types.specs.PackedRows.{change_row}
 use Rattle.fsa_model.specs.Volume.{Change}
 use Rattle.fsa_model.specs.Watching.{is_seen_from, packed_changes}
 use Rattle.fsa_model.proofs.RowLaws.{any-map}
 use Rattle.pack_info.proofs.NumberLaws.{length-name_of}
 use Rattle.pack_info.proofs.PackLaws.{size-one, size-more}
-use Rattle.notify_queue.specs.Due.{row_of_watch, asks_for, told, due_of, due_among, is_seen_among, written_for, rounded, rows_of, size_due, size_of, size_from}
+use Rattle.notify_queue.specs.Due.{asks_for, told, due_of, due_among, is_seen_among, written_for, rounded, rows_of, size_due, size_of, size_from}
 use Rattle.notify_queue.specs.Log.{relative, change_of, changes_of, units_in}
 use Rattle.notify_queue.specs.declared.log.Entry.{Entry}
 use Rattle.notify_queue.specs.declared.watch.Watch.{Watch}

@@ -15,7 +15,9 @@ ghost use Rattle.volume_state.specs.Tried.{Gives, HasHoldRoom};
 use crate::close::bare;
 use crate::marks::{marked_handles, set_mark};
 use fsa_types::{AccessMask, BlockerList, Call, Request, Status, What};
-use op_parts::{break_for, has_right, held, is_link_of_parent, is_readonly, linked_file, room_to_wait};
+use op_parts::{
+    break_for, has_right, held, is_link_of_parent, is_readonly, linked_file, room_to_wait,
+};
 use std::alloc::Global;
 use volume_state::{Class, HandleRow, Need, Tried, Volume};
 

@@ -1,8 +1,8 @@
 -- The links of a directory in the order of their names, taken one after the other.
-use Rattle.std.proofs.Common.{◌≡◌, ℕ, zero, suc, ◌+◌, ◌<◌, Bool, true, false, not, List, [], ◌∷◌, length, get_or, refl, ap, sym, subst, ◌∙◌, arith, inl, inr, ◌⊎◌, Option, Some, None, cond}
-use Rattle.std.specs.List.{All, AllPairs, filter, list_any}
-use Rattle.std.specs.Ordering.{is_eq, is_lt, nat_cmp, ordering_reverse}
-use Rattle.std.specs.Cmp.Lexicographic.{slice_cmp, texts_ties}
+use Rattle.std.proofs.Common.{◌≡◌, ℕ, zero, suc, ◌+◌, ◌<◌, Bool, true, false, List, [], ◌∷◌, get_or, refl, ap, sym, subst, ◌∙◌, arith, inl, inr, ◌⊎◌, Option, Some, None, cond}
+use Rattle.std.specs.List.{All, AllPairs, filter}
+use Rattle.std.specs.Ordering.{is_eq, is_lt, ordering_reverse}
+use Rattle.std.specs.Cmp.Lexicographic.{texts_ties}
 use Rattle.std.specs.Prelude.{◌==◌, ◌&&◌, IfSome, option_map, slice_get}
 use Rattle.std.specs.declared.cmp.Ordering.{Ordering}
 use Rattle.std.specs.declared.cmp.Ordering.TheVariants.{Less, Equal, Greater}
@@ -18,7 +18,7 @@ use Rattle.fsa_model.specs.QueryDir.{is_listed_before, listed_links}
 use Rattle.fsa_model.specs.Sound.{IsSound}
 use Rattle.fsa_model.specs.Volume.{Link, Volume}
 use Rattle.fsa_model.proofs.RowLaws.{row_of-here}
-use Rattle.volume_rows.specs.Children.{is_child_after, is_name_after, links_after}
+use Rattle.volume_rows.specs.Children.{is_child_after, is_name_after}
 use Rattle.volume_state.specs.Children.{children_after, children_from, is_unmarked}
 
 -- ---- the order of names

@@ -1,8 +1,8 @@
 -- The locks on a stream, as handles and locks are added and taken out.
-use Rattle.std.proofs.Common.{◌≡◌, ℕ, zero, suc, ◌+◌, ◌<◌, ◌≤◌, Bool, true, false, not, List, [], ◌∷◌, ◌++◌, length, get_or, refl, ap, sym, ◌∙◌, arith, inl, inr, Option, Some, None, eq-eqb}
-use Rattle.std.specs.List.{filter, list_any, All, AllPairs, find}
-use Rattle.std.specs.Option.{option_map_or, option_and_then}
-use Rattle.std.specs.Prelude.{◌==◌, ◌&&◌, map, option_map, is_some, if◌then◌else◌}
+use Rattle.std.proofs.Common.{◌≡◌, ℕ, suc, ◌+◌, ◌<◌, ◌≤◌, true, false, not, List, [], ◌∷◌, ◌++◌, get_or, refl, ap, sym, ◌∙◌, arith, inl, inr, Option, Some, None, eq-eqb}
+use Rattle.std.specs.List.{filter, All, find}
+use Rattle.std.specs.Option.{option_map_or}
+use Rattle.std.specs.Prelude.{◌==◌, ◌&&◌, map, is_some, if◌then◌else◌}
 use Rattle.std.proofs.lemmas.Bool.{cases_Bool, eqb-true, both_ways, ne_eqb, and_parts, not-true}
 use Rattle.std.proofs.lemmas.List.{append-nil, map-append}
 use Rattle.std.proofs.lemmas.List.Elements.{filter-append, All-push, All-filter, filter_passes}
@@ -14,10 +14,9 @@ use Rattle.fsa_model.specs.Lookups.{is_open_on, number_of}
 use Rattle.fsa_model.specs.Volume.{Handle, Lock}
 use Rattle.fsa_model.proofs.RowLaws.{any-filter, any-map, any-push, any-same, change_at, change_at-number, find-all, option_cases, eqb-swap}
 use Rattle.range_locks.specs.RangeTable.{Ranges, is_of, is_range}
-use Rattle.range_locks.specs.declared.range.Range.{Range}
-use Rattle.volume_tables.specs.Ranges.{ranges_in, room_at, AreSetIn, KeepsRanges}
+use Rattle.volume_tables.specs.Ranges.{ranges_in, room_at, AreSetIn}
 use Rattle.volume_tables.specs.HandleTable.{stream_of_handle, is_on_stream, range_of_lock, ranges_on, AreTabled, HaveRoom}
-use Rattle.volume_tables.specs.Rooms.{room_in, all_rooms, IsOneTaken}
+use Rattle.volume_tables.specs.Rooms.{IsOneTaken}
 use Rattle.volume_tables.proofs.PlaceLemmas.{row_of-append, row_of-gone, row_of-without}
 
 -- handles that stay as they are leave the locks on a stream as they were

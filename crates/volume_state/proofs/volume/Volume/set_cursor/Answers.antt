@@ -1,4 +1,3 @@
-use Rattle.std.proofs.Common.{refl}
 use Rattle.fsa_model.proofs.SoundWaits.{IsSound-with_cursor}
 use Rattle.volume_rows.specs.Cursors.{cursor_of}
 use Rattle.volume_state.specs.Inside.{content_of}
