@@ -1,2 +1,3 @@
 pub mod Calls
 pub mod Conditions
+pub mod Streams

@@ -1,10 +1,11 @@
 //! The streams of a file.
 
-ghost use Rattle.std.specs.Prelude.{◌≡◌, IfOk, IfSome, IsTrue, Some, length};
+ghost use Rattle.std.specs.Prelude.{◌≡◌, [], IfOk, IfSome, IsTrue, Some, length};
 ghost use Rattle.fsa_types.specs.PackedRows.{stream_row};
 ghost use Rattle.fsa_types.specs.Rows.{lives, row_of};
 ghost use Rattle.fsa_model.specs.QueryInfo.{query_streams, query_streams_by, stream_rows, streams_reply};
 ghost use Rattle.fsa_model.specs.Shown.{space_shown};
+ghost use Rattle.op_info.specs.Streams.{IsWalked};
 ghost use Rattle.volume_state.specs.Tried.{Gives, HasHoldRoom};
 
 use crate::shown::{length_shown, space_shown};
@@ -38,17 +39,30 @@ fn units_of(volume: &Volume, stream: u64) -> &[u16]
     info.name.units()
 }
 
+// The row of the default stream, where there is one.
+fn default_row(alloc: Global, volume: &Volume, file: u64) -> Result<Vec<StreamRow>, NoMemory>
+    ensures { IfOk result (λ rows. IsWalked volume.now.content file rows.items []) }
+{
+    let mut rows = Vec::new(alloc);
+    match volume.default_stream(file) {
+        None => Ok(rows),
+        Some(stream) => {
+            let row = row_of_stream(alloc, volume, stream)?;
+            rows.push(row)?;
+            Ok(rows)
+        }
+    }
+}
+
 // The rows of all streams of a file, in the order of their names.
 fn stream_rows(alloc: Global, volume: &Volume, file: u64) -> Result<Vec<StreamRow>, NoMemory>
     ensures { IfOk result (λ rows. rows.items ≡ stream_rows volume.now.content file) }
 {
-    let mut rows = Vec::new(alloc);
-    if let Some(stream) = volume.default_stream(file) {
-        rows.push(row_of_stream(alloc, volume, stream)?)?;
-    }
+    let mut rows = default_row(alloc, volume, file)?;
     let mut units: &[u16] = &[];
     'names: while let Some(stream) = volume.stream_after(file, units) {
-        rows.push(row_of_stream(alloc, volume, stream)?)?;
+        let row = row_of_stream(alloc, volume, stream)?;
+        rows.push(row)?;
         units = units_of(volume, stream);
     }
     Ok(rows)
