@@ -70,7 +70,7 @@ impl Model for ChangeLog {
 }
 
 impl ChangeLog {
-    // No change, and none begun.
+    /// No change, and none begun.
     pub fn new(alloc: Global) -> ChangeLog
         ensures changes { result.changes ≡ [] }
         ensures path { result.path ≡ [] }
@@ -85,7 +85,7 @@ impl ChangeLog {
         }
     }
 
-    // Takes room for so many changes, units and ancestors in all.
+    /// Takes room for so many changes, units and ancestors in all. `NoMemory` where there is none.
     pub fn reserve(&mut self, changes: usize, units: usize, dirs: usize) -> Result<(), NoMemory>
         ensures same { (self.new.changes ≡ self.old.changes) × (self.new.path ≡ self.old.path) × (self.new.seen ≡ self.old.seen) }
         ensures room { OnOk result ((changes ≤ self.new.room) × (units ≤ self.new.units) × (dirs ≤ self.new.dirs)) }
@@ -97,7 +97,7 @@ impl ChangeLog {
         Ok(())
     }
 
-    // Puts a unit before the path begun.
+    /// Puts a unit before the path begun. There has to be room for one. It takes no memory.
     pub fn add_unit(&mut self, unit: u16)
         requires room { 1 ≤ self.old.units }
         ensures path { self.new.path ≡ self.old.path ++ unit ∷ [] }
@@ -109,7 +109,8 @@ impl ChangeLog {
         self.units.push(unit);
     }
 
-    // The change begun is seen from this ancestor, by the path begun.
+    /// The change begun is seen from this ancestor, by the path begun. There has to be room for one. It takes no
+    /// memory.
     pub fn add_dir(&mut self, dir: u64)
         requires room { 1 ≤ self.old.dirs }
         ensures path { self.new.path ≡ self.old.path }
@@ -122,7 +123,7 @@ impl ChangeLog {
         self.dirs.push((dir, written));
     }
 
-    // Notes the change begun, and begins another.
+    /// Notes the change begun, and begins another. There has to be room for one. It takes no memory.
     pub fn finish(&mut self, action: u32, bits: u32)
         requires room { 1 ≤ self.old.room }
         ensures path { self.new.path ≡ [] }

@@ -135,7 +135,7 @@ fn query_by_handle(
 /// one. It changes nothing.
 ///
 /// `Done` with the reply, as the definition says; never `Stay` or `Hold`. `NoMemory` where there is none for
-/// the bytes. No room of the volume is used. `_turn` is the number of the turn; nothing here needs it.
+/// the bytes. No room for ends is used. `_turn` is the number of the turn; nothing here needs it.
 pub fn try_query_info(alloc: Global, volume: &mut Volume, call: &Call, _turn: u64) -> Tried
     requires verb { IsQueryInfo call.now.what }
     ensures gives { Gives (asked_query_info volume.old.content call.now.client call.now.what) volume.old.content volume.new.content result }

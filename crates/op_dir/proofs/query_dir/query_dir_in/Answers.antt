@@ -1,0 +1,8 @@
+use Rattle.fsa_model.specs.QueryDir.{left_to_list, query_dir_in}
+use Rattle.volume_rows.specs.Cursors.{cursor_of}
+use Rattle.op_dir.proofs.query_dir.query_dir_in.Goals as goal
+
+pub returns-in-Ok-clause-gives : goal.returns-in-Ok-clause-gives
+unfolding query_dir_in
+returns-in-Ok-clause-gives c =
+    c.list_entries.ensures.gives (left_to_list c.args.volume.now.content c.args.dir c.args.begun.expression (cursor_of c.args.begun.cursor)) c.args.room c.in-Ok.ensures

@@ -1,0 +1,3 @@
+pub mod Calls
+pub mod Listing
+pub mod Places
