@@ -1,3 +1,4 @@
+pub mod ChargeLaws
 pub mod ClashLemmas
 pub mod CountLemmas
 pub mod HeldLemmas

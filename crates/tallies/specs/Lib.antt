@@ -1,3 +1,4 @@
+pub mod Charges
 pub mod Counters
 pub mod Counts
 pub mod Held

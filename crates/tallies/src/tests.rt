@@ -1,8 +1,9 @@
-//! Every two opens against a table of what one has and the other shares.
+//! Every two opens against a table of what one has and the other shares; charges with ample memory.
 
 ghost use Rattle.std.specs.Prelude.{◌≡◌, ◌<◌, ◌∷◌, []};
 
-use crate::ShareCounts;
+use crate::{Charges, ShareCounts};
+use std::test::Fail;
 
 // Access masks by the accesses that they have: read 1, write 2, delete 4. Attributes have no part.
 const ACCESSES: [u32; 8] = [0x80, 0x1, 0x2, 0x3, 0x10000, 0x10001, 0x10002, 0x10003];
@@ -88,4 +89,18 @@ fn removed_opens_clash_no_more(rt: HostRuntime) {
     assert!(rt; !opens.clashes(0x1, 0x1), "readers are");
     opens.remove(0x1, 0x7);
     assert!(rt; !opens.clashes(0x10027, 0x0), "nothing is held");
+}
+
+// Two owners for whom room was taken, one that goes before them, and one that is there.
+#[test]
+fn owners_are_charged(rt: HostRuntime) -> Result<(), Fail> {
+    let mut charges = Charges::new(rt.alloc());
+    assert_eq!(rt; charges.reserve(2), Ok(()));
+    for (owner, bytes) in [(7, 8192), (9, 4096), (3, 12288), (7, 0)] {
+        assert_eq!(rt; charges.set(owner, bytes), Ok(()));
+    }
+    for (owner, bytes) in [(3, 12288), (5, 0), (7, 0), (9, 4096)] {
+        assert_eq!(rt; charges.of(owner), bytes);
+    }
+    Ok(())
 }

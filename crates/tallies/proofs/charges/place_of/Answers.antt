@@ -1,0 +1,14 @@
+use Rattle.std.proofs.Common.{rules}
+use Rattle.std.proofs.lemmas.List.Sorted.{answers_always}
+use Rattle.tallies.proofs.ChargeLaws.{there-searched, missing-searched}
+use Rattle.tallies.proofs.charges.place_of.Goals as goal
+
+-- the closure gives an owner
+pub returns : goal.returns
+returns c =
+    let facts = c.binary_search_by_key.ensures in
+    let by_owner = facts.position (λ entry. entry.0) (answers_always _ _ _ (λ f a r g called. search rules)) in
+    record {
+      there = there-searched c.args.sums.now c.args.owner c.requires.rising c.binary_search_by_key.result facts.bound by_owner;
+      missing = missing-searched c.args.sums.now c.args.owner c.requires.rising c.binary_search_by_key.result facts.bound by_owner;
+    }
