@@ -1,3 +1,4 @@
 pub mod LimitLaws
 pub mod OrderLaws
 pub mod RunLaws
+pub mod SummaryLaws

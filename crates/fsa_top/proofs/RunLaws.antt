@@ -33,7 +33,7 @@ use Rattle.fsa_machine.specs.Stands.{Seen}
 use Rattle.wire_io.specs.Sink.{Written, Appends, AppendsPart}
 use Rattle.wire_io.proofs.SinkLaws.{Appends-append, Appends-none, AppendsPart-append, AppendsPart-longer, AppendsPart-none, AppendsPart-whole}
 use Rattle.fsa_top.specs.Order.{Follows, IsLeastCursor, IsWithin}
-use Rattle.fsa_top.specs.Runs.{WritesPart, WritesText}
+use Rattle.fsa_top.specs.Runs.{IsHistory, WritesPart, WritesText}
 use Rattle.fsa_top.specs.Progress.{IsNextAt, MadeTurn, MakesTurn, Shows, Progress}
 use Rattle.fsa_top.specs.declared.order.Order.{Order}
 use Rattle.fsa_top.specs.declared.run.RunFault.{RunFault}
@@ -242,18 +242,18 @@ last_none old now turns same = subst (λ (w : Written). AppendsPart old w (last_
 pub Shows-last_part : (script : Script) (history : List HistoryEntry) (first mid now : Written) → HasAllCalls script history → Shows script history first mid → AppendsPart mid now (last_line (length history)) → WritesPart script first now
 Shows-last_part script history first mid now all shows last = (history, shows.scheduled, all, AppendsPart-append first mid now _ _ shows.wrote last)
 
+-- a schedule that has all calls is the one history with its text
+pub history-one : (script : Script) (history : List HistoryEntry) → IsRead script → Scheduled script history → HasAllCalls script history → IsHistory script history
+history-one script history is_read scheduled all = record {
+  scheduled = scheduled;
+  whole = all;
+  only = λ other others whole same. same_text script history other is_read scheduled all others whole same;
+  plainly = λ none. text-plain script history is_read scheduled all none;
+}
+
 -- the last line was
 pub Shows-whole : (script : Script) (history : List HistoryEntry) (first mid now : Written) → IsRead script → HasAllCalls script history → Shows script history first mid → Appends mid now (last_line (length history)) → WritesText script first now
-Shows-whole script history first mid now is_read all shows last = (
-  history,
-  record {
-    scheduled = shows.scheduled;
-    whole = all;
-    only = λ other scheduled whole same. same_text script history other is_read shows.scheduled all scheduled whole same;
-    plainly = λ none. text-plain script history is_read shows.scheduled all none;
-  },
-  Appends-append first mid now _ _ shows.wrote last,
-)
+Shows-whole script history first mid now is_read all shows last = (history, history-one script history is_read shows.scheduled all, Appends-append first mid now _ _ shows.wrote last)
 
 -- where no call is next
 pub Progress-all : (script : Script) (seen : Seen) (order : Order) → Progress script seen order → next script seen.entries ≡ None → HasAllCalls script seen.entries

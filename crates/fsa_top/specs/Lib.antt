@@ -3,4 +3,5 @@ pub mod Order
 pub mod Progress
 pub mod Promised
 pub mod Runs
+pub mod Summaries
 pub mod Words

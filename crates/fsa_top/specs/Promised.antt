@@ -1,12 +1,15 @@
--- What the program promises on one thread, for its words, over every source and every sink.
+-- What the program promises on one thread, for its words, over every source and every sink: `PromisedSummary`
+-- where they are `gen N`, and `Promised` for all others.
 use Rattle.std.specs.Prelude.{◌≡◌, ◌≢◌, ◌≤◌, ◌+◌, ◌⊎◌, ◌↔◌, ℕ, false, true, List, Option, Some, None, String}
 use Rattle.std.specs.declared.alloc.Global.{Global}
+use Rattle.fsa_model.specs.Generator.{generated}
 use Rattle.wire_io.specs.Faults.{FailsLast, Rose, StopsAtFault}
 use Rattle.wire_io.specs.Sink.{Written}
 use Rattle.wire_io.specs.Source.{HasReadAtMost, Taken, TakesLittle}
 use Rattle.fsa_top.specs.declared.limits.Limit.{Limit}
 use Rattle.fsa_top.specs.Limits.{limit_of, most_bytes}
 use Rattle.fsa_top.specs.Runs.{FoundBad, FoundLimit, IsNoScript, IsScript, Ran, RanInPart}
+use Rattle.fsa_top.specs.Summaries.{WritesSummary, WritesSummaryPart}
 use Rattle.fsa_top.specs.Words.{Says, is_run, limit_line, usage_line}
 
 -- what a source tells of itself
@@ -57,3 +60,20 @@ pub record Promised {S K : Type 0} (of : SourceView S) (on : SinkView K) (words 
   pub limit_exactly : (bytes : List ℕ) (limit : Limit) → is_run words ≡ true → of.left source ≡ Some bytes → limit_of bytes ≡ Some limit
       → (Rose (of.faults source) (of.faults source_now) → ⊥)
       → ((status ≡ 6) × Says (limit_line limit) (on.written sink) (on.written sink_now) (on.faults sink) (on.faults sink_now)) ⊎ (status ≡ 5)
+
+-- what holds of them where the words are `gen N`, for the generated script of this seed
+pub record PromisedSummary {S K : Type 0} (on : SinkView K) (seed : ℕ) (source source_now : S) (sink sink_now : K) (status : ℕ) : Type 0 where
+  -- 0: the summary of a history that is scheduled for the script and has all its calls was written
+  pub success_is_the_summary_of_a_history : status ≡ 0 → WritesSummary (generated seed) (on.written sink) (on.written sink_now)
+  -- 4: the sink failed at its last put, and a part of such a summary was written
+  pub sink_failed : status ≡ 4
+      → FailsLast (on.faults sink) (on.faults sink_now) (on.written sink_now).since_fault × WritesSummaryPart (generated seed) (on.written sink) (on.written sink_now)
+  -- 5: the sink isn't touched
+  pub no_memory : status ≡ 5 → sink_now ≡ sink
+  pub known : (status ≡ 0) ⊎ ((status ≡ 4) ⊎ (status ≡ 5))
+  -- the source isn't touched, so its faults are as they were
+  pub reads_nothing : source_now ≡ source
+  pub puts_nothing_after_a_fault : StopsAtFault (on.faults sink) (on.faults sink_now) (on.written sink_now).since_fault
+  pub faults_never_fall : on.faults sink ≤ on.faults sink_now
+  -- the converse: want of memory and a fault of the sink alone keep the summary from being written
+  pub complete : (Rose (on.faults sink) (on.faults sink_now) → ⊥) → (status ≡ 0) ⊎ (status ≡ 5)

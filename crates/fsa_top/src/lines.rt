@@ -10,7 +10,7 @@ use crate::limits::Limit;
 use itoa::Buffer;
 use wire_io::{Failed, Sink, put_all};
 
-/// Whether the words are the one list that the program takes.
+/// Whether the words are the list `run`.
 pub fn is_run(words: &[String]) -> bool
     ensures { result ≡ is_run words.now }
 {

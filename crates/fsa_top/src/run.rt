@@ -171,8 +171,9 @@ fn take_turn<K: Sink>(
     Ok(())
 }
 
-// Makes turns as long as some call is next.
-fn run_calls<K: Sink>(
+/// Makes turns as long as some call is next, and writes the lines of each. `Failed` where the sink failed,
+/// `NoMemory` where there was no memory.
+pub fn run_calls<K: Sink>(
     alloc: Global,
     machine: &mut VolumeMachine,
     script: &Script,
@@ -181,6 +182,7 @@ fn run_calls<K: Sink>(
 ) -> Result<(), RunFault>
     requires stands { Progress (contents script.now) machine.old order.old }
     requires shows { Shows (contents script.now) machine.old.entries (K.written sink.old) (K.written sink.old) }
+    ensures setup { OnOk result (machine.new.setup ≡ (contents script.now).setup) }
     ensures few { OnOk result (length machine.new.entries ≤ 40064) }
     ensures ok { OnOk result (Shows (contents script.now) machine.new.entries (K.written sink.old) (K.written sink.new)) }
     ensures all { OnOk result (HasAllCalls (contents script.now) machine.new.entries) }
@@ -196,8 +198,8 @@ fn run_calls<K: Sink>(
     Ok(())
 }
 
-// The machine with which a script begins.
-fn begin(alloc: Global, script: &Script) -> Result<VolumeMachine, fsa_types::NoMemory>
+/// The machine with which a script begins.
+pub fn begin(alloc: Global, script: &Script) -> Result<VolumeMachine, fsa_types::NoMemory>
     requires sids { HaveSids (contents script.now).setup.clients }
     ensures setup { IfOk result (λ machine. machine.setup ≡ (contents script.now).setup) }
     ensures entries { IfOk result (λ machine. machine.entries ≡ []) }

@@ -6,12 +6,15 @@ ghost use Rattle.script_read.specs.ScriptView.{contents};
 ghost use Rattle.wire_io.specs.Faults.{FailsLast, StopsAtFault};
 ghost use Rattle.wire_io.specs.Source.{HasReadAtMost, TakesLittle};
 ghost use Rattle.fsa_top.specs.Limits.{limit_of, most_bytes};
-ghost use Rattle.fsa_top.specs.Promised.{Promised};
+ghost use Rattle.fsa_top.specs.Promised.{Promised, PromisedSummary};
 ghost use Rattle.fsa_top.specs.Runs.{FoundBad, FoundLimit, NamesFault, NamesLimit, Ran, RanInPart, RunsPart, RunsText, WritesPart, WritesText};
+ghost use Rattle.fsa_top.specs.Words.{seed_of};
 
+use crate::generated_run::run_generated;
 use crate::limits::{Limit, MOST_SCRIPT_BYTES, limit_of};
 use crate::lines::{is_run, say_bad, say_limit, say_usage};
 use crate::run::{RunFault, run_script};
+use crate::seed::seed_of;
 use script_read::{ReadFault, Script, read_script};
 use std::alloc::Global;
 use std::sync::Wait;
@@ -112,11 +115,14 @@ fn run_source<S: Source, K: Sink>(alloc: Global, source: &mut S, sink: &mut K) -
     }
 }
 
-/// The program on one thread. The words are the one list `run`, and all else is usage: then the
-/// usage line is written and nothing is read. It waits for nobody and returns for every source and
-/// sink.
+/// The program on one thread. The words are the list `run`, or `gen N` with a decimal number N below
+/// 2^64 that has no leading zero, and all else is usage: then the usage line is written and nothing is
+/// read. It waits for nobody and returns for every source and sink.
 ///
-/// It answers the program's status:
+/// It answers the program's status. For `gen N` that is 0, 4 or 5, and nothing is read: 0 where the
+/// summary of a history that is scheduled for the generated script of N and has all its calls is
+/// written; 4 where the sink failed at its last put, and a part of such a summary is written, and not
+/// all of it; 5 where there was no memory, and nothing is written. For all other words:
 ///
 /// - 0: the source was read to its end, its bytes are a script, and the text of the script's one
 ///   history is written.
@@ -143,8 +149,12 @@ pub fn fsa_single<S: Source, K: Sink>(
     source: &mut S,
     sink: &mut K,
 ) -> u8
-    ensures promised { Promised (record { left = S.left; faults = S.faults; takes = S.takes; taken = S.taken }) (record { written = K.written; faults = K.faults }) words.now source.old source.new sink.old sink.new result }
+    ensures promised { seed_of words.now ≡ None → Promised (record { left = S.left; faults = S.faults; takes = S.takes; taken = S.taken }) (record { written = K.written; faults = K.faults }) words.now source.old source.new sink.old sink.new result }
+    ensures generates { (seed : ℕ) → seed_of words.now ≡ Some seed → PromisedSummary (record { written = K.written; faults = K.faults }) seed source.old source.new sink.old sink.new result }
 {
+    if let Some(seed) = seed_of(words) {
+        return run_generated(alloc, seed, sink);
+    }
     if !is_run(words) {
         say_usage(sink);
         return 1;
@@ -162,7 +172,8 @@ pub fn fsa_main<R: Threads + Wait + Sync, S: Source, K: Sink, G: Gate + Sync>(
     sink: &mut K,
     gate: &G,
 ) -> u8
-    ensures promised { Promised (record { left = S.left; faults = S.faults; takes = S.takes; taken = S.taken }) (record { written = K.written; faults = K.faults }) words.now source.old source.new sink.old sink.new result }
+    ensures promised { seed_of words.now ≡ None → Promised (record { left = S.left; faults = S.faults; takes = S.takes; taken = S.taken }) (record { written = K.written; faults = K.faults }) words.now source.old source.new sink.old sink.new result }
+    ensures generates { (seed : ℕ) → seed_of words.now ≡ Some seed → PromisedSummary (record { written = K.written; faults = K.faults }) seed source.old source.new sink.old sink.new result }
 {
     let _rt = rt;
     let _gate = gate;

@@ -1,6 +1,6 @@
 //! Whole scripts, each with its status and its text.
 
-use crate::program::{repeated, run};
+use crate::program::{repeated, run, words_of};
 use fsa_top::fsa_single;
 use std::test::Fail;
 use wire_io::{MemorySink, MemorySource};
@@ -136,11 +136,18 @@ fn scripts_give_their_texts(rt: HostRuntime) -> Result<(), Fail> {
 
 #[test]
 fn other_words_are_usage(rt: HostRuntime) -> Result<(), Fail> {
-    for text in ["", "--run", "run x", "race", "gen 0", "Run"] {
-        let mut words = Vec::new(rt.alloc());
-        for word in text.split_whitespace() {
-            words.push(String::from_str(rt.alloc(), word)?)?;
-        }
+    for text in [
+        "",
+        "--run",
+        "run x",
+        "race",
+        "gen",
+        "gen 01",
+        "gen 18446744073709551616",
+        "gen 0 1",
+        "Run",
+    ] {
+        let words = words_of(rt.alloc(), text)?;
         // A sink whose first call fails changes no status.
         for (failing, written) in [(0, "usage: fsa run / race / gen N\n"), (1, "")] {
             let mut source = MemorySource::new(rt.alloc(), b"fsa 1\n", 1, &[])?;
@@ -150,6 +157,19 @@ fn other_words_are_usage(rt: HostRuntime) -> Result<(), Fail> {
             assert_eq!(rt; sink.bytes(), written.as_bytes(), "{text}");
         }
     }
+    Ok(())
+}
+
+// With ample memory the run of a generated script succeeds: 4,096 calls, and four clients leave.
+#[test]
+fn a_generated_script_gives_its_summary(rt: HostRuntime) -> Result<(), Fail> {
+    let words = words_of(rt.alloc(), "gen 0")?;
+    let mut source = MemorySource::new(rt.alloc(), b"", 1, &[])?;
+    let mut sink = MemorySink::new(rt.alloc(), 4096, 4096, &[])?;
+    let found = fsa_single(rt.alloc(), words.as_slice(), &mut source, &mut sink);
+    assert_eq!(rt; found, 0);
+    assert!(rt; sink.bytes().starts_with(b"turns 4100\n"));
+    assert!(rt; sink.bytes().ends_with(b"\nend\n"));
     Ok(())
 }
 
