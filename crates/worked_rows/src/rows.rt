@@ -6,7 +6,7 @@ use std::test::Fail;
 use wire_io::{MemorySink, MemorySource};
 
 // Scripts and their texts.
-const ROWS: [(&str, &str); 24] = [
+const ROWS: [(&str, &str); 27] = [
     // A listing goes on after the last name given; small rooms, no match, and an expression with
     // `<`.
     (
@@ -369,6 +369,104 @@ const ROWS: [(&str, &str); 24] = [
          a 23 SUCCESS x0a000000000000000a000000000000000a000000000000000a000000000000001200000000000000\n\
          > a 24 create\na 24 SUCCESS opened\n> a 25 setbasic\na 25 ACCESS_DENIED\n\
          > a 26 setbasic\na 26 INVALID_HANDLE\n> a 27 leave\na 27 SUCCESS\nend 27\n",
+    ),
+    // Each kind of information one byte below its size and at it; streams at each number of entries
+    // that fit; rights; a directory and the root.
+    (
+        "fsa 1\nclient a 7\na 1 tick 5\na 2 create =\\f 0x83 0x7 create 0x0 0x2 0\na 3 tick 2\n\
+         a 4 write 2 0 x010203\na 5 create =\\f:s 0x2 0x7 create 0x0 0x0 0\na 6 write 5 0 x04\n\
+         a 7 query 2 basic 39\na 8 query 2 basic 40\na 9 query 2 standard 23\n\
+         a 10 query 2 standard 24\na 11 query 5 standard 24\na 12 query 2 internal 7\n\
+         a 13 query 2 internal 8\na 14 query 2 tag 7\na 15 query 2 tag 8\na 16 query 5 basic 39\n\
+         a 17 query 5 basic 40\na 18 query 5 tag 8\na 19 query 5 internal 8\n\
+         a 20 query 2 stream 23\na 21 query 2 stream 24\na 22 query 2 stream 37\n\
+         a 23 query 2 stream 38\na 24 query 2 stream 79\na 25 query 2 stream 80\n\
+         a 26 create =\\d 0x1 0x7 create 0x1 0x0 0\na 27 query 26 stream 23\n\
+         a 28 query 26 stream 24\na 29 query 26 standard 24\n\
+         a 30 create =\\ 0x80 0x7 open 0x1 0x0 0\na 31 query 30 standard 24\n\
+         a 32 query 30 internal 8\na 33 query 30 basic 40\na 34 query 99 basic 39\n",
+        "> a 1 tick\na 1 SUCCESS\n> a 2 create\na 2 SUCCESS created\n> a 3 tick\na 3 SUCCESS\n\
+         > a 4 write\na 4 SUCCESS 3\n> a 5 create\na 5 SUCCESS created\n> a 6 write\n\
+         a 6 SUCCESS 1\n> a 7 query\na 7 INFO_LENGTH_MISMATCH\n> a 8 query\n\
+         a 8 SUCCESS x05000000000000000500000000000000070000000000000007000000000000002200000000000000\n\
+         > a 9 query\na 9 INFO_LENGTH_MISMATCH\n> a 10 query\n\
+         a 10 SUCCESS x001000000000000003000000000000000100000000000000\n> a 11 query\n\
+         a 11 SUCCESS x001000000000000001000000000000000100000000000000\n> a 12 query\n\
+         a 12 INFO_LENGTH_MISMATCH\n> a 13 query\na 13 SUCCESS x0200000000000000\n> a 14 query\n\
+         a 14 INFO_LENGTH_MISMATCH\n> a 15 query\na 15 SUCCESS x2200000000000000\n> a 16 query\n\
+         a 16 INFO_LENGTH_MISMATCH\n> a 17 query\na 17 ACCESS_DENIED\n> a 18 query\n\
+         a 18 ACCESS_DENIED\n> a 19 query\na 19 SUCCESS x0200000000000000\n> a 20 query\n\
+         a 20 INFO_LENGTH_MISMATCH\n> a 21 query\na 21 BUFFER_OVERFLOW x\n> a 22 query\n\
+         a 22 BUFFER_OVERFLOW x\n> a 23 query\n\
+         a 23 BUFFER_OVERFLOW x000000000e000000030000000000000000100000000000003a003a0024004400410054004100 =::$DATA,3\n\
+         > a 24 query\n\
+         a 24 BUFFER_OVERFLOW x000000000e000000030000000000000000100000000000003a003a0024004400410054004100 =::$DATA,3\n\
+         > a 25 query\n\
+         a 25 SUCCESS x280000000e000000030000000000000000100000000000003a003a002400440041005400410000000000000010000000010000000000000000100000000000003a0073003a0024004400410054004100 =::$DATA,3 =:s:$DATA,1\n\
+         > a 26 create\na 26 SUCCESS created\n> a 27 query\na 27 INFO_LENGTH_MISMATCH\n\
+         > a 28 query\na 28 SUCCESS\n> a 29 query\n\
+         a 29 SUCCESS x000000000000000000000000000000000100000000010000\n> a 30 create\n\
+         a 30 SUCCESS opened\n> a 31 query\n\
+         a 31 SUCCESS x000000000000000000000000000000000000000000010000\n> a 32 query\n\
+         a 32 SUCCESS x0100000000000000\n> a 33 query\n\
+         a 33 SUCCESS x00000000000000000000000000000000000000000000000000000000000000001000000000000000\n\
+         > a 34 query\na 34 INVALID_HANDLE\n> a 35 leave\na 35 SUCCESS\nend 35\n",
+    ),
+    // Links that are marked aren't counted; a named stream tells of its own mark.
+    (
+        "fsa 1\nclient a 7\na 1 create =\\f 0x10001 0x7 create 0x0 0x0 0\n\
+         a 2 create =\\f:s 0x10001 0x7 create 0x0 0x0 0\na 3 link 1 =\\g keep\n\
+         a 4 setdelete 2 yes\na 5 query 1 standard 24\na 6 query 2 standard 24\n\
+         a 7 setdelete 1 yes\na 8 query 1 standard 24\na 9 setdelete 2 no\n\
+         a 10 query 2 standard 24\n",
+        "> a 1 create\na 1 SUCCESS created\n> a 2 create\na 2 SUCCESS created\n> a 3 link\n\
+         a 3 SUCCESS\n> a 4 setdelete\na 4 SUCCESS\n> a 5 query\n\
+         a 5 SUCCESS x000000000000000000000000000000000200000000000000\n> a 6 query\n\
+         a 6 SUCCESS x000000000000000000000000000000000200000001000000\n> a 7 setdelete\n\
+         a 7 SUCCESS\n> a 8 query\na 8 SUCCESS x000000000000000000000000000000000100000001000000\n\
+         > a 9 setdelete\na 9 SUCCESS\n> a 10 query\n\
+         a 10 SUCCESS x000000000000000000000000000000000100000000000000\n> a 11 leave\n\
+         a 11 SUCCESS\nend 11\n",
+    ),
+    // The four layouts each at its smallest room and below; `.` and `..`; an expression that is
+    // none; what isn't listed.
+    (
+        "fsa 1\nclient a 7\na 1 tick 3\na 2 create =\\d 0x1 0x7 create 0x1 0x0 0\n\
+         a 3 create =\\d\\b 0x3 0x7 create 0x0 0x0 0\na 4 write 3 0 x0102\n\
+         a 5 create =\\d\\A 0x1 0x7 create 0x1 0x0 0\na 6 querydir 2 names = go 11\n\
+         a 7 querydir 2 names = go 12\na 8 querydir 2 names = restart 16384\n\
+         a 9 querydir 2 names = go 100\na 10 querydir 2 dir =b restart 63\n\
+         a 11 querydir 2 dir =b restart 66\na 12 querydir 2 full =B restart 67\n\
+         a 13 querydir 2 full =B restart 70\na 14 querydir 2 idfull =a restart 79\n\
+         a 15 querydir 2 idfull =a restart 82\na 16 querydir 2 idfull =. restart 200\n\
+         a 17 querydir 2 idfull =.. restart 200\na 18 querydir 2 names =a|b restart 100\n\
+         a 19 querydir 2 names = go 100\na 20 querydir 3 names = go 100\n\
+         a 21 create =\\d 0x80 0x7 open 0x1 0x0 0\na 22 querydir 21 names = go 100\n\
+         a 23 querydir 99 names = go 100\na 24 create =\\d\\c 0x10000 0x7 create 0x0 0x0 0\n\
+         a 25 querydir 2 names =c restart 100\na 26 setdelete 24 yes\n\
+         a 27 querydir 2 names =c restart 100\n",
+        "> a 1 tick\na 1 SUCCESS\n> a 2 create\na 2 SUCCESS created\n> a 3 create\n\
+         a 3 SUCCESS created\n> a 4 write\na 4 SUCCESS 2\n> a 5 create\na 5 SUCCESS created\n\
+         > a 6 querydir\na 6 INFO_LENGTH_MISMATCH\n> a 7 querydir\na 7 BUFFER_OVERFLOW\n\
+         > a 8 querydir\n\
+         a 8 SUCCESS x1000000000000000020000002e0000001000000000000000040000002e002e00100000000000000002000000410000000000000000000000020000006200 =. =.. =A =b\n\
+         > a 9 querydir\na 9 NO_MORE_FILES\n> a 10 querydir\na 10 INFO_LENGTH_MISMATCH\n\
+         > a 11 querydir\n\
+         a 11 SUCCESS x000000000000000003000000000000000300000000000000030000000000000003000000000000000200000000000000001000000000000020000000020000006200 =b,0x20,2\n\
+         > a 12 querydir\na 12 INFO_LENGTH_MISMATCH\n> a 13 querydir\n\
+         a 13 SUCCESS x00000000000000000300000000000000030000000000000003000000000000000300000000000000020000000000000000100000000000002000000002000000000000006200 =b,0x20,2\n\
+         > a 14 querydir\na 14 INFO_LENGTH_MISMATCH\n> a 15 querydir\n\
+         a 15 SUCCESS x00000000000000000300000000000000030000000000000003000000000000000300000000000000000000000000000000000000000000001000000002000000000000000000000004000000000000004100 =A,0x10,0\n\
+         > a 16 querydir\n\
+         a 16 SUCCESS x00000000000000000300000000000000030000000000000003000000000000000300000000000000000000000000000000000000000000001000000002000000000000000000000002000000000000002e00 =.,0x10,0\n\
+         > a 17 querydir\n\
+         a 17 SUCCESS x00000000000000000000000000000000000000000000000000000000000000000000000000000000000000000000000000000000000000001000000004000000000000000000000001000000000000002e002e00 =..,0x10,0\n\
+         > a 18 querydir\na 18 OBJECT_NAME_INVALID\n> a 19 querydir\na 19 NO_MORE_FILES\n\
+         > a 20 querydir\na 20 INVALID_PARAMETER\n> a 21 create\na 21 SUCCESS opened\n\
+         > a 22 querydir\na 22 ACCESS_DENIED\n> a 23 querydir\na 23 INVALID_HANDLE\n\
+         > a 24 create\na 24 SUCCESS created\n> a 25 querydir\n\
+         a 25 SUCCESS x0000000000000000020000006300 =c\n> a 26 setdelete\na 26 SUCCESS\n\
+         > a 27 querydir\na 27 NO_SUCH_FILE\n> a 28 leave\na 28 SUCCESS\nend 28\n",
     ),
 ];
 
