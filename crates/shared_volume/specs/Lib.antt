@@ -1,0 +1,5 @@
+pub mod Answers
+pub mod Engines
+pub mod Histories
+pub mod Later
+pub mod Shared

@@ -1,0 +1,96 @@
+-- What clauses read of a volume and of a pass, and what the calls make of what a pass knows.
+use Rattle.std.specs.Prelude.{◌≡◌, ℕ, ◌+◌, ◌<◌, ◌≤◌, true, List, [], ◌∷◌, ◌++◌, length, Option, Some, IsTrue}
+use Rattle.fsa_types.specs.Request.{what_fits}
+use Rattle.fsa_types.specs.declared.reply.Answer.{Answer}
+use Rattle.fsa_types.specs.declared.reply.Out.{Out}
+use Rattle.fsa_types.specs.declared.reply.Reply.{Reply}
+use Rattle.fsa_types.specs.declared.reply.Why.{Why}
+use Rattle.fsa_types.specs.declared.request.Call.{Call}
+use Rattle.fsa_types.specs.declared.request.CallId.{CallId}
+use Rattle.fsa_types.specs.declared.request.What.{What}
+use Rattle.fsa_types.specs.declared.request.What.TheVariants.{WaitFor}
+use Rattle.fsa_types.specs.declared.status.Status.{Status}
+use Rattle.fsa_model.specs.History.{HistoryEntry, Run, run}
+use Rattle.fsa_model.specs.LineCalls.{ticks_fit}
+use Rattle.fsa_model.specs.Outcome.{TurnOut}
+use Rattle.fsa_model.specs.Requests.{can_be_asked}
+use Rattle.fsa_model.specs.Setup.{Setup}
+use Rattle.fsa_model.specs.Waiting.{is_pending}
+use Rattle.fsa_machine.specs.Stands.{GaveOut, ended_with_list, reply_in}
+use Rattle.history_lock.specs.declared.machine.Machine.{Ghosts}
+use Rattle.history_lock.specs.declared.pass.Pass.{Pass}
+use Rattle.history_lock.specs.declared.view.View.{View}
+use Rattle.history_lock.specs.History.{Begins}
+use Rattle.history_lock.specs.Lock.{base_of, IsPassOf}
+use Rattle.history_lock.specs.Passes.{Makes}
+use Rattle.shared_volume.specs.declared.engine.Engine.{Engine}
+use Rattle.shared_volume.specs.declared.shared.SharedVolume.{SharedVolume}
+use Rattle.shared_volume.specs.Engines.{setup_in_engine}
+use Rattle.shared_volume.specs.Histories.{IsHistory}
+
+-- the setup with which the volume was made
+abbrev pub setup_at : SharedVolume → Setup
+setup_at volume = base_of setup_in_engine volume.lock
+
+-- what a pass knows of a volume
+abbrev pub Known : Type 0
+Known = View Setup HistoryEntry Call
+
+-- it is a pass of this volume, for one of its clients, and has seen a history
+abbrev pub IsPass : {machine : Ghosts Engine Setup HistoryEntry Call Out Why CallId (Option Reply)} → SharedVolume → Pass Engine Setup HistoryEntry Call Out Why CallId (Option Reply) machine → Type 0
+IsPass volume pass = IsPassOf setup_in_engine IsHistory volume.lock pass
+
+abbrev pub call_of : HistoryEntry → Call
+call_of entry = entry.call
+
+abbrev pub client_of : Call → ℕ
+client_of call = call.client
+
+-- a line can ask this
+pub record CanSubmit (what : What) : Type 0 where
+  pub fits : IsTrue (what_fits what)
+  pub can_be_asked : IsTrue (can_be_asked what)
+  pub ticks : IsTrue (ticks_fit what)
+
+-- the turn that the last entry stands for answered its own call so
+pub record Answers (setup : Setup) (seen : List HistoryEntry) (answer : Answer) : Type 0 where
+  pub out : TurnOut
+  pub gave : GaveOut setup seen out
+  pub is : out.answer ≡ answer
+
+-- the client made its next call, which has this number and was answered so
+pub record Submits (setup : Setup) (what : What) (number : ℕ) (answer : Answer) (v w : Known) : Type 0 where
+  pub makes : Makes call_of (record { client = v.own.client; number = number; what = what }) v w
+  pub count : number ≡ length w.own.mine
+  pub answers : Answers setup w.own.seen answer
+
+-- the client's call of this number has ended so in this history
+abbrev pub HasEnded : Setup → List HistoryEntry → ℕ → ℕ → Reply → Type 0
+HasEnded setup seen client number reply = (r : Run) → run setup seen ≡ Some r → reply_in r.volume.ended client number ≡ Some reply
+
+-- it is pending there
+abbrev pub Pends : Setup → List HistoryEntry → ℕ → ℕ → Type 0
+Pends setup seen client number = (r : Run) → run setup seen ≡ Some r → is_pending r.volume client number ≡ true
+
+-- it has ended there with a body that holds a list
+abbrev pub EndedWithList : Setup → List HistoryEntry → ℕ → ℕ → Type 0
+EndedWithList setup seen client number = (r : Run) → run setup seen ≡ Some r → ended_with_list r.volume.ended client number ≡ true
+
+-- no call was made, and what is seen begins with what had been seen; the two counts don't fall
+pub record OnlySees (v w : Known) : Type 0 where
+  pub seen : Begins v.own.seen w.own.seen
+  pub loads : v.loads ≤ w.loads
+  pub lost : v.lost ≤ w.lost
+  pub view : w ≡ record v { own = record v.own { seen = w.own.seen }; loads = w.loads; lost = w.lost }
+
+-- the client made one call more, a wait for its call of this number, which has ended in what is seen now with this status
+pub record WaitsFor (setup : Setup) (number : ℕ) (status : Status) (v w : Known) : Type 0 where
+  pub between : Known
+  pub before : Known
+  pub lost : v.lost ≤ before.lost
+  pub is : before ≡ record v { lost = before.lost }
+  pub makes : Makes call_of (record { client = v.own.client; number = length v.own.mine + 1; what = WaitFor number }) before between
+  pub sees : OnlySees between w
+  pub reply : Reply
+  pub ended : HasEnded setup w.own.seen v.own.client (length v.own.mine + 1) reply
+  pub so : reply.status ≡ status
