@@ -7,7 +7,7 @@ use Rattle.fsa_types.specs.declared.request.Disposition.TheVariants.{Supersede, 
 use Rattle.fsa_types.specs.declared.request.DirKind.TheVariants.{Names, Dir, Full, IdFull}
 use Rattle.fsa_types.specs.declared.request.InfoKind.TheVariants.{Basic, Standard, Internal, Tag, Streams}
 use Rattle.fsa_types.specs.declared.request.Request.{Request}
-use Rattle.fsa_types.specs.declared.request.Request.TheVariants.{Create, Read, Write, Flush, SetEnd, Lock, Unlock, QueryDir, QueryInfo, SetBasic, SetDisposition, Rename, Link, SetReparse, GetReparse, DeleteReparse, SetQuota, QueryQuota, Cancel}
+use Rattle.fsa_types.specs.declared.request.Request.TheVariants.{Create, Read, Write, Flush, SetEnd, Lock, Unlock, QueryDir, Notify, QueryInfo, SetBasic, SetDisposition, Rename, Link, SetReparse, GetReparse, DeleteReparse, SetQuota, QueryQuota, Cancel}
 use Rattle.fsa_types.specs.declared.request.What.TheVariants.{Ask, WaitFor}
 use Rattle.fsa_types.specs.declared.reply.Action.TheVariants.{Created}
 use Rattle.fsa_types.specs.declared.reply.Answer.TheVariants.{Ended}
@@ -19,7 +19,7 @@ use Rattle.fsa_model.specs.ByteLines.{read_fields, start_at, write_fields, flush
 use Rattle.fsa_model.specs.LockLines.{lock_fields, unlock_fields}
 use Rattle.fsa_model.specs.NameLines.{rename_fields, link_fields, set_disposition_fields}
 use Rattle.fsa_model.specs.InformationLines.{info_kind_at, query_info_fields, set_basic_fields}
-use Rattle.fsa_model.specs.ListingLines.{dir_kind_at, query_dir_fields}
+use Rattle.fsa_model.specs.ListingLines.{dir_kind_at, query_dir_fields, notify_fields}
 use Rattle.fsa_model.specs.ControlLines.{set_reparse_fields, get_reparse_fields, delete_reparse_fields, set_quota_fields, query_quota_fields}
 use Rattle.fsa_model.specs.WaitLines.{cancel_fields, wait_fields}
 use Rattle.fsa_model.specs.Lines.{Line, RequestLine, request_of, line_of}
@@ -404,6 +404,8 @@ pub queries_said :
     ∷ codes "a 1 setquota 4294967295 18446744073709551615"
     ∷ codes "a 1 queryquota 0"
     ∷ codes "a 1 queryquota 4294967295"
+    ∷ codes "a 1 notify 0 0x0 flat 0"
+    ∷ codes "a 1 notify 4294967295 0xffffffff tree 16384"
     ∷ [])
     ≡ map {B = Result Line Kind} Ok (
     asks (QueryDir 1 Names (42 ∷ []) true 100)
@@ -427,8 +429,10 @@ pub queries_said :
     ∷ asks (SetQuota 4294967295 18446744073709551615)
     ∷ asks (QueryQuota 0)
     ∷ asks (QueryQuota 4294967295)
+    ∷ asks (Notify 0 0 false 0)
+    ∷ asks (Notify 4294967295 0xFFFFFFFF true 16384)
     ∷ [])
-unfolding line_of request_of what_of query_info_fields info_kind_at set_basic_fields query_dir_fields dir_kind_at set_reparse_fields get_reparse_fields delete_reparse_fields set_quota_fields query_quota_fields choice_at text_at text_of string_at string_of mask_at mask_of number_at field_at
+unfolding line_of request_of what_of query_info_fields info_kind_at set_basic_fields query_dir_fields dir_kind_at notify_fields set_reparse_fields get_reparse_fields delete_reparse_fields set_quota_fields query_quota_fields choice_at text_at text_of string_at string_of mask_at mask_of number_at field_at
 queries_said = refl
 
 -- written, with small numbers
@@ -449,6 +453,8 @@ pub queries_written :
     ∷ asks (DeleteReparse 1 0xC)
     ∷ asks (SetQuota 7 100)
     ∷ asks (QueryQuota 7)
+    ∷ asks (Notify 1 0xFFF true 100)
+    ∷ asks (Notify 2 0x10 false 0)
     ∷ [])
     ≡ codes "a 1 querydir 1 names =* restart 10"
     ∷ codes "a 1 querydir 12 dir = go 0"
@@ -465,6 +471,8 @@ pub queries_written :
     ∷ codes "a 1 deletereparse 1 0xc"
     ∷ codes "a 1 setquota 7 100"
     ∷ codes "a 1 queryquota 7"
+    ∷ codes "a 1 notify 1 0xfff tree 100"
+    ∷ codes "a 1 notify 2 0x10 flat 0"
     ∷ []
 queries_written = refl
 
@@ -537,11 +545,21 @@ bad_queries =
     ∷ codes "a 1 queryquota 07"
     ∷ codes "a 1 queryquota"
     ∷ codes "a 1 queryquota 7 0"
-    ∷ codes "a 1 notify 1 0x1 flat 100"
+    ∷ codes "a 1 notify 4294967296 0x1 flat 100"
+    ∷ codes "a 1 notify 1 1 flat 100"
+    ∷ codes "a 1 notify 1 0x100000000 flat 100"
+    ∷ codes "a 1 notify 1 0x1 deep 100"
+    ∷ codes "a 1 notify 1 0x1 Tree 100"
+    ∷ codes "a 1 notify 1 0x1 flat 16385"
+    ∷ codes "a 1 notify 1 flat 0x1 100"
+    ∷ codes "a 1 notify 1 0x1 flat"
+    ∷ codes "a 1 notify 1 0x1 100"
+    ∷ codes "a 1 notify 1 0x1 flat 100 "
+    ∷ codes "a 1 notify 1 0x1 flat 100 0"
     ∷ []
 
 pub no_queries : map line_of bad_queries ≡ map {B = Result Line Kind} (λ line. Err BadSyntax) bad_queries
-unfolding line_of request_of what_of query_info_fields info_kind_at set_basic_fields query_dir_fields dir_kind_at set_reparse_fields get_reparse_fields delete_reparse_fields set_quota_fields query_quota_fields choice_at text_at text_of string_at string_of mask_at mask_of number_at field_at
+unfolding line_of request_of what_of query_info_fields info_kind_at set_basic_fields query_dir_fields dir_kind_at notify_fields set_reparse_fields get_reparse_fields delete_reparse_fields set_quota_fields query_quota_fields choice_at text_at text_of string_at string_of mask_at mask_of number_at field_at
 no_queries = refl
 
 -- what no line can say
@@ -567,8 +585,11 @@ pub unsaid_queries :
     ∷ SetQuota 4294967296 0
     ∷ SetQuota 1 18446744073709551616
     ∷ QueryQuota 4294967296
+    ∷ Notify 4294967296 1 true 0
+    ∷ Notify 1 0x100000000 true 0
+    ∷ Notify 1 1 true 16385
     ∷ [])
-    ≡ replicate 20 false
+    ≡ replicate 23 false
 unsaid_queries = refl
 
 -- ---- a turn of an open

@@ -9,11 +9,11 @@ use Rattle.std.proofs.lemmas.List.{take_at, drop_at, length-take, length-drop}
 use Rattle.std.proofs.lemmas.List.Concat.{flat_map-cons}
 use Rattle.std.proofs.lemmas.Nat.{from_le_bytes-to_le_bytes_4, from_le_bytes-to_le_bytes_8}
 use Rattle.fsa_types.specs.LittleEndian.{little_endian, unit_bytes, utf16, zeros}
-use Rattle.fsa_types.specs.PackedRows.{Numbers, PackRow}
+use Rattle.fsa_types.specs.PackedRows.{Numbers, NumbersFit, PackRow}
 use Rattle.fsa_types.specs.Packing.{Packed, packed, head, head_size, before_name, after_name, name_of, rounded, shown, size_of, entry_bytes, entries_bytes, is_nothing, bytes}
 use Rattle.fsa_types.specs.declared.reply.PackKind.{PackKind}
 use Rattle.fsa_types.specs.declared.reply.PackKind.TheVariants.{Names, Dir, Full, IdFull, Streams, Changes}
-use Rattle.fsa_model.specs.PackedText.{number_in, units_in, numbers_at, next_at, len_at, field_of, inner, entry_at, rest_at, if_spelled, read_entry, first_entries, entries_in, shown_text, entry_text, packed_text, row_text, NumbersFit, IsPacked, StartsWith, AreUnits, RowFits, RowsFit}
+use Rattle.fsa_model.specs.PackedText.{number_in, units_in, numbers_at, next_at, len_at, field_of, inner, entry_at, rest_at, if_spelled, read_entry, first_entries, entries_in, shown_text, entry_text, packed_text, row_text, IsPacked, StartsWith, AreUnits, RowFits, RowsFit}
 use Rattle.fsa_model.specs.Words.{same}
 use Rattle.fsa_model.proofs.RowLaws.{option_cases}
 use Rattle.fsa_model.proofs.SettleLaws.{some_equal}

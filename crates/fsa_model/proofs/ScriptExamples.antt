@@ -71,9 +71,9 @@ pub two_spaces : line_of (codes "a  1 tick 0") ≡ Err BadSyntax
 unfolding line_of request_of number_at field_at
 two_spaces = refl
 
-pub not_built : line_of (codes "a 1 notify 1 0x1 flat 100") ≡ Err BadSyntax
+pub no_verb : line_of (codes "a 1 watch 1 0x1 flat 100") ≡ Err BadSyntax
 unfolding line_of request_of what_of number_at field_at
-not_built = refl
+no_verb = refl
 
 -- whole scripts
 pub no_bytes : script_of [] ≡ Err (record { line = 1; kind = BadCut })

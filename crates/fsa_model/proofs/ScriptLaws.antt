@@ -14,20 +14,20 @@ use Rattle.fsa_types.specs.BoundedList.{full}
 use Rattle.fsa_types.specs.declared.request.What.{What}
 use Rattle.fsa_types.specs.declared.request.What.TheVariants.{Ask, Tick, WaitFor}
 use Rattle.fsa_types.specs.declared.request.Request.TheVariants.{Oplock, Ack}
-use Rattle.fsa_types.specs.declared.request.Request.TheVariants.{Create, Close, Read, Write, Flush, SetEnd, Lock, Unlock, QueryDir, QueryInfo, SetBasic, SetDisposition, Rename, Link, SetSecurity, SetReparse, GetReparse, DeleteReparse, SetQuota, QueryQuota, Cancel}
+use Rattle.fsa_types.specs.declared.request.Request.TheVariants.{Create, Close, Read, Write, Flush, SetEnd, Lock, Unlock, QueryDir, Notify, QueryInfo, SetBasic, SetDisposition, Rename, Link, SetSecurity, SetReparse, GetReparse, DeleteReparse, SetQuota, QueryQuota, Cancel}
 use Rattle.fsa_types.specs.Request.{dacl_fits, level_fits, what_fits}
 use Rattle.fsa_types.specs.CaseTable.{is_at_fault}
 use Rattle.fsa_model.specs.Setup.{Client, Script}
 use Rattle.fsa_model.specs.Fault.{Kind, BadSyntax, Fault, ◌>>=◌, only_if, read_as}
 use Rattle.fsa_model.specs.Numbers.{digit_of, number_after, written_number}
 use Rattle.fsa_model.specs.Words.{same, word_of, after_word, field_at, number_at, mask_at, text_at, choice_at, onto, written_bytes, string_of, string_at, ended, is_name, most_id, most_place, most_bytes}
-use Rattle.fsa_model.specs.Requests.{can_be_asked, what_of}
+use Rattle.fsa_model.specs.Requests.{what_of}
 use Rattle.fsa_model.specs.OpenLines.{most_key, disposition_at, create_fields, close_fields}
 use Rattle.fsa_model.specs.ByteLines.{read_fields, start_at, write_fields, flush_fields, set_end_fields}
 use Rattle.fsa_model.specs.LockLines.{lock_fields, unlock_fields}
 use Rattle.fsa_model.specs.OplockLines.{level_at, oplock_fields, ack_fields}
 use Rattle.fsa_model.specs.NameLines.{rename_fields, link_fields, set_disposition_fields}
-use Rattle.fsa_model.specs.ListingLines.{dir_kind_at, query_dir_fields}
+use Rattle.fsa_model.specs.ListingLines.{dir_kind_at, query_dir_fields, notify_fields}
 use Rattle.fsa_model.specs.ControlLines.{set_reparse_fields, get_reparse_fields, delete_reparse_fields, most_limit, set_quota_fields, query_quota_fields}
 use Rattle.fsa_model.specs.ClockLines.{tick_fields}
 use Rattle.fsa_model.specs.WaitLines.{cancel_fields, wait_fields}
@@ -178,7 +178,7 @@ string_at-short bytes =
 -- ---- the requests are within the bounds
 
 abbrev Fits : What → Type 0
-Fits what = IsTrue (what_fits what) × IsTrue (can_be_asked what) × IsTrue (ticks_fit what)
+Fits what = IsTrue (what_fits what) × IsTrue (ticks_fit what)
 
 ended-gives : {A : Type 0} (P : A → Type 0) (rest : List ℕ) (value : A) → P value → IfRead P (ended rest value)
 ended-gives P rest value holds = only_if-gives P (length rest == 0) value holds
@@ -189,94 +189,94 @@ create_fields-fits bytes =
     then-gives Fits (text_at bytes) _ (λ path. then-gives Fits (mask_at path.1) _ (λ wanted. then-gives Fits (mask_at wanted.1) _ (λ share.
     then-gives Fits (disposition_at share.1) _ (λ disposition. then-gives Fits (mask_at disposition.1) _ (λ options. then-gives Fits (mask_at options.1) _ (λ attributes.
     then-gives Fits (number_at most_key attributes.1) _ (λ key.
-    ended-gives Fits key.1 (Ask (Create path.0 wanted.0 share.0 disposition.0 options.0 attributes.0 key.0)) (refl, refl, refl))))))))
+    ended-gives Fits key.1 (Ask (Create path.0 wanted.0 share.0 disposition.0 options.0 attributes.0 key.0)) (refl, refl))))))))
 
 close_fields-fits : (bytes : List ℕ) → IfRead Fits (close_fields bytes)
 unfolding close_fields
-close_fields-fits bytes = then-gives Fits (number_at most_id bytes) _ (λ handle. ended-gives Fits handle.1 (Ask (Close handle.0)) (refl, refl, refl))
+close_fields-fits bytes = then-gives Fits (number_at most_id bytes) _ (λ handle. ended-gives Fits handle.1 (Ask (Close handle.0)) (refl, refl))
 
 read_fields-fits : (bytes : List ℕ) → IfRead Fits (read_fields bytes)
 unfolding read_fields
 read_fields-fits bytes =
     then-gives Fits (number_at most_id bytes) _ (λ handle. then-gives Fits (number_at most_place handle.1) _ (λ place.
     bind-gives (IsAtMost most_bytes) Fits (number_at most_bytes place.1) _ (number_at-bound most_bytes place.1) (λ count below.
-    ended-gives Fits count.1 (Ask (Read handle.0 place.0 count.0)) (le-leb count.0 16384 below, refl, refl))))
+    ended-gives Fits count.1 (Ask (Read handle.0 place.0 count.0)) (le-leb count.0 16384 below, refl))))
 
 write_fields-fits : (bytes : List ℕ) → IfRead Fits (write_fields bytes)
 unfolding write_fields
 write_fields-fits bytes =
     then-gives Fits (number_at most_id bytes) _ (λ handle. then-gives Fits (start_at handle.1) _ (λ start.
     bind-gives IsShortAt Fits (string_at start.1) _ (string_at-short start.1) (λ string short.
-    ended-gives Fits string.1 (Ask (Write handle.0 start.0 string.0)) (le-leb (length string.0) 16384 short, refl, refl))))
+    ended-gives Fits string.1 (Ask (Write handle.0 start.0 string.0)) (le-leb (length string.0) 16384 short, refl))))
 
 flush_fields-fits : (bytes : List ℕ) → IfRead Fits (flush_fields bytes)
 unfolding flush_fields
-flush_fields-fits bytes = then-gives Fits (number_at most_id bytes) _ (λ handle. ended-gives Fits handle.1 (Ask (Flush handle.0)) (refl, refl, refl))
+flush_fields-fits bytes = then-gives Fits (number_at most_id bytes) _ (λ handle. ended-gives Fits handle.1 (Ask (Flush handle.0)) (refl, refl))
 
 set_end_fields-fits : (bytes : List ℕ) → IfRead Fits (set_end_fields bytes)
 unfolding set_end_fields
 set_end_fields-fits bytes =
     then-gives Fits (number_at most_id bytes) _ (λ handle. then-gives Fits (number_at most_place handle.1) _ (λ length.
-    ended-gives Fits length.1 (Ask (SetEnd handle.0 length.0)) (refl, refl, refl)))
+    ended-gives Fits length.1 (Ask (SetEnd handle.0 length.0)) (refl, refl)))
 
 lock_fields-fits : (bytes : List ℕ) → IfRead Fits (lock_fields bytes)
 unfolding lock_fields
 lock_fields-fits bytes =
     then-gives Fits (number_at most_id bytes) _ (λ handle. then-gives Fits (number_at most_place handle.1) _ (λ place. then-gives Fits (number_at most_place place.1) _ (λ count.
     then-gives Fits (choice_at (codes "ex") (codes "sh") count.1) _ (λ exclusive. then-gives Fits (choice_at (codes "wait") (codes "now") exclusive.1) _ (λ wait.
-    ended-gives Fits wait.1 (Ask (Lock handle.0 place.0 count.0 exclusive.0 wait.0)) (refl, refl, refl))))))
+    ended-gives Fits wait.1 (Ask (Lock handle.0 place.0 count.0 exclusive.0 wait.0)) (refl, refl))))))
 
 unlock_fields-fits : (bytes : List ℕ) → IfRead Fits (unlock_fields bytes)
 unfolding unlock_fields
 unlock_fields-fits bytes =
     then-gives Fits (number_at most_id bytes) _ (λ handle. then-gives Fits (number_at most_place handle.1) _ (λ place. then-gives Fits (number_at most_place place.1) _ (λ count.
-    ended-gives Fits count.1 (Ask (Unlock handle.0 place.0 count.0)) (refl, refl, refl))))
+    ended-gives Fits count.1 (Ask (Unlock handle.0 place.0 count.0)) (refl, refl))))
 
 oplock_fields-fits : (bytes : List ℕ) → IfRead Fits (oplock_fields bytes)
 unfolding oplock_fields
 oplock_fields-fits bytes =
     then-gives Fits (number_at most_id bytes) _ (λ handle. then-gives Fits (level_at handle.1) _ (λ level.
     bind-gives Fits Fits (only_if (level_fits level.0) (Ask (Oplock handle.0 level.0))) _
-    (only_if-when Fits (level_fits level.0) (Ask (Oplock handle.0 level.0)) (λ fits. (fits, refl, refl)))
+    (only_if-when Fits (level_fits level.0) (Ask (Oplock handle.0 level.0)) (λ fits. (fits, refl)))
     (λ what fits. ended-gives Fits level.1 what fits)))
 
 ack_fields-fits : (bytes : List ℕ) → IfRead Fits (ack_fields bytes)
 unfolding ack_fields
 ack_fields-fits bytes =
     then-gives Fits (number_at most_id bytes) _ (λ handle. then-gives Fits (level_at handle.1) _ (λ level.
-    ended-gives Fits level.1 (Ask (Ack handle.0 level.0)) (refl, refl, refl)))
+    ended-gives Fits level.1 (Ask (Ack handle.0 level.0)) (refl, refl)))
 
 rename_fields-fits : (bytes : List ℕ) → IfRead Fits (rename_fields bytes)
 unfolding rename_fields
 rename_fields-fits bytes =
     then-gives Fits (number_at most_id bytes) _ (λ handle. then-gives Fits (text_at handle.1) _ (λ path. then-gives Fits (choice_at (codes "replace") (codes "keep") path.1) _ (λ replace.
-    ended-gives Fits replace.1 (Ask (Rename handle.0 path.0 replace.0)) (refl, refl, refl))))
+    ended-gives Fits replace.1 (Ask (Rename handle.0 path.0 replace.0)) (refl, refl))))
 
 link_fields-fits : (bytes : List ℕ) → IfRead Fits (link_fields bytes)
 unfolding link_fields
 link_fields-fits bytes =
     then-gives Fits (number_at most_id bytes) _ (λ handle. then-gives Fits (text_at handle.1) _ (λ path. then-gives Fits (choice_at (codes "replace") (codes "keep") path.1) _ (λ replace.
-    ended-gives Fits replace.1 (Ask (Link handle.0 path.0 replace.0)) (refl, refl, refl))))
+    ended-gives Fits replace.1 (Ask (Link handle.0 path.0 replace.0)) (refl, refl))))
 
 set_disposition_fields-fits : (bytes : List ℕ) → IfRead Fits (set_disposition_fields bytes)
 unfolding set_disposition_fields
 set_disposition_fields-fits bytes =
     then-gives Fits (number_at most_id bytes) _ (λ handle. then-gives Fits (choice_at (codes "yes") (codes "no") handle.1) _ (λ delete.
-    ended-gives Fits delete.1 (Ask (SetDisposition handle.0 delete.0)) (refl, refl, refl)))
+    ended-gives Fits delete.1 (Ask (SetDisposition handle.0 delete.0)) (refl, refl)))
 
 query_info_fields-fits : (bytes : List ℕ) → IfRead Fits (query_info_fields bytes)
 unfolding query_info_fields
 query_info_fields-fits bytes =
     then-gives Fits (number_at most_id bytes) _ (λ handle. then-gives Fits (info_kind_at handle.1) _ (λ kind.
     bind-gives (IsAtMost most_bytes) Fits (number_at most_bytes kind.1) _ (number_at-bound most_bytes kind.1) (λ room below.
-    ended-gives Fits room.1 (Ask (QueryInfo handle.0 kind.0 room.0)) (le-leb room.0 16384 below, refl, refl))))
+    ended-gives Fits room.1 (Ask (QueryInfo handle.0 kind.0 room.0)) (le-leb room.0 16384 below, refl))))
 
 set_basic_fields-fits : (bytes : List ℕ) → IfRead Fits (set_basic_fields bytes)
 unfolding set_basic_fields
 set_basic_fields-fits bytes =
     then-gives Fits (number_at most_id bytes) _ (λ handle. then-gives Fits (number_at most_time handle.1) _ (λ creation. then-gives Fits (number_at most_time creation.1) _ (λ access.
     then-gives Fits (number_at most_time access.1) _ (λ write. then-gives Fits (number_at most_time write.1) _ (λ change. then-gives Fits (mask_at change.1) _ (λ attributes.
-    ended-gives Fits attributes.1 (Ask (SetBasic handle.0 creation.0 access.0 write.0 change.0 attributes.0)) (refl, refl, refl)))))))
+    ended-gives Fits attributes.1 (Ask (SetBasic handle.0 creation.0 access.0 write.0 change.0 attributes.0)) (refl, refl)))))))
 
 query_dir_fields-fits : (bytes : List ℕ) → IfRead Fits (query_dir_fields bytes)
 unfolding query_dir_fields
@@ -284,51 +284,58 @@ query_dir_fields-fits bytes =
     then-gives Fits (number_at most_id bytes) _ (λ handle. then-gives Fits (dir_kind_at handle.1) _ (λ kind. then-gives Fits (text_at kind.1) _ (λ expression.
     then-gives Fits (choice_at (codes "restart") (codes "go") expression.1) _ (λ restart.
     bind-gives (IsAtMost most_bytes) Fits (number_at most_bytes restart.1) _ (number_at-bound most_bytes restart.1) (λ room below.
-    ended-gives Fits room.1 (Ask (QueryDir handle.0 kind.0 expression.0 restart.0 room.0)) (le-leb room.0 16384 below, refl, refl))))))
+    ended-gives Fits room.1 (Ask (QueryDir handle.0 kind.0 expression.0 restart.0 room.0)) (le-leb room.0 16384 below, refl))))))
+
+notify_fields-fits : (bytes : List ℕ) → IfRead Fits (notify_fields bytes)
+unfolding notify_fields
+notify_fields-fits bytes =
+    then-gives Fits (number_at most_id bytes) _ (λ handle. then-gives Fits (mask_at handle.1) _ (λ filter. then-gives Fits (choice_at (codes "tree") (codes "flat") filter.1) _ (λ tree.
+    bind-gives (IsAtMost most_bytes) Fits (number_at most_bytes tree.1) _ (number_at-bound most_bytes tree.1) (λ room below.
+    ended-gives Fits room.1 (Ask (Notify handle.0 filter.0 tree.0 room.0)) (le-leb room.0 16384 below, refl)))))
 
 set_reparse_fields-fits : (bytes : List ℕ) → IfRead Fits (set_reparse_fields bytes)
 unfolding set_reparse_fields
 set_reparse_fields-fits bytes =
     then-gives Fits (number_at most_id bytes) _ (λ handle.
     bind-gives IsShortAt Fits (string_at handle.1) _ (string_at-short handle.1) (λ buffer short.
-    ended-gives Fits buffer.1 (Ask (SetReparse handle.0 buffer.0)) (le-leb (length buffer.0) 16384 short, refl, refl)))
+    ended-gives Fits buffer.1 (Ask (SetReparse handle.0 buffer.0)) (le-leb (length buffer.0) 16384 short, refl)))
 
 get_reparse_fields-fits : (bytes : List ℕ) → IfRead Fits (get_reparse_fields bytes)
 unfolding get_reparse_fields
 get_reparse_fields-fits bytes =
     then-gives Fits (number_at most_id bytes) _ (λ handle.
     bind-gives (IsAtMost most_bytes) Fits (number_at most_bytes handle.1) _ (number_at-bound most_bytes handle.1) (λ room below.
-    ended-gives Fits room.1 (Ask (GetReparse handle.0 room.0)) (le-leb room.0 16384 below, refl, refl)))
+    ended-gives Fits room.1 (Ask (GetReparse handle.0 room.0)) (le-leb room.0 16384 below, refl)))
 
 delete_reparse_fields-fits : (bytes : List ℕ) → IfRead Fits (delete_reparse_fields bytes)
 unfolding delete_reparse_fields
 delete_reparse_fields-fits bytes =
     then-gives Fits (number_at most_id bytes) _ (λ handle. then-gives Fits (mask_at handle.1) _ (λ tag.
-    ended-gives Fits tag.1 (Ask (DeleteReparse handle.0 tag.0)) (refl, refl, refl)))
+    ended-gives Fits tag.1 (Ask (DeleteReparse handle.0 tag.0)) (refl, refl)))
 
 set_quota_fields-fits : (bytes : List ℕ) → IfRead Fits (set_quota_fields bytes)
 unfolding set_quota_fields
 set_quota_fields-fits bytes =
     then-gives Fits (number_at most_id bytes) _ (λ sid. then-gives Fits (number_at most_limit sid.1) _ (λ limit.
-    ended-gives Fits limit.1 (Ask (SetQuota sid.0 limit.0)) (refl, refl, refl)))
+    ended-gives Fits limit.1 (Ask (SetQuota sid.0 limit.0)) (refl, refl)))
 
 query_quota_fields-fits : (bytes : List ℕ) → IfRead Fits (query_quota_fields bytes)
 unfolding query_quota_fields
-query_quota_fields-fits bytes = then-gives Fits (number_at most_id bytes) _ (λ sid. ended-gives Fits sid.1 (Ask (QueryQuota sid.0)) (refl, refl, refl))
+query_quota_fields-fits bytes = then-gives Fits (number_at most_id bytes) _ (λ sid. ended-gives Fits sid.1 (Ask (QueryQuota sid.0)) (refl, refl))
 
 tick_fields-fits : (bytes : List ℕ) → IfRead Fits (tick_fields bytes)
 unfolding tick_fields
 tick_fields-fits bytes =
     bind-gives (IsAtMost most_id) Fits (number_at most_id bytes) _ (number_at-bound most_id bytes) (λ ticks below.
-    ended-gives Fits ticks.1 (Tick ticks.0) (refl, refl, le-leb ticks.0 4294967295 below))
+    ended-gives Fits ticks.1 (Tick ticks.0) (refl, le-leb ticks.0 4294967295 below))
 
 cancel_fields-fits : (bytes : List ℕ) → IfRead Fits (cancel_fields bytes)
 unfolding cancel_fields
-cancel_fields-fits bytes = then-gives Fits (number_at most_id bytes) _ (λ number. ended-gives Fits number.1 (Ask (Cancel number.0)) (refl, refl, refl))
+cancel_fields-fits bytes = then-gives Fits (number_at most_id bytes) _ (λ number. ended-gives Fits number.1 (Ask (Cancel number.0)) (refl, refl))
 
 wait_fields-fits : (bytes : List ℕ) → IfRead Fits (wait_fields bytes)
 unfolding wait_fields
-wait_fields-fits bytes = then-gives Fits (number_at most_id bytes) _ (λ number. ended-gives Fits number.1 (WaitFor number.0) (refl, refl, refl))
+wait_fields-fits bytes = then-gives Fits (number_at most_id bytes) _ (λ number. ended-gives Fits number.1 (WaitFor number.0) (refl, refl))
 
 -- at most so many entries
 abbrev AreFew : ℕ → List Ace → Type 0
@@ -373,7 +380,7 @@ unfolding set_security_fields
 set_security_fields-fits bytes =
     then-gives Fits (number_at most_id bytes) _ (λ handle. then-gives Fits (owner_at handle.1) _ (λ owner.
     bind-gives DaclFitsAt Fits (dacl_at owner.1) _ (dacl_at-fits owner.1) (λ dacl fits.
-    ended-gives Fits dacl.1 (Ask (SetSecurity handle.0 owner.0 dacl.0)) (fits, refl, refl))))
+    ended-gives Fits dacl.1 (Ask (SetSecurity handle.0 owner.0 dacl.0)) (fits, refl))))
 
 what_of-fits : (verb fields : List ℕ) → IfRead Fits (what_of verb fields)
 unfolding what_of
@@ -395,6 +402,7 @@ what_of-fits verb fields =
     (λ no. if-gives Fits (same verb (codes "setbasic")) _ _ (λ is. set_basic_fields-fits fields)
     (λ no. if-gives Fits (same verb (codes "setsecurity")) _ _ (λ is. set_security_fields-fits fields)
     (λ no. if-gives Fits (same verb (codes "querydir")) _ _ (λ is. query_dir_fields-fits fields)
+    (λ no. if-gives Fits (same verb (codes "notify")) _ _ (λ is. notify_fields-fits fields)
     (λ no. if-gives Fits (same verb (codes "setreparse")) _ _ (λ is. set_reparse_fields-fits fields)
     (λ no. if-gives Fits (same verb (codes "getreparse")) _ _ (λ is. get_reparse_fields-fits fields)
     (λ no. if-gives Fits (same verb (codes "deletereparse")) _ _ (λ is. delete_reparse_fields-fits fields)
@@ -403,7 +411,7 @@ what_of-fits verb fields =
     (λ no. if-gives Fits (same verb (codes "tick")) _ _ (λ is. tick_fields-fits fields)
     (λ no. if-gives Fits (same verb (codes "cancel")) _ _ (λ is. cancel_fields-fits fields)
     (λ no. if-gives Fits (same verb (codes "wait")) _ _ (λ is. wait_fields-fits fields)
-    (λ no. err-gives Fits _)))))))))))))))))))))))))
+    (λ no. err-gives Fits _))))))))))))))))))))))))))
 
 -- a line that is a request is within the bounds, and one of a client has a SID
 abbrev LineFits : Line → Type 0
@@ -456,7 +464,7 @@ AreLineCalls-push clients (one ∷ calls) call fit last = (fit.0, AreLineCalls-p
 AreLineCalls-more : (few many : ℕ) (calls : List Call) → few ≤ many → AreLineCalls few calls → AreLineCalls many calls
 AreLineCalls-more few many [] more fit = tt
 AreLineCalls-more few many (call ∷ calls) more fit = (
-  record { fits = fit.0.fits; can_be_asked = fit.0.can_be_asked; ticks = fit.0.ticks; client = let below : call.client < few = fit.0.client in omega arith },
+  record { fits = fit.0.fits; ticks = fit.0.ticks; client = let below : call.client < few = fit.0.client in omega arith },
   AreLineCalls-more few many calls more fit.1,
 )
 
@@ -500,7 +508,7 @@ take_call-lawful reading client number what lawful known fits =
     (λ is. ok-gives IsLawful (with_call reading client number what) (
       lawful.0,
       Lawful-push (clients_in reading) reading.script.lines (record { client = client; number = number; what = what }) lawful.1 (eqb-true number (next_number reading.script.lines client) is)
-          (record { fits = fits.0; can_be_asked = fits.1; ticks = fits.2; client = known }),
+          (record { fits = fits.0; ticks = fits.1; client = known }),
     ))
     (λ out. err-gives IsLawful _)
 

@@ -21,7 +21,7 @@ use Rattle.fsa_types.specs.declared.request.InfoKind.TheVariants.{Basic, Standar
 use Rattle.fsa_types.specs.declared.request.Level.{Level}
 use Rattle.fsa_types.specs.declared.request.Level.TheVariants.{Nil, R, RH, RW, RWH}
 use Rattle.fsa_types.specs.declared.request.Request.TheVariants.{Oplock, Ack}
-use Rattle.fsa_types.specs.declared.request.Request.TheVariants.{Create, Close, Read, Write, Flush, SetEnd, Lock, Unlock, QueryDir, QueryInfo, SetBasic, SetDisposition, Rename, Link, SetSecurity, SetReparse, GetReparse, DeleteReparse, SetQuota, QueryQuota, Cancel}
+use Rattle.fsa_types.specs.declared.request.Request.TheVariants.{Create, Close, Read, Write, Flush, SetEnd, Lock, Unlock, QueryDir, Notify, QueryInfo, SetBasic, SetDisposition, Rename, Link, SetSecurity, SetReparse, GetReparse, DeleteReparse, SetQuota, QueryQuota, Cancel}
 use Rattle.fsa_types.specs.declared.request.What.{What}
 use Rattle.fsa_types.specs.declared.request.What.TheVariants.{Ask, Tick, WaitFor}
 use Rattle.fsa_model.specs.Fault.{Kind, BadSyntax, ◌>>=◌, only_if}
@@ -33,7 +33,7 @@ use Rattle.fsa_model.specs.ByteLines.{read_fields, written_place, start_at, star
 use Rattle.fsa_model.specs.LockLines.{lock_fields, unlock_fields}
 use Rattle.fsa_model.specs.OplockLines.{level_of, level_at, oplock_fields, ack_fields}
 use Rattle.fsa_model.specs.InformationLines.{info_kind_of, info_kind_at, info_kind_text, query_info_fields, most_time, set_basic_fields, sid_of, owner_at, owner_text, ace_with, ace_of, ace_text, entry_of, after_entry, ace_onto, aces_of, most_aces, dacl_of, dacl_at, dacl_text, is_ace, is_dacl, set_security_fields}
-use Rattle.fsa_model.specs.ListingLines.{dir_kind_of, dir_kind_at, dir_kind_text, query_dir_fields}
+use Rattle.fsa_model.specs.ListingLines.{dir_kind_of, dir_kind_at, dir_kind_text, query_dir_fields, notify_fields}
 use Rattle.fsa_model.specs.ControlLines.{set_reparse_fields, get_reparse_fields, delete_reparse_fields, most_limit, set_quota_fields, query_quota_fields}
 use Rattle.fsa_model.specs.NameLines.{rename_fields, link_fields, set_disposition_fields}
 use Rattle.fsa_model.specs.ClockLines.{tick_fields}
@@ -732,6 +732,28 @@ query_dir_back fields what is =
       rw (le-leb handle.0.0 4294967295 b1.1, b3.1.1, le-leb room.0.0 16384 b5.1) refl,
     )
 
+notify_back : (fields : List ℕ) (what : What) → notify_fields fields ≡ Ok what → ReadsVerb (codes "notify") what fields
+unfolding notify_fields
+notify_back fields what is =
+    let handle = bind_ok (number_at most_id fields) _ what is in
+    let filter = bind_ok (mask_at handle.0.1) _ what handle.2 in
+    let tree = bind_ok (choice_at (codes "tree") (codes "flat") filter.0.1) _ what filter.2 in
+    let room = bind_ok (number_at 16384 tree.0.1) _ what tree.2 in
+    let last = ended_ok room.0.1 (Ask (Notify handle.0.0 filter.0.0 tree.0.0 room.0.0)) what room.2 in
+    let b1 = number_at-back most_id fields handle.0 handle.1 in
+    let b2 = mask_at-back handle.0.1 filter.0 filter.1 in
+    let b3 = choice_at-back (codes "tree") (codes "flat") filter.0.1 tree.0 tree.1 in
+    let b4 = number_at-back 16384 tree.0.1 room.0 room.1 in
+    subst (λ (w : What). ReadsVerb (codes "notify") w fields) last.1 (
+      refl,
+      b1.0
+          ∙ ap (λ (rest : List ℕ). number_text handle.0.0 ++ rest) (b2.0
+          ∙ ap (λ (rest : List ℕ). mask_text filter.0.0 ++ rest) (b3
+          ∙ ap (λ (rest : List ℕ). choice_text (codes "tree") (codes "flat") tree.0.0 ++ rest) (b4.0
+          ∙ ap (λ (rest : List ℕ). number_text room.0.0 ++ rest) last.0 ∙ append-nil (number_text room.0.0)))),
+      rw (le-leb handle.0.0 4294967295 b1.1, le-leb filter.0.0 4294967295 b2.1, le-leb room.0.0 16384 b4.1) refl,
+    )
+
 set_reparse_back : (fields : List ℕ) (what : What) → set_reparse_fields fields ≡ Ok what → ReadsVerb (codes "setreparse") what fields
 unfolding set_reparse_fields
 set_reparse_back fields what is =
@@ -874,6 +896,7 @@ what_of-back word fields what is =
     verb_case word (codes "setbasic") fields (set_basic_fields fields) _ what is (set_basic_back fields what) (λ is.
     verb_case word (codes "setsecurity") fields (set_security_fields fields) _ what is (set_security_back fields what) (λ is.
     verb_case word (codes "querydir") fields (query_dir_fields fields) _ what is (query_dir_back fields what) (λ is.
+    verb_case word (codes "notify") fields (notify_fields fields) _ what is (notify_back fields what) (λ is.
     verb_case word (codes "setreparse") fields (set_reparse_fields fields) _ what is (set_reparse_back fields what) (λ is.
     verb_case word (codes "getreparse") fields (get_reparse_fields fields) _ what is (get_reparse_back fields what) (λ is.
     verb_case word (codes "deletereparse") fields (delete_reparse_fields fields) _ what is (delete_reparse_back fields what) (λ is.
@@ -881,4 +904,4 @@ what_of-back word fields what is =
     verb_case word (codes "queryquota") fields (query_quota_fields fields) _ what is (query_quota_back fields what) (λ is.
     verb_case word (codes "tick") fields (tick_fields fields) _ what is (tick_back fields what) (λ is.
     verb_case word (codes "cancel") fields (cancel_fields fields) _ what is (cancel_back fields what) (λ is.
-    verb_case word (codes "wait") fields (wait_fields fields) (Err BadSyntax) what is (wait_back fields what) (λ is. absurd (let e : Err BadSyntax ≡ Ok what = is in cc))))))))))))))))))))))))))
+    verb_case word (codes "wait") fields (wait_fields fields) (Err BadSyntax) what is (wait_back fields what) (λ is. absurd (let e : Err BadSyntax ≡ Ok what = is in cc)))))))))))))))))))))))))))

@@ -4,7 +4,6 @@ use Rattle.fsa_types.specs.Request.{what_fits}
 use Rattle.fsa_types.specs.declared.request.Call.{Call}
 use Rattle.fsa_types.specs.declared.request.What.{What}
 use Rattle.fsa_types.specs.declared.request.What.TheVariants.{Tick}
-use Rattle.fsa_model.specs.Requests.{can_be_asked}
 use Rattle.fsa_model.specs.Setup.{Client}
 
 -- the clock goes on by less than 2 ^ 32
@@ -12,10 +11,9 @@ abbrev pub ticks_fit : What → Bool
 ticks_fit (Tick ticks) = nat_le ticks 4294967295
 ticks_fit _ = true
 
--- a call of one of so many clients, within the bounds of requests, that asks what a line can say or leaves
+-- a call of one of so many clients, within the bounds of requests
 pub record IsLineCall (clients : ℕ) (call : Call) : Type 0 where
   pub fits : IsTrue (what_fits call.what)
-  pub can_be_asked : IsTrue (can_be_asked call.what)
   pub ticks : IsTrue (ticks_fit call.what)
   pub client : call.client < clients
 

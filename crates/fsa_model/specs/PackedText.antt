@@ -4,7 +4,7 @@ use Rattle.std.specs.Prelude.{◌≡◌, ℕ, zero, suc, ◌+◌, ◌-◌, ◌*�
 use Rattle.std.specs.List.{flat_map}
 use Rattle.std.specs.Option.{option_map_or}
 use Rattle.fsa_types.specs.Masks.{FILE_ACTION_ADDED, FILE_ACTION_REMOVED, FILE_ACTION_MODIFIED, FILE_ACTION_RENAMED_OLD_NAME, FILE_ACTION_RENAMED_NEW_NAME, FILE_ACTION_ADDED_STREAM, FILE_ACTION_REMOVED_STREAM, FILE_ACTION_MODIFIED_STREAM}
-use Rattle.fsa_types.specs.PackedRows.{Numbers, PackRow}
+use Rattle.fsa_types.specs.PackedRows.{Numbers, NumbersFit, PackRow}
 use Rattle.fsa_types.specs.Packing.{Packed, head_size, before_name, after_name, name_of, entry_bytes, is_nothing, shown, size_of, rounded}
 use Rattle.fsa_types.specs.declared.reply.PackKind.{PackKind}
 use Rattle.fsa_types.specs.declared.reply.PackKind.TheVariants.{Names, Dir, Full, IdFull, Streams, Changes}
@@ -129,18 +129,6 @@ packed_text kind bytes = flat_map (entry_text kind) (entries_in kind bytes)
 -- what is printed of a row: the field of a stream's name is `:name:$DATA`
 abbrev pub row_text : PackKind → PackRow → List ℕ
 row_text kind row = shown_text kind row.numbers (before_name kind ++ row.name ++ after_name kind)
-
--- numbers fit their widths
-pub record NumbersFit (n : Numbers) : Type 0 where
-  pub action : n.action < 2 ^ 32
-  pub creation : n.creation < 2 ^ 64
-  pub access : n.access < 2 ^ 64
-  pub write : n.write < 2 ^ 64
-  pub change : n.change < 2 ^ 64
-  pub length : n.length < 2 ^ 64
-  pub room : n.room < 2 ^ 64
-  pub attributes : n.attributes < 2 ^ 32
-  pub file : n.file < 2 ^ 64
 
 -- the layout has this entry: its numbers, its name, and lengths that fit their widths
 pub record IsPacked (kind : PackKind) (entry : Packed) (last : Bool) : Type 0 where

@@ -1,10 +1,7 @@
--- The requests that a script can make: each verb, and the lines of the file that reads its fields. A
--- verb, or a form of one, that stands here is built; any other is no line.
-use Rattle.std.specs.Prelude.{ℕ, Bool, true, false, List, Result, Err, if◌then◌else◌, codes}
+-- The requests that a script can make: each verb, and the lines of the file that reads its fields. Any
+-- other word is no verb.
+use Rattle.std.specs.Prelude.{ℕ, List, Result, Err, if◌then◌else◌, codes}
 use Rattle.fsa_types.specs.declared.request.What.{What}
-use Rattle.fsa_types.specs.declared.request.What.TheVariants.{Ask}
-use Rattle.fsa_types.specs.declared.request.Request.TheVariants.{Oplock, Ack}
-use Rattle.fsa_types.specs.declared.request.Request.TheVariants.{Create, Close, Read, Write, Flush, SetEnd, Lock, Unlock, QueryDir, QueryInfo, SetBasic, SetDisposition, Rename, Link, SetSecurity, SetReparse, GetReparse, DeleteReparse, SetQuota, QueryQuota, Cancel}
 use Rattle.fsa_model.specs.Fault.{Kind, BadSyntax}
 use Rattle.fsa_model.specs.Words.{same}
 use Rattle.fsa_model.specs.OpenLines.{create_fields, close_fields}
@@ -13,38 +10,10 @@ use Rattle.fsa_model.specs.LockLines.{lock_fields, unlock_fields}
 use Rattle.fsa_model.specs.OplockLines.{oplock_fields, ack_fields}
 use Rattle.fsa_model.specs.NameLines.{rename_fields, link_fields, set_disposition_fields}
 use Rattle.fsa_model.specs.InformationLines.{query_info_fields, set_basic_fields, set_security_fields}
-use Rattle.fsa_model.specs.ListingLines.{query_dir_fields}
+use Rattle.fsa_model.specs.ListingLines.{query_dir_fields, notify_fields}
 use Rattle.fsa_model.specs.ControlLines.{set_reparse_fields, get_reparse_fields, delete_reparse_fields, set_quota_fields, query_quota_fields}
 use Rattle.fsa_model.specs.ClockLines.{tick_fields}
 use Rattle.fsa_model.specs.WaitLines.{cancel_fields, wait_fields}
-
--- what the calls of a script ask: what its lines can say, and leaving, which has no line
-abbrev pub can_be_asked : What → Bool
-can_be_asked (Ask (Create path wanted share disposition options attributes key)) = true
-can_be_asked (Ask (Close handle)) = true
-can_be_asked (Ask (Read handle at count)) = true
-can_be_asked (Ask (Write handle at bytes)) = true
-can_be_asked (Ask (Flush handle)) = true
-can_be_asked (Ask (SetEnd handle length)) = true
-can_be_asked (Ask (Lock handle at count exclusive wait)) = true
-can_be_asked (Ask (Unlock handle at count)) = true
-can_be_asked (Ask (Oplock handle level)) = true
-can_be_asked (Ask (Ack handle level)) = true
-can_be_asked (Ask (SetDisposition handle delete)) = true
-can_be_asked (Ask (Rename handle path replace)) = true
-can_be_asked (Ask (Link handle path replace)) = true
-can_be_asked (Ask (QueryInfo handle kind room)) = true
-can_be_asked (Ask (SetBasic handle creation access write change attributes)) = true
-can_be_asked (Ask (SetSecurity handle owner dacl)) = true
-can_be_asked (Ask (QueryDir handle kind expression restart room)) = true
-can_be_asked (Ask (SetReparse handle buffer)) = true
-can_be_asked (Ask (GetReparse handle room)) = true
-can_be_asked (Ask (DeleteReparse handle tag)) = true
-can_be_asked (Ask (SetQuota sid limit)) = true
-can_be_asked (Ask (QueryQuota sid)) = true
-can_be_asked (Ask (Cancel number)) = true
-can_be_asked (Ask _) = false
-can_be_asked _ = true
 
 -- what the fields say where the verb is one of these; where it is another, the reading goes on
 abbrev pub open_line : List ℕ → List ℕ → Result What Kind → Result What Kind
@@ -90,6 +59,7 @@ information_line verb fields other =
 abbrev pub listing_line : List ℕ → List ℕ → Result What Kind → Result What Kind
 listing_line verb fields other =
     if same verb (codes "querydir") then query_dir_fields fields
+    else if same verb (codes "notify") then notify_fields fields
     else other
 
 abbrev pub control_line : List ℕ → List ℕ → Result What Kind → Result What Kind

@@ -2,9 +2,9 @@
 use Rattle.std.specs.Prelude.{ℕ, ◌&&◌, true, false, nat_le, Bool, List, [], ◌∷◌, ◌++◌, length, codes}
 use Rattle.std.specs.List.{flat_map, list_all}
 use Rattle.fsa_types.specs.declared.request.What.{What}
-use Rattle.fsa_types.specs.declared.request.What.TheVariants.{Ask, Tick, WaitFor}
+use Rattle.fsa_types.specs.declared.request.What.TheVariants.{Ask, Tick, WaitFor, Leave}
 use Rattle.fsa_types.specs.declared.request.Request.TheVariants.{Oplock, Ack}
-use Rattle.fsa_types.specs.declared.request.Request.TheVariants.{Create, Close, Read, Write, Flush, SetEnd, Lock, Unlock, QueryDir, QueryInfo, SetBasic, SetDisposition, Rename, Link, SetSecurity, SetReparse, GetReparse, DeleteReparse, SetQuota, QueryQuota, Cancel}
+use Rattle.fsa_types.specs.declared.request.Request.TheVariants.{Create, Close, Read, Write, Flush, SetEnd, Lock, Unlock, QueryDir, Notify, QueryInfo, SetBasic, SetDisposition, Rename, Link, SetSecurity, SetReparse, GetReparse, DeleteReparse, SetQuota, QueryQuota, Cancel}
 use Rattle.fsa_model.specs.Words.{most_id, most_mask, is_name}
 use Rattle.fsa_model.specs.FieldText.{number_text, mask_text}
 use Rattle.fsa_model.specs.OpenLines.{create_text, is_create}
@@ -13,7 +13,7 @@ use Rattle.fsa_model.specs.LockLines.{lock_text, unlock_text, is_range}
 use Rattle.fsa_model.specs.OplockLines.{level_fields_text, is_oplock}
 use Rattle.fsa_model.specs.NameLines.{naming_text, set_disposition_text, is_naming}
 use Rattle.fsa_model.specs.InformationLines.{query_info_text, is_query_info, set_basic_text, is_set_basic, set_security_text, is_set_security}
-use Rattle.fsa_model.specs.ListingLines.{query_dir_text, is_query_dir}
+use Rattle.fsa_model.specs.ListingLines.{query_dir_text, is_query_dir, notify_text, is_notify}
 use Rattle.fsa_model.specs.ControlLines.{set_reparse_text, is_set_reparse, get_reparse_text, is_get_reparse, delete_reparse_text, is_delete_reparse, set_quota_text, is_set_quota}
 use Rattle.fsa_model.specs.Lines.{Line, Version, DefaultTable, PairTable, Pair, ClientLine, RequestLine}
 use Rattle.fsa_model.specs.Verbs.{verb}
@@ -37,6 +37,7 @@ fields_text (Ask (QueryInfo handle kind room)) = query_info_text handle kind roo
 fields_text (Ask (SetBasic handle creation access write change attributes)) = set_basic_text handle creation access write change attributes
 fields_text (Ask (SetSecurity handle owner dacl)) = set_security_text handle owner dacl
 fields_text (Ask (QueryDir handle kind expression restart room)) = query_dir_text handle kind expression restart room
+fields_text (Ask (Notify handle filter tree room)) = notify_text handle filter tree room
 fields_text (Ask (SetReparse handle buffer)) = set_reparse_text handle buffer
 fields_text (Ask (GetReparse handle room)) = get_reparse_text handle room
 fields_text (Ask (DeleteReparse handle tag)) = delete_reparse_text handle tag
@@ -45,9 +46,9 @@ fields_text (Ask (QueryQuota sid)) = number_text sid
 fields_text (Ask (Cancel number)) = number_text number
 fields_text (Tick ticks) = number_text ticks
 fields_text (WaitFor number) = number_text number
-fields_text _ = []
+fields_text Leave = []
 
--- which calls a script can make at this time
+-- which calls a line can say: all but leaving, with numbers that fit their fields
 abbrev pub is_built : What → Bool
 is_built (Ask (Create path wanted share disposition options attributes key)) = is_create path wanted share options attributes key
 is_built (Ask (Close handle)) = nat_le handle most_id
@@ -66,6 +67,7 @@ is_built (Ask (QueryInfo handle kind room)) = is_query_info handle room
 is_built (Ask (SetBasic handle creation access write change attributes)) = is_set_basic handle creation access write change attributes
 is_built (Ask (SetSecurity handle owner dacl)) = is_set_security handle owner dacl
 is_built (Ask (QueryDir handle kind expression restart room)) = is_query_dir handle expression room
+is_built (Ask (Notify handle filter tree room)) = is_notify handle filter room
 is_built (Ask (SetReparse handle buffer)) = is_set_reparse handle buffer
 is_built (Ask (GetReparse handle room)) = is_get_reparse handle room
 is_built (Ask (DeleteReparse handle tag)) = is_delete_reparse handle tag
@@ -74,7 +76,7 @@ is_built (Ask (QueryQuota sid)) = nat_le sid most_id
 is_built (Ask (Cancel number)) = nat_le number most_id
 is_built (Tick ticks) = nat_le ticks most_id
 is_built (WaitFor number) = nat_le number most_id
-is_built _ = false
+is_built Leave = false
 
 -- SIDs, each a field
 abbrev pub sids_text : List ℕ → List ℕ

@@ -1,6 +1,6 @@
 -- The rows that are packed into buffers: what is told of a change, of an entry of a directory or of a
 -- stream, after [MS-FSCC] 'FILE_NOTIFY_INFORMATION' and 'File Information Classes'.
-use Rattle.std.specs.Prelude.{ℕ, List}
+use Rattle.std.specs.Prelude.{ℕ, ◌<◌, ◌^◌, List}
 use Rattle.fsa_types.specs.declared.request.DirKind.{DirKind}
 use Rattle.fsa_types.specs.declared.request.DirKind.TheVariants as dir
 use Rattle.fsa_types.specs.declared.reply.PackKind.{PackKind}
@@ -17,6 +17,18 @@ pub record Numbers : Type 0 where
   pub room : ℕ
   pub attributes : ℕ
   pub file : ℕ
+
+-- the numbers fit their widths
+pub record NumbersFit (n : Numbers) : Type 0 where
+  pub action : n.action < 2 ^ 32
+  pub creation : n.creation < 2 ^ 64
+  pub access : n.access < 2 ^ 64
+  pub write : n.write < 2 ^ 64
+  pub change : n.change < 2 ^ 64
+  pub length : n.length < 2 ^ 64
+  pub room : n.room < 2 ^ 64
+  pub attributes : n.attributes < 2 ^ 32
+  pub file : n.file < 2 ^ 64
 
 -- a row: its numbers, and the units of its name
 pub record PackRow : Type 0 where

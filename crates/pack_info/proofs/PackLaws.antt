@@ -6,10 +6,10 @@ use Rattle.std.proofs.lemmas.Bool.Decides.{nat_tests}
 use Rattle.std.proofs.lemmas.List.{append-nil}
 use Rattle.fsa_types.specs.declared.reply.PackKind.{PackKind}
 use Rattle.fsa_types.specs.declared.reply.PackKind.TheVariants.{Names, Dir, Full, IdFull, Streams, Changes}
-use Rattle.fsa_types.specs.PackedRows.{Numbers, PackRow}
+use Rattle.fsa_types.specs.PackedRows.{Numbers, NumbersFit, PackRow}
 use Rattle.fsa_types.specs.LittleEndian.{zeros}
 use Rattle.fsa_types.specs.Packing.{Packed, packed, before_name, after_name, name_of, head, head_size, rounded, size_of, entry_bytes, is_nothing, entries_bytes, shown, bytes, size, fitting, longest_fitting}
-use Rattle.pack_info.specs.Entries.{entries_size, entries_of, IsFitting, NumbersFit, next_of, IsEntry, AreEntries, CanWrite, AreWritable}
+use Rattle.pack_info.specs.Entries.{entries_size, entries_of, IsFitting, next_of, IsEntry, AreEntries, CanWrite, AreWritable}
 use Rattle.pack_info.proofs.NumberLaws.{length-zeros, length-name_of}
 
 pub length-head : (kind : PackKind) (n : Numbers) (next len : ℕ) → length (head kind n next len) ≡ head_size kind

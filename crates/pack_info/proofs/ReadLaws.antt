@@ -10,11 +10,10 @@ use Rattle.fsa_types.specs.LittleEndian.{little_endian}
 use Rattle.fsa_types.specs.declared.reply.PackKind.{PackKind}
 use Rattle.fsa_types.specs.declared.reply.PackKind.TheVariants.{Names, Dir, Full, IdFull, Streams, Changes}
 use Rattle.fsa_types.specs.LittleEndian.{Field, Four, Eight}
-use Rattle.fsa_types.specs.PackedRows.{Numbers}
+use Rattle.fsa_types.specs.PackedRows.{Numbers, NumbersFit}
 use Rattle.pack_info.specs.declared.reading.Head.{Head}
 use Rattle.fsa_types.specs.LittleEndian.{field_bytes}
 use Rattle.fsa_types.specs.Packing.{fields, head, shown}
-use Rattle.pack_info.specs.Entries.{NumbersFit}
 use Rattle.fsa_types.specs.FixedBuffers.{reparse_bytes, read_reparse}
 use Rattle.pack_info.specs.Reading.{raw_fields, raw_head, IsPlain, HeadFits}
 

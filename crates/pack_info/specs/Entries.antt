@@ -3,7 +3,7 @@
 use Rattle.std.specs.Prelude.{◌≡◌, ℕ, ◌+◌, ◌-◌, ◌<◌, ◌≤◌, ◌^◌, Bool, true, false, List, [], ◌∷◌, ◌++◌, length, take, map}
 use Rattle.fsa_types.specs.declared.reply.PackKind.{PackKind}
 use Rattle.fsa_types.specs.LittleEndian.{zeros}
-use Rattle.fsa_types.specs.PackedRows.{Numbers, PackRow}
+use Rattle.fsa_types.specs.PackedRows.{Numbers, NumbersFit, PackRow}
 use Rattle.fsa_types.specs.Packing.{Packed, packed, shown, name_of, head_size, rounded, size_of, entry_bytes, entries_bytes, is_nothing}
 
 -- the entry of these numbers and units
@@ -22,18 +22,6 @@ pub record IsFitting (kind : PackKind) (entries : List Packed) (room : ℕ) (cou
   pub within : count ≤ length entries
   pub fits : entries_size kind (take count entries) ≤ room
   pub longest : (more : ℕ) → more ≤ length entries → entries_size kind (take more entries) ≤ room → more ≤ count
-
--- the numbers fit their widths
-pub record NumbersFit (n : Numbers) : Type 0 where
-  pub action : n.action < 2 ^ 32
-  pub creation : n.creation < 2 ^ 64
-  pub access : n.access < 2 ^ 64
-  pub write : n.write < 2 ^ 64
-  pub change : n.change < 2 ^ 64
-  pub length : n.length < 2 ^ 64
-  pub room : n.room < 2 ^ 64
-  pub attributes : n.attributes < 2 ^ 32
-  pub file : n.file < 2 ^ 64
 
 -- the distance to the next entry; 0 for the last
 abbrev pub next_of : PackKind → ℕ → Bool → ℕ

@@ -7,7 +7,7 @@ use Rattle.fsa_types.specs.LittleEndian.{Field, Four, Eight}
 use Rattle.pack_info.specs.declared.reading.Head.{Head}
 use Rattle.fsa_types.specs.LittleEndian.{field_bytes}
 use Rattle.fsa_types.specs.Packing.{shown}
-use Rattle.pack_info.specs.Entries.{NumbersFit}
+use Rattle.fsa_types.specs.PackedRows.{NumbersFit}
 
 abbrev pub raw_fields : PackKind → Head → List Field
 raw_fields Changes h = Four h.next ∷ Four h.numbers.action ∷ Four h.len ∷ []

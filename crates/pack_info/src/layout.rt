@@ -1,7 +1,7 @@
 //! The layouts of entries as tables of numbers.
 
 ghost use Rattle.std.specs.Prelude.{◌≡◌, ◌+◌, ◌-◌, ◌<◌, ◌≤◌, ◌^◌, ◌++◌, length, OnOk};
-ghost use Rattle.pack_info.specs.Entries.{NumbersFit};
+ghost use Rattle.fsa_types.specs.PackedRows.{NumbersFit};
 ghost use Rattle.fsa_types.specs.Packing.{head, head_size, align, rounded};
 
 use crate::number::{Number, push_numbers};

@@ -4,7 +4,7 @@ use Rattle.std.specs.Prelude.{Ok}
 use Rattle.fsa_types.specs.declared.request.What.{What}
 use Rattle.fsa_types.specs.declared.request.What.TheVariants.{Ask, Tick, WaitFor}
 use Rattle.fsa_types.specs.declared.request.Request.TheVariants.{Oplock, Ack}
-use Rattle.fsa_types.specs.declared.request.Request.TheVariants.{Create, Close, Read, Write, Flush, SetEnd, Lock, Unlock, QueryDir, QueryInfo, SetBasic, SetDisposition, Rename, Link, SetSecurity, SetReparse, GetReparse, DeleteReparse, SetQuota, QueryQuota, Cancel}
+use Rattle.fsa_types.specs.declared.request.Request.TheVariants.{Create, Close, Read, Write, Flush, SetEnd, Lock, Unlock, QueryDir, Notify, QueryInfo, SetBasic, SetDisposition, Rename, Link, SetSecurity, SetReparse, GetReparse, DeleteReparse, SetQuota, QueryQuota, Cancel}
 use Rattle.fsa_model.specs.Words.{most_id}
 use Rattle.fsa_model.specs.Verbs.{verb}
 use Rattle.fsa_model.specs.Requests.{what_of}
@@ -17,7 +17,7 @@ use Rattle.script_read.proofs.LockLineLemmas.{lock_fields-again, unlock_fields-a
 use Rattle.script_read.proofs.OplockLineLemmas.{oplock_fields-again, ack_fields-again}
 use Rattle.script_read.proofs.NameLineLemmas.{rename_fields-again, rename_fields-spelled, link_fields-again, link_fields-spelled, set_disposition_fields-again}
 use Rattle.script_read.proofs.InformationLineLemmas.{query_info_fields-again, set_basic_fields-again, set_security_fields-again}
-use Rattle.script_read.proofs.ListingLineLemmas.{query_dir_fields-again, query_dir_fields-spelled}
+use Rattle.script_read.proofs.ListingLineLemmas.{query_dir_fields-again, query_dir_fields-spelled, notify_fields-again}
 use Rattle.script_read.proofs.ControlLineLemmas.{set_reparse_fields-again, get_reparse_fields-again, delete_reparse_fields-again, set_quota_fields-again, query_quota_fields-again}
 use Rattle.script_read.proofs.ClockLineLemmas.{tick_fields-again}
 use Rattle.script_read.proofs.WaitLineLemmas.{cancel_fields-again, wait_fields-again}
@@ -41,6 +41,7 @@ what_of-again (Ask (QueryInfo handle kind room)) built = query_info_fields-again
 what_of-again (Ask (SetBasic handle creation access write change attributes)) built = set_basic_fields-again handle creation access write change attributes built
 what_of-again (Ask (SetSecurity handle owner dacl)) built = set_security_fields-again handle owner dacl built
 what_of-again (Ask (QueryDir handle kind expression restart room)) built = query_dir_fields-again handle kind expression restart room built
+what_of-again (Ask (Notify handle filter tree room)) built = notify_fields-again handle filter tree room built
 what_of-again (Ask (SetReparse handle buffer)) built = set_reparse_fields-again handle buffer built
 what_of-again (Ask (GetReparse handle room)) built = get_reparse_fields-again handle room built
 what_of-again (Ask (DeleteReparse handle tag)) built = delete_reparse_fields-again handle tag built
@@ -72,6 +73,7 @@ what_of-spelled (Ask (QueryInfo handle kind room)) fields is built = rw is (quer
 what_of-spelled (Ask (SetBasic handle creation access write change attributes)) fields is built = rw is (set_basic_fields-again handle creation access write change attributes built)
 what_of-spelled (Ask (SetSecurity handle owner dacl)) fields is built = rw is (set_security_fields-again handle owner dacl built)
 what_of-spelled (Ask (QueryDir handle kind expression restart room)) fields spells built = rw spells.2 (query_dir_fields-spelled handle kind expression spells.0 restart room spells.1 built)
+what_of-spelled (Ask (Notify handle filter tree room)) fields is built = rw is (notify_fields-again handle filter tree room built)
 what_of-spelled (Ask (SetReparse handle buffer)) fields is built = rw is (set_reparse_fields-again handle buffer built)
 what_of-spelled (Ask (GetReparse handle room)) fields is built = rw is (get_reparse_fields-again handle room built)
 what_of-spelled (Ask (DeleteReparse handle tag)) fields is built = rw is (delete_reparse_fields-again handle tag built)
@@ -91,6 +93,7 @@ NoSpace-verb (Ask (QueryInfo handle kind room)) built = (refl, (refl, (refl, (re
 NoSpace-verb (Ask (SetBasic handle creation access write change attributes)) built = (refl, (refl, (refl, (refl, (refl, (refl, (refl, (refl, tt))))))))
 NoSpace-verb (Ask (SetSecurity handle owner dacl)) built = (refl, (refl, (refl, (refl, (refl, (refl, (refl, (refl, (refl, (refl, (refl, tt)))))))))))
 NoSpace-verb (Ask (QueryDir handle kind expression restart room)) built = (refl, (refl, (refl, (refl, (refl, (refl, (refl, (refl, tt))))))))
+NoSpace-verb (Ask (Notify handle filter tree room)) built = (refl, (refl, (refl, (refl, (refl, (refl, tt))))))
 NoSpace-verb (Ask (SetReparse handle buffer)) built = (refl, (refl, (refl, (refl, (refl, (refl, (refl, (refl, (refl, (refl, tt))))))))))
 NoSpace-verb (Ask (GetReparse handle room)) built = (refl, (refl, (refl, (refl, (refl, (refl, (refl, (refl, (refl, (refl, tt))))))))))
 NoSpace-verb (Ask (DeleteReparse handle tag)) built = (refl, (refl, (refl, (refl, (refl, (refl, (refl, (refl, (refl, (refl, (refl, (refl, (refl, tt)))))))))))))
@@ -128,6 +131,7 @@ EndsWord-fields (Ask (QueryInfo handle kind room)) built = refl
 EndsWord-fields (Ask (SetBasic handle creation access write change attributes)) built = refl
 EndsWord-fields (Ask (SetSecurity handle owner dacl)) built = refl
 EndsWord-fields (Ask (QueryDir handle kind expression restart room)) built = refl
+EndsWord-fields (Ask (Notify handle filter tree room)) built = refl
 EndsWord-fields (Ask (SetReparse handle buffer)) built = refl
 EndsWord-fields (Ask (GetReparse handle room)) built = refl
 EndsWord-fields (Ask (DeleteReparse handle tag)) built = refl
@@ -156,6 +160,7 @@ EndsWord-spelled (Ask (QueryInfo handle kind room)) fields is built = rw is refl
 EndsWord-spelled (Ask (SetBasic handle creation access write change attributes)) fields is built = rw is refl
 EndsWord-spelled (Ask (SetSecurity handle owner dacl)) fields is built = rw is refl
 EndsWord-spelled (Ask (QueryDir handle kind expression restart room)) fields spells built = rw spells.2 refl
+EndsWord-spelled (Ask (Notify handle filter tree room)) fields is built = rw is refl
 EndsWord-spelled (Ask (SetReparse handle buffer)) fields is built = rw is refl
 EndsWord-spelled (Ask (GetReparse handle room)) fields is built = rw is refl
 EndsWord-spelled (Ask (DeleteReparse handle tag)) fields is built = rw is refl

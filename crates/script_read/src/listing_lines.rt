@@ -1,13 +1,13 @@
-//! The lines that list a directory.
+//! The lines that list and watch a directory.
 
 ghost use Rattle.std.specs.Prelude.{◌≡◌};
-ghost use Rattle.fsa_model.specs.ListingLines.{dir_kind_of, dir_kind_at, query_dir_fields};
+ghost use Rattle.fsa_model.specs.ListingLines.{dir_kind_of, dir_kind_at, query_dir_fields, notify_fields};
 ghost use Rattle.fsa_model.specs.Requests.{listing_line};
 ghost use Rattle.script_read.specs.ReadsAs.{ReadsAs, ReadsOr};
 
 use crate::fault::{LineFault, SYNTAX};
 use crate::text::text_at;
-use crate::word::{choice_at, ended, field_at, id_at, number_at};
+use crate::word::{choice_at, ended, field_at, id_at, mask_at, number_at};
 use fsa_types::{DirKind, MOST_BYTES, Request, What};
 use std::alloc::Global;
 
@@ -59,12 +59,34 @@ fn query_dir_fields(alloc: Global, fields: &[u8]) -> Result<What, LineFault>
     }))
 }
 
-/// What the fields say, where the verb is this one.
+// The fields of `notify`.
+#[tactic(auto, unfolding(fsa_model::specs::ListingLines::notify_fields))]
+fn notify_fields(fields: &[u8]) -> Result<What, LineFault>
+    ensures { ReadsAs (λ what. what) result (notify_fields fields.now) }
+{
+    let (handle, rest) = id_at(fields)?;
+    let (filter, rest) = mask_at(rest)?;
+    let (tree, rest) = choice_at(b"tree", b"flat", rest)?;
+    let (room, rest) = number_at(u64::from(MOST_BYTES), rest)?;
+    ended(rest)?;
+    let room = room as u32;
+    Ok(What::Ask(Request::Notify {
+        handle,
+        filter,
+        tree,
+        room,
+    }))
+}
+
+/// What the fields say, where the verb is one of these.
 pub fn listing_line(alloc: Global, verb: &[u8], fields: &[u8]) -> Result<Option<What>, LineFault>
     ensures { ReadsOr result (listing_line verb.now fields.now) }
 {
     if verb == b"querydir".as_slice() {
         let what = query_dir_fields(alloc, fields)?;
+        Ok(Some(what))
+    } else if verb == b"notify".as_slice() {
+        let what = notify_fields(fields)?;
         Ok(Some(what))
     } else {
         Ok(None)

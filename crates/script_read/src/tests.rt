@@ -87,7 +87,8 @@ script fsa 1/table pairs/up 0x61 0x41/up 0x62 0x41/client a 7/\n\
 3Syntax fsa 1/client a 7/a 1 querydir 1 names =* go 100 /\n\
 3Syntax fsa 1/client a 7/a 1 query 1 basic 40 /\n\
 3Syntax fsa 1/client a 7/a 1 setreparse 1 x /\n\
-3Syntax fsa 1/client a 7/a 1 notify 1 0x1 flat 100/\n\
+3Syntax fsa 1/client a 7/a 1 notify 1 0x1 flat 100 /\n\
+3Syntax fsa 1/client a 7/a 1 watch 1 0x1 flat 100/\n\
 ";
 
 // Requests that are taken (`+`) and refused (`-`): creates, by their path, masks, options, disposition,
@@ -307,7 +308,17 @@ const REQUESTS: &str = r#"+ create =\d 0x1 0x7 create 0x1 0x0 0
 - wait 00
 - wait 1 2
 - wait
-- notify 1 0x1 flat 100
++ notify 4294967295 0xffffffff tree 16384
++ notify 0 0x0 flat 0
+- notify 4294967296 0x1 flat 100
+- notify 1 1 flat 100
+- notify 1 0x100000000 flat 100
+- notify 1 0x1 Tree 100
+- notify 1 0x1 flat 16385
+- notify 1 0x1 100
+- notify 1 0x1 flat
+- notify 1 0x1 flat 100 0
+- watch 1 0x1 flat 100
 - leave
 "#;
 
@@ -426,7 +437,7 @@ fn what_queries_say(rt: HostRuntime) -> Result<(), Fail> {
                 a 1 querydir 1 names =* restart 2\na 2 querydir 2 dir = go 3\na 3 querydir 3 full =a go 4\n\
                 a 4 querydir 4 idfull =%D800 restart 5\na 5 query 5 basic 6\na 6 query 6 standard 7\n\
                 a 7 query 7 internal 8\na 8 query 8 tag 9\na 9 query 9 stream 10\n\
-                a 10 setbasic 1 2 3 4 5 0x6\n";
+                a 10 setbasic 1 2 3 4 5 0x6\na 11 notify 1 0x2 tree 3\na 12 notify 4 0xfff flat 5\n";
     let script = read_script(rt.alloc(), text.as_bytes())?;
     let said = format!(in rt.alloc(); "{:?}", script.lines().as_slice())?;
     assert_eq!(rt;
@@ -441,7 +452,9 @@ fn what_queries_say(rt: HostRuntime) -> Result<(), Fail> {
         Call { client: 0, number: 7, what: Ask(QueryInfo { handle: 7, kind: Internal, room: 8 }) }, \
         Call { client: 0, number: 8, what: Ask(QueryInfo { handle: 8, kind: Tag, room: 9 }) }, \
         Call { client: 0, number: 9, what: Ask(QueryInfo { handle: 9, kind: Streams, room: 10 }) }, \
-        Call { client: 0, number: 10, what: Ask(SetBasic { handle: 1, creation: 2, access: 3, write: 4, change: 5, attributes: 6 }) }]"
+        Call { client: 0, number: 10, what: Ask(SetBasic { handle: 1, creation: 2, access: 3, write: 4, change: 5, attributes: 6 }) }, \
+        Call { client: 0, number: 11, what: Ask(Notify { handle: 1, filter: 2, tree: true, room: 3 }) }, \
+        Call { client: 0, number: 12, what: Ask(Notify { handle: 4, filter: 4095, tree: false, room: 5 }) }]"
     );
     Ok(())
 }
