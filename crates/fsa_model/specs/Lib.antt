@@ -4,6 +4,7 @@ pub mod Changes
 pub mod Charge
 pub mod ClockLines
 pub mod Close
+pub mod Coherence
 pub mod ControlLines
 pub mod Edits
 pub mod Engine
@@ -59,6 +60,7 @@ pub mod Spelling
 pub mod Starving
 pub mod Summary
 pub mod Text
+pub mod Tries
 pub mod Try
 pub mod Turn
 pub mod Verbs
