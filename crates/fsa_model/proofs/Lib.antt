@@ -10,6 +10,7 @@ pub mod CoherenceEdits
 pub mod CoherenceEnds
 pub mod CoherenceGone
 pub mod CoherenceGrant
+pub mod CoherenceInformation
 pub mod CoherenceLaws
 pub mod CoherenceLink
 pub mod CoherenceNames
@@ -19,6 +20,7 @@ pub mod CoherenceRanges
 pub mod CoherenceRest
 pub mod CoherenceSteps
 pub mod CoherenceTied
+pub mod CoherenceTries
 pub mod ControlExamples
 pub mod CountLaws
 pub mod EngineLaws
