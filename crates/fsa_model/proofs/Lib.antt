@@ -18,6 +18,8 @@ pub mod CoherenceOpen
 pub mod CoherenceOplock
 pub mod CoherenceRanges
 pub mod CoherenceRest
+pub mod CoherenceRuns
+pub mod CoherenceSound
 pub mod CoherenceSteps
 pub mod CoherenceTied
 pub mod CoherenceTries

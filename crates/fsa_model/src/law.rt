@@ -10,6 +10,7 @@ ghost use Rattle.fsa_types.specs.declared.reply.PackKind.{PackKind};
 ghost use Rattle.fsa_types.specs.declared.request.Call.{Call};
 ghost use Rattle.fsa_types.specs.declared.request.Request.TheVariants.{Notify};
 ghost use Rattle.fsa_types.specs.declared.request.What.TheVariants.{Ask};
+ghost use Rattle.fsa_model.specs.Coherence.{CachingIsCoherent, IsCoherent, IsTied};
 ghost use Rattle.fsa_model.specs.Engine.{CallsDiffer, EndsOnce, GrantsPend, HeldAreBlocked, HoldsByLiving, NoneReady, SomeGoesOn, TakesReleased};
 ghost use Rattle.fsa_model.specs.Frame.{InFrame, PointsFit};
 ghost use Rattle.fsa_model.specs.Generator.{generated, generated_text};
@@ -21,6 +22,7 @@ ghost use Rattle.fsa_model.specs.Schedule.{Scheduled};
 ghost use Rattle.fsa_model.specs.Script.{script_of};
 ghost use Rattle.fsa_model.specs.ScriptText.{SpellsScript};
 ghost use Rattle.fsa_model.specs.Setup.{Script, Setup};
+ghost use Rattle.fsa_model.specs.Sound.{IsSound};
 ghost use Rattle.fsa_model.specs.Turn.{try};
 ghost use Rattle.fsa_model.specs.Volume.{Handle, Pending, Volume};
 ghost use Rattle.fsa_model.specs.Waiting.{next_ready};
@@ -102,4 +104,21 @@ pub fn packed_rows_are_printed()
 pub fn a_generated_script_is_spelled()
     ensures spelled { (seed : ℕ) → SpellsScript (generated_text seed) (generated seed) }
     ensures long { (seed : ℕ) → length (generated seed).lines ≡ 4096 }
+{}
+
+/// A try of any call from a volume in which the facts hold that caching rests on keeps these facts and is coherent:
+/// while a handle counts on the reads that it has cached its bytes change only by its own key; it stops to count
+/// only for one of six causes; bytes are changed, or given to a read, only where no handle of another key is left
+/// with write caching; and an open ends SHARING_VIOLATION only where none of another key is left with handle
+/// caching. Each sound volume has these facts.
+pub fn each_try_is_coherent()
+    ensures sound { (v : Volume) → IsSound v → IsTied v }
+    ensures coherent { (v : Volume) (call : Call) (turn : ℕ) → IsTied v → IsCoherent v call.client call.what (try v call turn) }
+{}
+
+/// Caching by oplocks is coherent over each history: so is each try of it, those that are taken up while a turn
+/// settles too; nothing between two tries changes bytes or oplocks; and over any stretch of tries in which a handle
+/// counts, its later bytes are the earlier ones with its own key's changes in order.
+pub fn caching_is_coherent()
+    ensures coherent { (setup : Setup) (history : List HistoryEntry) (r : Run) → run setup history ≡ Some r → CachingIsCoherent setup history }
 {}

@@ -1,0 +1,219 @@
+-- Caching is coherent over each history: all its tries are coherent, nothing between two of them changes bytes or
+-- oplocks, and over a stretch in which a handle counts its bytes change only by its own key.
+use Rattle.std.proofs.Common.{◌≡◌, ◌≢◌, ℕ, zero, suc, ◌+◌, ◌<◌, Bool, true, false, ◌==◌, not, List, [], ◌∷◌, ◌++◌, length, get_or, refl, sym, ap, subst, ◌∙◌, arith, Option, Some, None, inl, inr}
+use Rattle.std.specs.Option.{option_map_or}
+use Rattle.std.specs.Prelude.{◌&&◌, nat_le, filter, All, if◌then◌else◌}
+use Rattle.std.proofs.lemmas.Bool.{cases_Bool}
+use Rattle.std.proofs.lemmas.List.Elements.{All-append, All-cons, All-nil}
+use Rattle.fsa_types.specs.Rows.{row_of}
+use Rattle.fsa_types.specs.declared.request.Call.{Call}
+use Rattle.fsa_types.specs.declared.request.CallId.{CallId}
+use Rattle.fsa_types.specs.declared.request.Request.TheVariants.{Notify}
+use Rattle.fsa_types.specs.declared.request.What.{What}
+use Rattle.fsa_types.specs.declared.request.What.TheVariants.{Ask}
+use Rattle.fsa_types.specs.declared.status.Status.{Status}
+use Rattle.fsa_types.specs.declared.status.Status.TheVariants.{Stalled}
+use Rattle.fsa_model.specs.Close.{with_calls_ended}
+use Rattle.fsa_model.specs.Coherence.{CachingIsCoherent, CountsAlong, IsAlike, IsCoherentTry, IsTied, LeadTo, Stretch, bytes_under, is_by_own_key}
+use Rattle.fsa_model.specs.Edits.{with_end}
+use Rattle.fsa_model.specs.Engine.{own_tried}
+use Rattle.fsa_model.specs.History.{HistoryEntry, Run, begun, run, steps, turn_on, with_turn}
+use Rattle.fsa_model.specs.Lookups.{bytes_of, handle_of}
+use Rattle.fsa_model.specs.Outcome.{Outcome, Done, Stay, Hold}
+use Rattle.fsa_model.specs.Settle.{Settling, come_over, repeated, reported, settle_step, settled, starves, taken_up, taken_up_all, with_tried}
+use Rattle.fsa_model.specs.Setup.{Setup}
+use Rattle.fsa_model.specs.Tries.{Tried, left_by, tried_in, tries_from, tries_of, tries_of_steps, tries_of_turn}
+use Rattle.fsa_model.specs.Try.{try}
+use Rattle.fsa_model.specs.Turn.{Turned, answered, settlement, turn, turn_number, volume_after}
+use Rattle.fsa_model.specs.Volume.{Handle, Pending, Volume}
+use Rattle.fsa_model.specs.Waiting.{all_wait, is_held, next_ready, waits_in_order, with_stalled}
+use Rattle.fsa_model.specs.Watching.{due_size}
+use Rattle.fsa_model.proofs.CoherenceData.{IsUntouched-next}
+use Rattle.fsa_model.proofs.CoherenceTied.{IsUntouched, IsUntouched-same, IsUntouched-with_end, IsTied-alike}
+use Rattle.fsa_model.proofs.CoherenceTries.{IsCoherent-try, IsTied-fresh}
+use Rattle.fsa_model.proofs.EngineLaws.{turn-turned}
+use Rattle.fsa_model.proofs.RowLaws.{option_cases}
+use Rattle.fsa_model.proofs.SettleLaws.{some_equal}
+
+-- ---- stretches, one after another
+
+alike : (v w : Volume) → IsUntouched v w → IsAlike v w
+alike v w untouched = record { handles = untouched.handles; oplocks = untouched.oplocks; streams = untouched.streams }
+
+alike-same : (v : Volume) → IsAlike v v
+alike-same v = record { handles = refl; oplocks = refl; streams = refl }
+
+alike-next : (u v w : Volume) → IsAlike u v → IsAlike v w → IsAlike u w
+alike-next u v w first second = record { handles = second.handles ∙ first.handles; oplocks = second.oplocks ∙ first.oplocks; streams = second.streams ∙ first.streams }
+
+Stretch-after : (tries : List Tried) (u v w : Volume) → IsAlike u v → Stretch tries v w → Stretch tries u w
+Stretch-after [] u v w same stretch = alike-next u v w same stretch
+Stretch-after (t ∷ more) u v w same stretch = (alike-next u v t.before same stretch.0, stretch.1)
+
+Stretch-then : (tries : List Tried) (u v w : Volume) → Stretch tries u v → IsAlike v w → Stretch tries u w
+Stretch-then [] u v w stretch same = alike-next u v w stretch same
+Stretch-then (t ∷ more) u v w stretch same = (stretch.0, Stretch-then more (left_by t) v w stretch.1 same)
+
+Stretch-next : (first second : List Tried) (u v w : Volume) → Stretch first u v → Stretch second v w → Stretch (first ++ second) u w
+Stretch-next [] second u v w one two = Stretch-after second u v w one two
+Stretch-next (t ∷ more) second u v w one two = (one.0, Stretch-next more second (left_by t) v w one.1 two)
+
+-- ---- tries that lead from one volume to another
+
+-- the facts are kept, and each of them is coherent
+record Goes (tries : List Tried) (v w : Volume) : Type 0 where
+  tied : IsTied v → IsTied w
+  all : IsTied v → All IsCoherentTry tries
+  stretch : Stretch tries v w
+
+Goes-none : (v w : Volume) → IsUntouched v w → Goes [] v w
+Goes-none v w untouched = record { tied = λ tied. IsTied-alike v w untouched tied; all = λ tied. All-nil IsCoherentTry; stretch = alike v w untouched }
+
+Goes-try : (v : Volume) (call : Call) (turn : ℕ) → Goes (record { before = v; call = call; turn = turn } ∷ []) v (volume_after (try v call turn))
+Goes-try v call turn = record {
+  tied = λ tied. (IsCoherent-try v call turn tied).tied;
+  all = λ tied. All-cons IsCoherentTry (record { before = v; call = call; turn = turn }) [] (record { tied = tied; coherent = IsCoherent-try v call turn tied }) (All-nil IsCoherentTry);
+  stretch = (alike-same v, alike-same (volume_after (try v call turn)));
+}
+
+Goes-next : (first second : List Tried) (u v w : Volume) → Goes first u v → Goes second v w → Goes (first ++ second) u w
+Goes-next first second u v w one two = record {
+  tied = λ tied. two.tied (one.tied tied);
+  all = λ tied. All-append IsCoherentTry first second (one.all tied) (two.all (one.tied tied));
+  stretch = Stretch-next first second u v w one.stretch two.stretch;
+}
+
+Goes-then : (tries : List Tried) (u v w : Volume) → Goes tries u v → IsUntouched v w → Goes tries u w
+Goes-then tries u v w one untouched = record {
+  tied = λ tied. IsTied-alike v w untouched (one.tied tied);
+  all = one.all;
+  stretch = Stretch-then tries u v w one.stretch (alike v w untouched);
+}
+
+-- ---- what a turn does besides its tries
+
+untouched-pending : (v : Volume) (pending : List (ℕ × Pending)) → IsUntouched v (record v { pending = pending })
+untouched-pending v pending = record { oplocks = refl; handles = refl; links = refl; streams = refl; last_link = refl; last_stream = refl; root = λ root. root }
+
+untouched-tried : (turn : ℕ) (pending : Pending) (outcome : Outcome) → IsUntouched (volume_after outcome) (with_tried turn pending outcome)
+untouched-tried turn pending (Done v reply) = IsUntouched-with_end v _ _ _
+untouched-tried turn pending (Stay v interim) = untouched-pending v _
+untouched-tried turn pending (Hold v blockers interim) = untouched-pending v _
+
+untouched-answered : (call : Call) (turn : ℕ) (outcome : Outcome) → IsUntouched (volume_after outcome) (answered call turn outcome)
+untouched-answered call turn (Done v reply) = IsUntouched-with_end v _ _ _
+untouched-answered call turn (Stay v interim) = untouched-pending v _
+untouched-answered call turn (Hold v blockers interim) = untouched-pending v _
+
+untouched-reported : (s : Settling) (pending : Pending) (id room : ℕ) → IsUntouched s.volume (reported s pending id room).volume
+untouched-reported s pending id room = elim (cases_Bool (starves s.starved pending && nat_le (due_size s.volume id) room)) [
+  | inl starving ↦ rw starving (IsUntouched-with_end s.volume _ _ _)
+  | inr reports ↦ rw reports (record { oplocks = refl; handles = refl; links = refl; streams = refl; last_link = refl; last_stream = refl; root = λ root. root })
+]
+
+untouched-come : (s : Settling) (pending : Pending) (what : What) → IsUntouched s.volume (come_over s pending what).volume
+untouched-come s pending (Ask (Notify handle filter tree room)) = elim (option_cases (handle_of s.volume pending.call.client handle)) [
+  | inl none ↦ rw none (IsUntouched-same s.volume)
+  | inr some ↦ rw some.1 (untouched-reported s pending some.0 room)
+]
+untouched-come s pending _ = IsUntouched-with_end s.volume _ _ _
+
+untouched-calls_ended : (status_of : What → Status) (calls : List (ℕ × Pending)) (v : Volume) → IsUntouched v (with_calls_ended status_of calls v)
+untouched-calls_ended status_of [] v = IsUntouched-same v
+untouched-calls_ended status_of (entry ∷ calls) v =
+    (let first : Volume = with_end v entry.1.call.client entry.1.call.number (record { status = status_of entry.1.call.what; body = Rattle.fsa_types.specs.declared.reply.Body.TheVariants.Nothing }) in
+    IsUntouched-next v first (with_calls_ended status_of calls first) (IsUntouched-with_end v entry.1.call.client entry.1.call.number _) (untouched-calls_ended status_of calls first))
+
+untouched-stalled : (v : Volume) → IsUntouched v (with_stalled v)
+untouched-stalled v = elim (cases_Bool (all_wait v)) [
+  | inl all ↦ rw all (untouched-calls_ended (λ _. Stalled) (waits_in_order v) v)
+  | inr some ↦ rw some (IsUntouched-same v)
+]
+
+-- ---- the tries of a turn
+
+Goes-taken_up : (s : Settling) (entry : ℕ × Pending) → Goes (tried_in s entry) s.volume (taken_up s entry).volume
+Goes-taken_up s entry = elim (cases_Bool (is_held entry.1)) [
+  | inr waits ↦ rw waits (Goes-none s.volume _ (untouched-come s entry.1 entry.1.call.what))
+  | inl held ↦ rw held (elim (cases_Bool (starves s.starved entry.1)) [
+    | inl starving ↦ rw starving (Goes-none s.volume _ (IsUntouched-with_end s.volume _ _ _))
+    | inr plenty ↦ rw plenty (Goes-then (record { before = s.volume; call = entry.1.call; turn = entry.0 } ∷ []) s.volume (volume_after (try s.volume entry.1.call entry.0))
+        (with_tried entry.0 entry.1 (try s.volume entry.1.call entry.0)) (Goes-try s.volume entry.1.call entry.0) (untouched-tried entry.0 entry.1 (try s.volume entry.1.call entry.0)))
+  ])
+]
+
+Goes-steps : (most : ℕ) (s : Settling) → Goes (tries_of_steps most s) s.volume (repeated settle_step most s).volume
+Goes-steps zero s = Goes-none s.volume s.volume (IsUntouched-same s.volume)
+Goes-steps (suc more) s = elim (option_cases (next_ready s.volume)) [
+  | inl none ↦ rw none (Goes-none s.volume s.volume (IsUntouched-same s.volume))
+  | inr some ↦ rw some.1 (Goes-next (tried_in s some.0) (tries_of_steps more (taken_up s some.0)) s.volume (taken_up s some.0).volume _ (Goes-taken_up s some.0) (Goes-steps more (taken_up s some.0)))
+]
+
+Goes-turn : (v : Volume) (call : Call) (starved : List CallId) → Goes (tries_of_turn v call starved) v (settlement v call starved).volume
+Goes-turn v call starved =
+    let own : Volume = own_tried v call in
+    let start : Settling = record { volume = own; starved = starved; taken = [] } in
+    let taken : Volume = (taken_up_all own starved).volume in
+    Goes-next (record { before = v; call = call; turn = turn_number v } ∷ []) (tries_of_steps (length own.pending) start) v own (settlement v call starved).volume
+    (Goes-then (record { before = v; call = call; turn = turn_number v } ∷ []) v (volume_after (try v call (turn_number v))) own (Goes-try v call (turn_number v))
+    (untouched-answered call (turn_number v) (try v call (turn_number v))))
+    (Goes-then (tries_of_steps (length own.pending) start) own taken (with_stalled taken) (Goes-steps (length own.pending) start) (untouched-stalled taken))
+
+-- ---- the tries of a run
+
+turn_on-settled : (r : Run) (entry : HistoryEntry) (next : Run) → turn_on r entry ≡ Some next → next.volume ≡ (settlement r.volume entry.call entry.starved).volume
+turn_on-settled r entry next is = elim (option_cases (turn r.volume entry.call entry.starved)) [
+  | inl none ↦ (let impossible : None ≡ Some next = rw none at is in cc)
+  | inr some ↦ (let so : Some (with_turn r some.0) ≡ Some next = rw some.1 at is in
+      ap (λ (x : Run). x.volume) (sym (some_equal (with_turn r some.0) next so)) ∙ ap (λ (t : Turned). t.volume) (sym (turn-turned r.volume entry.call entry.starved some.0 some.1)))
+]
+
+Goes-from : (history : List HistoryEntry) (r after : Run) → steps turn_on r history ≡ Some after → Goes (tries_from r history) r.volume after.volume
+Goes-from [] r after is = subst (λ (x : Run). Goes [] r.volume x.volume) (some_equal r after is) (Goes-none r.volume r.volume (IsUntouched-same r.volume))
+Goes-from (entry ∷ more) r after is = elim (option_cases (turn_on r entry)) [
+  | inl none ↦ (let impossible : None ≡ Some after = rw none at is in cc)
+  | inr some ↦ rw some.1 (Goes-next (tries_of_turn r.volume entry.call entry.starved) (tries_from some.0 more) r.volume some.0.volume after.volume
+      (subst (λ (w : Volume). Goes (tries_of_turn r.volume entry.call entry.starved) r.volume w) (sym (turn_on-settled r entry some.0 some.1)) (Goes-turn r.volume entry.call entry.starved))
+      (Goes-from more some.0 after (rw some.1 at is)))
+]
+
+-- ---- a stretch in which a handle counts
+
+-- a part of a list
+All-begins : {X : Type 0} (P : X → Type 0) (xs more : List X) → All P (xs ++ more) → All P xs
+All-begins P [] more all = All-nil P
+All-begins P (x ∷ xs) more all = All-cons P x xs (all 0 x (omega arith)) (All-begins P xs more (λ k d within. all (suc k) d (omega arith)))
+
+All-part : {X : Type 0} (P : X → Type 0) (first part last : List X) → All P (first ++ part ++ last) → All P part
+All-part P [] part last all = All-begins P part last all
+All-part P (x ∷ first) part last all = All-part P first part last (λ k d within. all (suc k) d (omega arith))
+
+bytes-alike : (v w : Volume) (handle : ℕ) → IsAlike v w → bytes_under w handle ≡ bytes_under v handle
+bytes-alike v w handle same =
+    ap (λ (handles : List (ℕ × Handle)). option_map_or (λ row. option_map_or (bytes_of w) row.stream []) (row_of handles handle) []) same.handles
+    ∙ ap (λ streams. option_map_or (λ row. option_map_or (λ stream. option_map_or (λ s. s.bytes) (row_of streams stream) []) row.stream []) (row_of v.handles handle) []) same.streams
+
+leads : (handle : ℕ) (tries : List Tried) (v w : Volume) → All IsCoherentTry tries → Stretch tries v w → CountsAlong handle tries
+    → LeadTo handle (bytes_under v handle) (filter (is_by_own_key handle) tries) (bytes_under w handle)
+leads handle [] v w all stretch counts = bytes-alike v w handle stretch
+leads handle (t ∷ more) v w all stretch counts =
+    let rest : LeadTo handle (bytes_under (left_by t) handle) (filter (is_by_own_key handle) more) (bytes_under w handle)
+    = leads handle more (left_by t) w (λ k d within. all (suc k) d (omega arith)) stretch.1 (λ k d within. counts (suc k) d (omega arith)) in
+    let here : bytes_under t.before handle ≡ bytes_under v handle = bytes-alike v t.before handle stretch.0 in
+    elim (cases_Bool (is_by_own_key handle t)) [
+      | inl own ↦ rw own (here, rest)
+      | inr other ↦ (let it : IsCoherentTry t = all 0 t (omega arith) in
+          let both : (_ ≡ true) × (_ ≡ true) = counts 0 t (omega arith) in
+          let stays : bytes_under (left_by t) handle ≡ bytes_under v handle = it.coherent.bytes handle both.0 both.1 other ∙ here in
+          rw other (subst (λ (from : List ℕ). LeadTo handle from (filter (is_by_own_key handle) more) (bytes_under w handle)) stays rest))
+    ]
+
+pub run-coherent : (setup : Setup) (history : List HistoryEntry) (r : Run) → run setup history ≡ Some r → CachingIsCoherent setup history
+run-coherent setup history r is =
+    let all : All IsCoherentTry (tries_of setup history) = Goes.all (Goes-from history (begun setup) r is) (IsTied-fresh setup) in
+    record {
+      tries = all;
+      between = λ after so. Goes.stretch (Goes-from history (begun setup) after so);
+      stretches = λ handle first part last v w parts stretch counts.
+          leads handle part v w (All-part IsCoherentTry first part last (subst (λ (tries : List Tried). All IsCoherentTry tries) parts all)) stretch counts;
+    }
