@@ -22,7 +22,6 @@ use Rattle.fsa_model.proofs.CoherenceBreaks.{held-breaks, counts_held, counts-he
 use Rattle.fsa_model.proofs.CoherenceLaws.{held_after, any-in_order}
 use Rattle.fsa_model.proofs.BreakLaws.{break_of}
 use Rattle.fsa_model.specs.Grant.{oplock_of}
-use Rattle.fsa_model.specs.Sound.{has_its_key}
 
 -- ---- by what breaks and closes end it
 

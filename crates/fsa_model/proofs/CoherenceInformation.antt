@@ -1,7 +1,7 @@
 -- What sets or tells of files is coherent: times and attributes, reparse points, quotas, information, lists of a
 -- directory and notifications change no bytes and no oplock.
-use Rattle.std.proofs.Common.{◌≡◌, ℕ, Bool, ◌+◌, ◌==◌, not, ◌&&◌, ◌||◌, List, length, refl, Option, Some, None, inl, inr}
-use Rattle.std.specs.Prelude.{is_some, nat_lt, if◌then◌else◌}
+use Rattle.std.proofs.Common.{◌≡◌, ℕ, Bool, ◌==◌, not, ◌&&◌, List, length, refl, Option, Some, None, inl, inr}
+use Rattle.std.specs.Prelude.{is_some, nat_lt}
 use Rattle.std.proofs.lemmas.Bool.{cases_Bool}
 use Rattle.fsa_types.specs.Access.{has_any}
 use Rattle.fsa_types.specs.Match.{is_refused}
@@ -16,8 +16,8 @@ use Rattle.fsa_model.specs.Coherence.{IsTied, blockers_of}
 use Rattle.fsa_model.specs.Close.{is_link_of_parent}
 use Rattle.fsa_model.specs.Edits.{with_cursor, with_point}
 use Rattle.fsa_model.specs.Lookups.{file_of_link, handle_of, is_link_marked}
-use Rattle.fsa_model.specs.Outcome.{Outcome, Done}
-use Rattle.fsa_model.specs.QueryDir.{Entry, how_many_fit, kept_expression, begun_enumeration, left_to_list, list_entries, none_left_status, query_dir_in, query_dir_by, query_dir_at, try_query_dir}
+use Rattle.fsa_model.specs.Outcome.{Outcome}
+use Rattle.fsa_model.specs.QueryDir.{Entry, how_many_fit, begun_enumeration, left_to_list, list_entries, query_dir_in, query_dir_by, query_dir_at, try_query_dir}
 use Rattle.fsa_model.specs.QueryInfo.{fixed_size, how_many_streams_fit, needs_attributes, stream_rows, query_streams, query_streams_by, query_file, query_info_by, query_info_at, try_query_info}
 use Rattle.fsa_model.specs.Quota.{is_administrator, try_set_quota, try_query_quota}
 use Rattle.fsa_model.specs.ReparsePoints.{with_point_noted, may_set_point, has_other_tag, is_no_tag, set_point, set_buffer, set_reparse_by, set_reparse_at, try_set_reparse, point_buffer, get_point, get_reparse_of, get_reparse_by, get_reparse_at, try_get_reparse, remove_point, delete_reparse_of, delete_reparse_by, delete_reparse_at, try_delete_reparse}
@@ -25,7 +25,7 @@ use Rattle.fsa_model.specs.SetBasic.{Basics, with_basics, basic_bits, with_basic
 use Rattle.fsa_model.specs.Turn.{volume_after}
 use Rattle.fsa_model.specs.Volume.{Cursor, Handle, Volume}
 use Rattle.fsa_model.specs.Walk.{point_of}
-use Rattle.fsa_model.specs.Watching.{watch_of, is_something_due, with_watch_seen, notify_due, with_watch_begun, is_notify_filter, notify_by, notify_at, try_notify}
+use Rattle.fsa_model.specs.Watching.{watch_of, is_something_due, with_watch_seen, notify_due, with_watch_begun, is_notify_filter, notify_at, try_notify}
 use Rattle.fsa_model.proofs.CoherenceData.{Behaves, Behaves-if, Behaves-option, Behaves-done, Behaves-refused, IsUntouched-basic, ends-none, IsUntouched-next}
 use Rattle.fsa_model.proofs.CoherenceEdits.{IsUntouched-file_changed}
 use Rattle.fsa_model.proofs.CoherenceRest.{IsTied-with_cursor, KeepsBytes-with_cursor, IsUntouched-with_limit, IsUntouched-with_watch}

@@ -62,7 +62,7 @@ Left-link_set v link deleted tied = record {
 -- ---- watches and limits
 
 pub IsUntouched-with_watch : (v : Volume) (handle filter : ℕ) (tree : Bool) (from : ℕ) → IsUntouched v (with_watch v handle filter tree from)
-IsUntouched-with_watch v handle filter tree from = record { oplocks = refl; handles = refl; links = refl; streams = refl; last_link = refl; last_stream = refl; root = λ root. root }
+IsUntouched-with_watch v handle filter whole from = record { oplocks = refl; handles = refl; links = refl; streams = refl; last_link = refl; last_stream = refl; root = λ root. root }
 
 pub IsUntouched-with_limit : (v : Volume) (sid limit : ℕ) → IsUntouched v (with_limit v sid limit)
 IsUntouched-with_limit v sid limit = record { oplocks = refl; handles = refl; links = refl; streams = refl; last_link = refl; last_stream = refl; root = λ root. root }

@@ -1,8 +1,8 @@
 -- Caching is coherent over each history: all its tries are coherent, nothing between two of them changes bytes or
 -- oplocks, and over a stretch in which a handle counts its bytes change only by its own key.
-use Rattle.std.proofs.Common.{◌≡◌, ◌≢◌, ℕ, zero, suc, ◌+◌, ◌<◌, Bool, true, false, ◌==◌, not, List, [], ◌∷◌, ◌++◌, length, get_or, refl, sym, ap, subst, ◌∙◌, arith, Option, Some, None, inl, inr}
+use Rattle.std.proofs.Common.{◌≡◌, ℕ, zero, suc, true, List, [], ◌∷◌, ◌++◌, length, refl, sym, ap, subst, ◌∙◌, arith, Some, None, inl, inr}
 use Rattle.std.specs.Option.{option_map_or}
-use Rattle.std.specs.Prelude.{◌&&◌, nat_le, filter, All, if◌then◌else◌}
+use Rattle.std.specs.Prelude.{◌&&◌, nat_le, filter, All}
 use Rattle.std.proofs.lemmas.Bool.{cases_Bool}
 use Rattle.std.proofs.lemmas.List.Elements.{All-append, All-cons, All-nil}
 use Rattle.fsa_types.specs.Rows.{row_of}
@@ -20,7 +20,7 @@ use Rattle.fsa_model.specs.Engine.{own_tried}
 use Rattle.fsa_model.specs.History.{HistoryEntry, Run, begun, run, steps, turn_on, with_turn}
 use Rattle.fsa_model.specs.Lookups.{bytes_of, handle_of}
 use Rattle.fsa_model.specs.Outcome.{Outcome, Done, Stay, Hold}
-use Rattle.fsa_model.specs.Settle.{Settling, come_over, repeated, reported, settle_step, settled, starves, taken_up, taken_up_all, with_tried}
+use Rattle.fsa_model.specs.Settle.{Settling, come_over, repeated, reported, settle_step, starves, taken_up, taken_up_all, with_tried}
 use Rattle.fsa_model.specs.Setup.{Setup}
 use Rattle.fsa_model.specs.Tries.{Tried, left_by, tried_in, tries_from, tries_of, tries_of_steps, tries_of_turn}
 use Rattle.fsa_model.specs.Try.{try}

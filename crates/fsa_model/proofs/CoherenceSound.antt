@@ -1,5 +1,5 @@
 -- What coherence rests on is part of soundness.
-use Rattle.std.proofs.Common.{◌≡◌, ℕ, ◌≤◌, Bool, true, false, ◌==◌, ◌&&◌, ◌||◌, List, get_or, refl, sym, ap, ◌∙◌, arith, Option, Some, None, inl, inr, eq-eqb}
+use Rattle.std.proofs.Common.{◌≡◌, ℕ, ◌≤◌, Bool, true, ◌==◌, ◌&&◌, ◌||◌, List, get_or, sym, ap, ◌∙◌, arith, Some}
 use Rattle.std.specs.List.{list_any}
 use Rattle.std.specs.Option.{option_map_or}
 use Rattle.std.proofs.lemmas.Bool.{eqb-true, and_parts}
@@ -7,7 +7,7 @@ use Rattle.std.proofs.lemmas.List.Folds.{Any-from_list_any}
 use Rattle.fsa_types.specs.Rows.{row_of, lives, IsNumbered}
 use Rattle.fsa_model.specs.Coherence.{IsTied, has_living_stream}
 use Rattle.fsa_model.specs.Sound.{IsSound, is_of_living, is_stream_of_link}
-use Rattle.fsa_model.specs.Volume.{File, Link, Stream, Handle, Volume}
+use Rattle.fsa_model.specs.Volume.{Link, Stream, Handle, Volume}
 use Rattle.fsa_model.proofs.CoherenceEdits.{Lives, has_living_stream-from}
 use Rattle.fsa_model.proofs.RowLaws.{row_of-here}
 

@@ -1,12 +1,11 @@
 -- Each try keeps what coherence rests on and is coherent.
-use Rattle.std.proofs.Common.{◌≡◌, ℕ, Bool, true, false, List, [], refl, sym, subst, arith, Option, Some, None, inl, inr}
+use Rattle.std.proofs.Common.{◌≡◌, ℕ, Bool, true, false, List, refl, sym, subst, arith, Option, Some, None, inl, inr}
 use Rattle.std.proofs.lemmas.Bool.{cases_Bool}
 use Rattle.std.proofs.lemmas.List.Elements.{All-nil}
-use Rattle.fsa_types.specs.OplockLists.{effect_on, told_by}
+use Rattle.fsa_types.specs.OplockLists.{told_by}
 use Rattle.fsa_types.specs.Oplocks.{effect}
 use Rattle.fsa_types.specs.declared.oplock.Class.TheVariants.{Change}
 use Rattle.fsa_types.specs.declared.request.Call.{Call}
-use Rattle.fsa_types.specs.declared.request.Disposition.{Disposition}
 use Rattle.fsa_types.specs.declared.request.Level.{Level}
 use Rattle.fsa_types.specs.declared.request.Level.TheVariants.{Nil, R, RH, RW, RWH}
 use Rattle.fsa_types.specs.declared.request.Request.{Request}
@@ -19,17 +18,17 @@ use Rattle.fsa_model.specs.Coherence.{Closed, Told, Awaited, WhyEnded, ReadsWher
 use Rattle.fsa_model.specs.Lookups.{has_left}
 use Rattle.fsa_model.specs.Outcome.{Outcome, refused}
 use Rattle.fsa_model.specs.Setup.{Setup}
-use Rattle.fsa_model.specs.Volume.{Oplock, Volume, fresh}
+use Rattle.fsa_model.specs.Volume.{Volume, fresh}
 use Rattle.fsa_model.specs.Waiting.{has_ended, is_pending, try_wait}
 use Rattle.fsa_model.proofs.CoherenceAnswers.{read-coherent, create-coherent}
 use Rattle.fsa_model.proofs.CoherenceClose.{Behaves-close, Behaves-leave}
 use Rattle.fsa_model.proofs.CoherenceData.{Behaves, Behaves-if, Behaves-done, Behaves-refused, Behaves-read, Behaves-write, Behaves-set_security}
-use Rattle.fsa_model.proofs.CoherenceEnds.{WhyBroken, Gone, HasTold, Awaits, is_told_by_change}
+use Rattle.fsa_model.proofs.CoherenceEnds.{WhyBroken, Gone, HasTold, Awaits}
 use Rattle.fsa_model.proofs.CoherenceInformation.{Behaves-set_basic, Behaves-set_reparse, Behaves-get_reparse, Behaves-delete_reparse, Behaves-set_quota, Behaves-query_quota, Behaves-query_info, Behaves-query_dir, Behaves-notify}
 use Rattle.fsa_model.proofs.CoherenceLink.{Behaves-link}
 use Rattle.fsa_model.proofs.CoherenceNames.{Behaves-rename, Behaves-set_disposition}
 use Rattle.fsa_model.proofs.CoherenceOpen.{Behaves-create}
-use Rattle.fsa_model.proofs.CoherenceOplock.{Coheres, Coheres-if, Coheres-refused, Coheres-oplock, Coheres-ack, Coheres-cancel}
+use Rattle.fsa_model.proofs.CoherenceOplock.{Coheres, Coheres-refused, Coheres-oplock, Coheres-ack, Coheres-cancel}
 use Rattle.fsa_model.proofs.CoherenceRanges.{Behaves-set_end, Behaves-lock, Behaves-unlock, Behaves-flush}
 use Rattle.fsa_model.proofs.CoherenceTied.{IsUntouched-same}
 use Rattle.fsa_model.specs.Try.{try_request, try_what, try}

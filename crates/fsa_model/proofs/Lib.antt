@@ -8,6 +8,7 @@ pub mod CoherenceClose
 pub mod CoherenceData
 pub mod CoherenceEdits
 pub mod CoherenceEnds
+pub mod CoherenceExamples
 pub mod CoherenceGone
 pub mod CoherenceGrant
 pub mod CoherenceInformation

@@ -32,13 +32,13 @@ use Rattle.fsa_model.specs.Write.{try_write, write_at, write_by, write_stream, w
 -- ---- what is asked, and what is answered
 
 -- the clients `a`, `b` and `c` with the SIDs 7, 9 and 8
-abbrev setup : Setup
+abbrev pub setup : Setup
 setup = record {
   table = ascii_pairs;
   clients = record { name = codes "a"; sids = 7 ∷ [] } ∷ record { name = codes "b"; sids = 9 ∷ [] } ∷ record { name = codes "c"; sids = 8 ∷ [] } ∷ [];
 }
 
-abbrev asks : ℕ → ℕ → Request → Call
+abbrev pub asks : ℕ → ℕ → Request → Call
 asks client number request = record { client = client; number = number; what = Ask request }
 
 -- what each turn gives out

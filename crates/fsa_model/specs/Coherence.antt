@@ -2,7 +2,7 @@
 -- 'Algorithm to Check for an Oplock Break'. First when a handle counts on the reads that it has cached, and by
 -- whom a call acts; then the facts that every try keeps, and the four points that hold of every try; then all
 -- tries of a history, and any stretch of them.
-use Rattle.std.specs.Prelude.{◌≡◌, ◌≢◌, ◌≤◌, ℕ, Bool, true, false, not, ◌&&◌, ◌==◌, ◌++◌, List, [], ◌∷◌, length, filter, map, Option, Some, None, option_map, option_and_then, unwrap_or, All, AllPairs, IsTrue, if◌then◌else◌}
+use Rattle.std.specs.Prelude.{◌≡◌, ◌≢◌, ◌≤◌, ℕ, Bool, true, false, not, ◌&&◌, ◌==◌, ◌++◌, List, [], ◌∷◌, length, filter, Option, Some, None, option_map, option_and_then, unwrap_or, All, AllPairs, IsTrue, if◌then◌else◌}
 use Rattle.std.specs.List.{list_any}
 use Rattle.std.specs.Option.{option_map_or}
 use Rattle.fsa_types.specs.OplockLists.{effect_on, number_of_break, told_by}
