@@ -177,6 +177,16 @@ Goes-from (entry ∷ more) r after is = elim (option_cases (turn_on r entry)) [
       (Goes-from more some.0 after (rw some.1 at is)))
 ]
 
+-- all tries of these turns are coherent, also where there is no such turn
+all-from : (history : List HistoryEntry) (r : Run) → IsTied r.volume → All IsCoherentTry (tries_from r history)
+all-from [] r tied = All-nil IsCoherentTry
+all-from (entry ∷ more) r tied =
+    let here : Goes (tries_of_turn r.volume entry.call entry.starved) r.volume (settlement r.volume entry.call entry.starved).volume = Goes-turn r.volume entry.call entry.starved in
+    All-append IsCoherentTry (tries_of_turn r.volume entry.call entry.starved) _ (here.all tied) (elim (option_cases (turn_on r entry)) [
+      | inl none ↦ rw none (All-nil IsCoherentTry)
+      | inr some ↦ rw some.1 (all-from more some.0 (subst (λ (w : Volume). IsTied w) (sym (turn_on-settled r entry some.0 some.1)) (here.tied tied)))
+    ])
+
 -- ---- a stretch in which a handle counts
 
 -- a part of a list
@@ -208,12 +218,12 @@ leads handle (t ∷ more) v w all stretch counts =
           rw other (subst (λ (from : List ℕ). LeadTo handle from (filter (is_by_own_key handle) more) (bytes_under w handle)) stays rest))
     ]
 
-pub run-coherent : (setup : Setup) (history : List HistoryEntry) (r : Run) → run setup history ≡ Some r → CachingIsCoherent setup history
-run-coherent setup history r is =
-    let all : All IsCoherentTry (tries_of setup history) = Goes.all (Goes-from history (begun setup) r is) (IsTied-fresh setup) in
+pub run-coherent : (setup : Setup) (history : List HistoryEntry) → CachingIsCoherent setup history
+run-coherent setup history =
+    let all : All IsCoherentTry (tries_of setup history) = all-from history (begun setup) (IsTied-fresh setup) in
     record {
       tries = all;
-      between = λ after so. Goes.stretch (Goes-from history (begun setup) after so);
+      between = λ r is. Goes.stretch (Goes-from history (begun setup) r is);
       stretches = λ handle first part last v w parts stretch counts.
           leads handle part v w (All-part IsCoherentTry first part last (subst (λ (tries : List Tried). All IsCoherentTry tries) parts all)) stretch counts;
     }

@@ -120,5 +120,5 @@ pub fn each_try_is_coherent()
 /// settles too; nothing between two tries changes bytes or oplocks; and over any stretch of tries in which a handle
 /// counts, its later bytes are the earlier ones with its own key's changes in order.
 pub fn caching_is_coherent()
-    ensures coherent { (setup : Setup) (history : List HistoryEntry) (r : Run) → run setup history ≡ Some r → CachingIsCoherent setup history }
+    ensures coherent { (setup : Setup) (history : List HistoryEntry) → CachingIsCoherent setup history }
 {}
