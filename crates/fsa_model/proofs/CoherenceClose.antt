@@ -23,15 +23,18 @@ use Rattle.fsa_model.proofs.CoherenceEnds.{counts-same, Gone}
 use Rattle.fsa_model.proofs.CoherenceGone.{IsTied-without_handle, IsTied-without_row, IsTied-without_stream, IsTied-without_link, other_file}
 use Rattle.fsa_model.proofs.CoherenceSteps.{Leaves, Leaves-next, KeepsBytes-leaves}
 use Rattle.fsa_model.proofs.CoherenceTied.{IsUntouched-noted, IsUntouched-with_end, IsTied-alike, IsUntouched}
+use Rattle.fsa_model.proofs.CoherenceFalls.{Falls, Falls-next, Falls-opens, Falls-same, Falls-untouched, Falls-without_handle}
 
 -- handles, streams and links went, coherence rests on what is left, and all handles count that did and are left
 pub record Left (v w : Volume) : Type 0 where
   pub tied : IsTied w
   pub leaves : Leaves v w
   pub counts : (handle : ℕ) → counts_on_reads v handle ≡ true → (counts_on_reads w handle ≡ true) ⊎ (row_of w.handles handle ≡ None)
+  pub falls : Falls v w
 
 pub Left-same : (v : Volume) → IsTied v → Left v v
 Left-same v tied = record {
+  falls = Falls-same v;
   tied = tied;
   leaves = record { handles = λ handle row living. living; bytes = λ handle row stream living has. refl };
   counts = λ handle counts. inl counts;
@@ -40,6 +43,7 @@ Left-same v tied = record {
 pub Left-next : (u v w : Volume) → Left u v → (IsTied v → Left v w) → Left u w
 Left-next u v w first second = (let next : Left v w = second first.tied in record {
   tied = next.tied;
+  falls = Falls-next u v w first.falls next.falls;
   leaves = Leaves-next u v w first.leaves next.leaves;
   counts = λ handle counts. elim (first.counts handle counts) [
     | inl still ↦ next.counts handle still
@@ -53,6 +57,7 @@ Left-next u v w first second = (let next : Left v w = second first.tied in recor
 
 pub Left-alike : (v w : Volume) → IsUntouched v w → IsTied v → Left v w
 Left-alike v w alike tied = record {
+  falls = Falls-untouched v w alike;
   counts = λ handle counts. inl (counts-same v w handle alike.oplocks ∙ counts);
   tied = IsTied-alike v w alike tied;
   leaves = record { handles = λ handle row living. rw alike.handles at living; bytes = λ handle row stream living has. rw alike.streams refl };
@@ -100,6 +105,7 @@ oplock-kept (o ∷ oplocks) handle gone other = elim (cases_Bool (o.handle == ha
 
 Left-without_handle : (v : Volume) (id : ℕ) → IsTied v → Left v (without_handle v id)
 Left-without_handle v id tied = record {
+  falls = Falls-without_handle v id (λ handle row living. row_of-before v.handles id handle row living);
   counts = λ handle counts. elim (cases_Bool (handle == id)) [
     | inl here ↦ (let same : handle ≡ id = eqb-true handle id here in inr (rw same (row_of-gone v.handles id)))
     | inr other ↦ inl (ap (λ found. option_map_or caches_reads found false) (oplock-kept v.oplocks handle id other) ∙ counts)
@@ -121,6 +127,7 @@ bytes-marked streams at id deleted =
 
 Left-stream_marked : (v : Volume) (stream : ℕ) → IsTied v → Left v (with_stream_marked v stream true)
 Left-stream_marked v stream tied = record {
+  falls = Falls-opens v (with_stream_marked v stream true) refl refl;
   counts = λ handle counts. inl counts;
   tied = IsTied-stream_changed v (λ row. record row { deleted = true }) stream (λ row. refl) tied;
   leaves = record { handles = λ handle row living. living; bytes = λ handle row of_it living has. bytes-marked v.streams stream of_it true };
@@ -128,6 +135,7 @@ Left-stream_marked v stream tied = record {
 
 Left-link_marked : (v : Volume) (link : ℕ) → IsTied v → Left v (with_link_marked v link true)
 Left-link_marked v link tied = record {
+  falls = Falls-opens v (with_link_marked v link true) refl refl;
   counts = λ handle counts. inl counts;
   tied = IsTied-link_changed v (λ row. record row { deleted = true }) link (λ row. refl) tied;
   leaves = record { handles = λ handle row living. living; bytes = λ handle row stream living has. refl };
@@ -152,6 +160,7 @@ Left-noted v link action bits stream tied = Left-alike v _ (IsUntouched-noted v 
 
 Left-without_stream : (v : Volume) (gone : ℕ) → has_row (is_open_on gone) v.handles ≡ false → IsTied v → Left v (without_stream v gone)
 Left-without_stream v gone none tied = record {
+  falls = Falls-opens v (without_stream v gone) refl refl;
   counts = λ handle counts. inl counts;
   tied = IsTied-without_stream v gone none tied;
   leaves = record {
@@ -210,8 +219,15 @@ oplocks-without_link v link = elim (option_cases (row_of v.links link)) [
   | inr some ↦ rw some.1 (elim (cases_Bool (has_row (λ l. l.file == some.0.file) (without_row v.links link))) [ inl linked ↦ rw linked refl | inr unlinked ↦ rw unlinked refl ])
 ]
 
+handles-without_link : (v : Volume) (link : ℕ) → (without_link v link).handles ≡ v.handles
+handles-without_link v link = elim (option_cases (row_of v.links link)) [
+  | inl none ↦ rw none refl
+  | inr some ↦ rw some.1 (elim (cases_Bool (has_row (λ l. l.file == some.0.file) (without_row v.links link))) [ inl linked ↦ rw linked refl | inr unlinked ↦ rw unlinked refl ])
+]
+
 pub Left-without_link : (v : Volume) (link : ℕ) → has_row (is_open_by link) v.handles ≡ false → IsTied v → Left v (without_link v link)
 Left-without_link v link none tied = record {
+  falls = Falls-opens v (without_link v link) (handles-without_link v link) (oplocks-without_link v link);
   counts = λ handle counts. inl (counts-same v (without_link v link) handle (oplocks-without_link v link) ∙ counts);
   tied = IsTied-without_link v link none tied;
   leaves = Leaves-without_link v link (IsTied-without_row v link none tied);
@@ -246,6 +262,7 @@ Left-closed v id handle tied =
 pub Behaves-left : (v w : Volume) (acting : Option ℕ) (key : ℕ) (outcome : Outcome) → volume_after outcome ≡ w → Left v w → Behaves v acting key outcome
 Behaves-left v w acting key outcome is left = record {
   tied = rw is left.tied;
+  falls = rw is left.falls;
   coherent = rw is (KeepsBytes-leaves v w acting key left.tied left.leaves);
   ends = λ handle before after. elim (left.counts handle before) [
     | inl still ↦ absurd (false≢true (sym (rw is at after) ∙ still))

@@ -34,6 +34,7 @@ use Rattle.fsa_model.proofs.CoherenceEdits.{row_of-changed, IsTied-stream_change
 use Rattle.fsa_model.proofs.CoherenceEnds.{ends-held, ends-gone_on, counts-same, Gone, HasTold, Awaits, EndsByCause}
 use Rattle.fsa_model.proofs.CoherenceSteps.{Comes, KeepsBytes-comes, Changes, KeepsBytes-changes, KeepsBytes}
 use Rattle.fsa_model.proofs.CoherenceTied.{IsUntouched-same, IsUntouched-noted, IsTied-alike, IsTied-breaks, IsUntouched}
+use Rattle.fsa_model.proofs.CoherenceFalls.{Falls, Falls-breaks, Falls-next, Falls-opens, Falls-untouched}
 
 -- ---- a try
 
@@ -42,6 +43,7 @@ pub record Behaves (v : Volume) (acting : Option ℕ) (key : ℕ) (outcome : Out
   pub tied : IsTied (volume_after outcome)
   pub coherent : KeepsBytes v acting key (volume_after outcome)
   pub ends : EndsByCause v acting key (volume_after outcome) (blockers_of outcome)
+  pub falls : Falls v (volume_after outcome)
 
 -- nothing ends where the oplocks are as they were
 pub ends-none : (v w : Volume) (acting : Option ℕ) (key : ℕ) (blockers : List Blocker) → w.oplocks ≡ v.oplocks → EndsByCause v acting key w blockers
@@ -86,6 +88,7 @@ Behaves-done v acting key outcome tied alike = record {
   tied = IsTied-alike v (volume_after outcome) alike tied;
   coherent = KeepsBytes-alike v (volume_after outcome) acting key tied alike;
   ends = ends-none v (volume_after outcome) acting key (blockers_of outcome) alike.oplocks;
+  falls = Falls-untouched v (volume_after outcome) alike;
 }
 
 pub Behaves-refused : (v : Volume) (acting : Option ℕ) (key : ℕ) (status : Status) → IsTied v → Behaves v acting key (refused v status)
@@ -104,6 +107,7 @@ Behaves-held v on kind acting key tied = record {
   tied = IsTied-breaks v on kind acting key tied;
   coherent = KeepsBytes-breaks v on kind acting key acting key tied;
   ends = ends-held v on kind acting key tied;
+  falls = Falls-breaks v on kind acting key tied;
 }
 
 -- a volume that the breaks left, where the call doesn't wait for them
@@ -111,6 +115,7 @@ pub record Broken (v : Volume) (acting : Option ℕ) (key : ℕ) (u : Volume) : 
   pub tied : IsTied u
   pub coherent : KeepsBytes v acting key u
   pub ends : EndsByCause v acting key u []
+  pub falls : Falls v u
 
 pub Broken-breaks : (v : Volume) (on : HandleSet) (kind : Class) (acting : Option ℕ) (key : ℕ) → IsTied v → waits_for v on kind acting key ≡ false
     → Broken v acting key (with_breaks v on kind acting key)
@@ -118,10 +123,11 @@ Broken-breaks v on kind acting key tied goes = record {
   tied = IsTied-breaks v on kind acting key tied;
   coherent = KeepsBytes-breaks v on kind acting key acting key tied;
   ends = ends-gone_on v on kind acting key tied goes;
+  falls = Falls-breaks v on kind acting key tied;
 }
 
 pub Behaves-broken : (v : Volume) (acting : Option ℕ) (key : ℕ) (u : Volume) (status : Status) → Broken v acting key u → Behaves v acting key (refused u status)
-Behaves-broken v acting key u status broken = record { tied = broken.tied; coherent = broken.coherent; ends = broken.ends }
+Behaves-broken v acting key u status broken = record { tied = broken.tied; coherent = broken.coherent; ends = broken.ends; falls = broken.falls }
 
 -- ---- a stream changes
 
@@ -180,6 +186,8 @@ Behaves-write_bytes v u acting key link stream at bytes broken written = record 
   coherent = written;
   ends = ends-as v u (with_written u link stream at bytes) acting key (Changes.oplocks (Changes-written u link stream at bytes))
       (λ handle none. ap (λ (rows : List (ℕ × Handle)). row_of rows handle) (handles-written u link stream at bytes) ∙ none) broken.ends;
+  falls = Falls-next v u (with_written u link stream at bytes) broken.falls
+      (Falls-opens u (with_written u link stream at bytes) (handles-written u link stream at bytes) (Changes.oplocks (Changes-written u link stream at bytes)));
 }
 
 Behaves-write_grown : (v u : Volume) (acting : Option ℕ) (key link stream at : ℕ) (bytes : List ℕ) → Broken v acting key u
@@ -244,7 +252,7 @@ Behaves-read_bytes : (v u : Volume) (acting : Option ℕ) (key stream at count :
 unfolding read_bytes
 Behaves-read_bytes v u acting key stream at count broken =
     Behaves-if (nat_le (length (bytes_of u stream)) at) _ _ (λ past. Behaves-broken v acting key u _ broken)
-    (λ within. record { tied = broken.tied; coherent = broken.coherent; ends = broken.ends })
+    (λ within. record { tied = broken.tied; coherent = broken.coherent; ends = broken.ends; falls = broken.falls })
 
 Behaves-read_unlocked : (v u : Volume) (acting : Option ℕ) (key handle stream at count : ℕ) → Broken v acting key u → Behaves v acting key (read_unlocked u handle stream at count)
 unfolding read_unlocked

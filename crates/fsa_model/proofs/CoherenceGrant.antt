@@ -35,15 +35,15 @@ IsUntouched-call_ended v (Some turn) status = elim (option_cases (row_of v.pendi
 ]
 
 -- the rest stays as it is
-record Keeps (v w : Volume) : Type 0 where
-  handles : w.handles ≡ v.handles
-  streams : w.streams ≡ v.streams
+pub record Keeps (v w : Volume) : Type 0 where
+  pub handles : w.handles ≡ v.handles
+  pub streams : w.streams ≡ v.streams
 
 Keeps-switched : (v : Volume) (oplock : Oplock) → Keeps v (with_switched v oplock)
 Keeps-switched v oplock = (let alike : IsUntouched (without_oplock v oplock.handle) (with_switched v oplock) = IsUntouched-call_ended (without_oplock v oplock.handle) oplock.call OplockSwitchedToNewHandle in
     record { handles = alike.handles; streams = alike.streams })
 
-Keeps-all : (oplocks : List Oplock) (v : Volume) → Keeps v (fold with_switched v oplocks)
+pub Keeps-all : (oplocks : List Oplock) (v : Volume) → Keeps v (fold with_switched v oplocks)
 Keeps-all [] v = record { handles = refl; streams = refl }
 Keeps-all (o ∷ oplocks) v =
     let first : Keeps v (with_switched v o) = Keeps-switched v o in
@@ -56,7 +56,7 @@ IsTied-all (o ∷ oplocks) v tied =
     IsTied-all oplocks (with_switched v o) (IsTied-alike _ _ (IsUntouched-call_ended (without_oplock v o.handle) o.call OplockSwitchedToNewHandle) (IsTied-without_oplock v o.handle tied))
 
 -- what a handle holds afterwards: nothing, or what it held
-held-all : (oplocks : List Oplock) (v : Volume) (handle : ℕ)
+pub held-all : (oplocks : List Oplock) (v : Volume) (handle : ℕ)
     → held_in (fold with_switched v oplocks).oplocks handle ≡ (if list_any (λ o. o.handle == handle) oplocks then None else held_in v.oplocks handle)
 held-all [] v handle = refl
 held-all (o ∷ oplocks) v handle =
@@ -70,7 +70,7 @@ held-all (o ∷ oplocks) v handle =
     ]
 
 -- whose key an oplock has
-own-key : (v : Volume) (handle : ℕ) (oplock : Oplock) (acting : Option ℕ) (key : ℕ) → IsTied v → oplock_of v handle ≡ Some oplock
+pub own-key : (v : Volume) (handle : ℕ) (oplock : Oplock) (acting : Option ℕ) (key : ℕ) → IsTied v → oplock_of v handle ≡ Some oplock
     → is_own v handle acting key ≡ is_same_key oplock.handle oplock.key acting key
 own-key v handle oplock acting key tied found =
     let of_it : oplock.handle ≡ handle = eqb-true oplock.handle handle (find-passes (λ o. o.handle == handle) v.oplocks oplock found) in
@@ -84,7 +84,7 @@ same_key-itself : (handle key : ℕ) → is_same_key handle key (Some handle) ke
 same_key-itself handle key = or_left (handle == handle) _ (eq-eqb handle handle refl)
 
 -- the granted handle holds nothing before it is granted
-held-granted : (v : Volume) (handle key stream : ℕ) (row : Handle) → IsTied v → row_of v.handles handle ≡ Some row → row.key ≡ key → row.stream ≡ Some stream
+pub held-granted : (v : Volume) (handle key stream : ℕ) (row : Handle) → IsTied v → row_of v.handles handle ≡ Some row → row.key ≡ key → row.stream ≡ Some stream
     → held_in (with_all_switched v handle key stream).oplocks handle ≡ None
 held-granted v handle key stream row tied living of_key on_it =
     held-all (switched v handle key stream) v handle ∙ elim (option_cases (oplock_of v handle)) [

@@ -28,7 +28,7 @@ use Rattle.fsa_model.specs.Walk.{point_of}
 use Rattle.fsa_model.specs.Watching.{watch_of, is_something_due, with_watch_seen, notify_due, with_watch_begun, is_notify_filter, notify_at, try_notify}
 use Rattle.fsa_model.proofs.CoherenceData.{Behaves, Behaves-if, Behaves-option, Behaves-done, Behaves-refused, IsUntouched-basic, ends-none, IsUntouched-next}
 use Rattle.fsa_model.proofs.CoherenceEdits.{IsUntouched-file_changed}
-use Rattle.fsa_model.proofs.CoherenceRest.{IsTied-with_cursor, KeepsBytes-with_cursor, IsUntouched-with_limit, IsUntouched-with_watch}
+use Rattle.fsa_model.proofs.CoherenceRest.{IsTied-with_cursor, KeepsBytes-with_cursor, IsUntouched-with_limit, IsUntouched-with_watch, Falls-with_cursor}
 use Rattle.fsa_model.proofs.CoherenceTied.{IsUntouched, IsUntouched-same, IsUntouched-noted}
 
 -- ---- times and attributes
@@ -143,6 +143,7 @@ Behaves-with_cursor v acting key id expression cursor outcome tied is =
       tied = rw is (IsTied-with_cursor v id expression cursor tied);
       coherent = rw is (KeepsBytes-with_cursor v acting key id expression cursor);
       ends = rw is (ends-none v next acting key (blockers_of outcome) refl);
+      falls = rw is (Falls-with_cursor v id expression cursor);
     }
 
 Behaves-list_entries : (v : Volume) (acting : Option ℕ) (key id : ℕ) (kind : DirKind) (expression : List ℕ) (cursor : Cursor) (entries : List Entry) (room : ℕ) → IsTied v

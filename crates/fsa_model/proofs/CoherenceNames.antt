@@ -30,6 +30,7 @@ use Rattle.fsa_model.proofs.CoherenceData.{Behaves, IsUntouched-basic}
 use Rattle.fsa_model.proofs.CoherenceEdits.{IsTied-stream_changed}
 use Rattle.fsa_model.proofs.CoherenceRest.{Left-breaks, Left-link_moved, Left-link_set}
 use Rattle.fsa_model.proofs.RowLaws.{option_cases}
+use Rattle.fsa_model.proofs.CoherenceFalls.{Falls-opens}
 
 -- ---- what is changed
 
@@ -214,6 +215,7 @@ Behaves-rename v acting key client handle path replace tied =
 
 Left-stream_set : (v : Volume) (stream : ℕ) (deleted : Bool) → IsTied v → Left v (with_stream_marked v stream deleted)
 Left-stream_set v stream deleted tied = record {
+  falls = Falls-opens v (with_stream_marked v stream deleted) refl refl;
   counts = λ handle counts. inl counts;
   tied = IsTied-stream_changed v (λ row. record row { deleted = deleted }) stream (λ row. refl) tied;
   leaves = record { handles = λ handle row living. living; bytes = λ handle row of_it living has. bytes-marked v.streams stream of_it deleted };

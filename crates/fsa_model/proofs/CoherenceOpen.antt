@@ -31,6 +31,7 @@ use Rattle.fsa_model.proofs.CoherenceEnds.{ends-gone_on, counts-kept, counts-sam
 use Rattle.fsa_model.proofs.CoherenceSteps.{Comes, KeepsBytes-comes, Changes, KeepsBytes-changes, oplock-lives, counting-lives}
 use Rattle.fsa_model.proofs.CoherenceTied.{IsUntouched-same, IsUntouched-noted, IsTied-alike, IsTied-breaks, IsUntouched}
 use Rattle.fsa_model.specs.Grant.{oplock_of}
+use Rattle.fsa_model.proofs.CoherenceFalls.{Falls, Falls-breaks, Falls-comes, Falls-next, Falls-opens, Falls-same, Falls-untouched}
 
 -- ---- rows
 
@@ -98,12 +99,14 @@ pub record Came (v w : Volume) : Type 0 where
   pub tied : IsTied w
   pub comes : Comes v w
   pub counts : (handle : ℕ) → counts_on_reads v handle ≡ true → counts_on_reads w handle ≡ true
+  pub falls : Falls v w
 
 Came-same : (v : Volume) → IsTied v → Came v v
-Came-same v tied = record { tied = tied; comes = Comes-alike v v (IsUntouched-same v); counts = λ handle counts. counts }
+Came-same v tied = record { tied = tied; comes = Comes-alike v v (IsUntouched-same v); counts = λ handle counts. counts; falls = Falls-same v }
 
 Came-breaks : (v : Volume) (on : HandleSet) (kind : Class) (key : ℕ) → (kind ≡ Change → ⊥) → IsTied v → Came v (with_breaks v on kind None key)
 Came-breaks v on kind key no_change tied = record {
+  falls = Falls-breaks v on kind None key tied;
   counts = λ handle counts. counts-kept v on kind None key handle tied no_change counts;
   tied = IsTied-breaks v on kind None key tied;
   comes = record {
@@ -114,6 +117,7 @@ Came-breaks v on kind key no_change tied = record {
 
 Came-noted : (v w : Volume) (link action bits : ℕ) (stream : Option ℕ) → Came v w → Came v (Rattle.fsa_model.specs.Changes.with_change_noted w link action bits stream)
 Came-noted v w link action bits stream came = record {
+  falls = Falls-next v w _ came.falls (Falls-untouched w _ (IsUntouched-noted w link action bits stream));
   tied = IsTied-alike _ _ (IsUntouched-noted w link action bits stream) came.tied;
   comes = Comes-next _ _ _ came.comes (Comes-alike _ _ (IsUntouched-noted w link action bits stream));
   counts = λ handle counts. counts-same w (Rattle.fsa_model.specs.Changes.with_change_noted w link action bits stream) handle (IsUntouched.oplocks (IsUntouched-noted w link action bits stream)) ∙ came.counts handle counts;
@@ -135,6 +139,8 @@ row_opened asked link stream = record {
 
 Came-open : (v w : Volume) (asked : Asked) (link : ℕ) (stream : Option ℕ) → ((s : ℕ) → stream ≡ Some s → Lives w.links w.streams link s) → Came v w → Came v (with_open w asked link stream)
 Came-open v w asked link stream lives came = record {
+  falls = Falls-next v w (with_open w asked link stream) came.falls
+      (Falls-comes w (with_open w asked link stream) came.tied refl (Comes.handles (Comes-with_handle w (row_opened asked link stream))));
   tied = IsTied-with_handle w (row_opened asked link stream) (has_living_stream-from w.links w.streams (row_opened asked link stream) lives) came.tied;
   comes = Comes-next _ _ _ came.comes (Comes-with_handle w (row_opened asked link stream));
   counts = came.counts;
@@ -144,6 +150,7 @@ Came-open v w asked link stream lives came = record {
 Behaves-opens : (v w : Volume) (key : ℕ) (why : Status) (done : Action) → IsTied v → Came v w → Behaves v None key (opens w why done)
 Behaves-opens v w key why done tied came = record {
   tied = came.tied;
+  falls = came.falls;
   coherent = KeepsBytes-comes v w None key tied came.comes;
   ends = λ handle before after. absurd (false≢true (sym after ∙ came.counts handle before));
 }
@@ -165,6 +172,7 @@ Came-directory v asked dir name tied =
     let file : File = new_file v asked true (kept_attributes asked.attributes) in record {
       tied = IsTied-with_link (with_file v file) dir name (v.last_file + 1) (not_the_root v tied) (IsTied-with_file v file tied);
       comes = Comes-next _ _ _ (Comes-with_file v file) (Comes-with_link (with_file v file) dir name (v.last_file + 1));
+      falls = Falls-opens v (with_directory_made v asked dir name) refl refl;
       counts = λ handle counts. counts;
     }
 
@@ -175,11 +183,12 @@ Came-file v asked dir name tied =
       tied = IsTied-with_stream linked (v.last_file + 1) []
           (IsTied-with_link (with_file v file) dir name (v.last_file + 1) (not_the_root v tied) (IsTied-with_file v file tied));
       comes = Comes-next _ _ _ (Comes-next _ _ _ (Comes-with_file v file) (Comes-with_link (with_file v file) dir name (v.last_file + 1))) (Comes-with_stream linked (v.last_file + 1) []);
+      falls = Falls-opens v (with_file_made v asked dir name) refl refl;
       counts = λ handle counts. counts;
     }
 
 Came-stream : (v w : Volume) (file : ℕ) (name : List ℕ) → Came v w → Came v (with_stream w file name)
-Came-stream v w file name came = record { tied = IsTied-with_stream w file name came.tied; comes = Comes-next _ _ _ came.comes (Comes-with_stream w file name); counts = came.counts }
+Came-stream v w file name came = record { tied = IsTied-with_stream w file name came.tied; comes = Comes-next _ _ _ came.comes (Comes-with_stream w file name); counts = came.counts; falls = Falls-next v w (with_stream w file name) came.falls (Falls-opens w (with_stream w file name) refl refl) }
 
 -- the link and the stream of a file just made
 Lives-new : (v : Volume) (asked : Asked) (dir : ℕ) (name : List ℕ) → IsTied v → (s : ℕ) → Some (v.last_stream + 1) ≡ Some s
@@ -237,6 +246,7 @@ Behaves-clashed v on key tied =
     Behaves-if (open_waits v on Clash key) _ _ (λ is. Behaves-held v on Clash None key tied)
     (λ isnt. (let came : Came v (with_breaks v on Clash None key) = Came-breaks v on Clash key (λ is. cc) tied in record {
       tied = came.tied;
+      falls = came.falls;
       coherent = KeepsBytes-comes v (with_breaks v on Clash None key) None key tied came.comes;
       ends = λ handle before after. absurd (false≢true (sym after ∙ came.counts handle before));
     }))
@@ -312,6 +322,8 @@ Behaves-overwrite_existing v asked link file stream tied lives =
       tied = IsTied-alike c _ (IsUntouched-basic c _ _ _ _ _ _) (IsTied-stream_changed n cut_here stream (λ row. refl)
           (IsTied-alike o n (IsUntouched-overwrite_noted o link stream (names_stream asked.path)) came.tied));
       coherent = KeepsBytes-changes v _ None asked.key stream tied isnt (Changes-overwritten u asked link file stream broken);
+      falls = Falls-next v u (with_overwritten o asked link file stream) (Falls-breaks v (set.Stream stream) Change None asked.key tied)
+          (Falls-comes u (with_overwritten o asked link file stream) broken (Changes.oplocks (Changes-overwritten u asked link file stream broken)) (Changes.handles (Changes-overwritten u asked link file stream broken)));
       ends = λ handle before after. elim (ends-gone_on v (set.Stream stream) Change None asked.key tied isnt handle before
           (sym (counts-same u (with_overwritten o asked link file stream) handle (Changes.oplocks (Changes-overwritten u asked link file stream broken))) ∙ after)) [
             | Gone none ↦ absurd (some_none (counting-lives v handle tied before).1 (ap (λ (rows : List (ℕ × Handle)). row_of rows handle) (sym (handles-breaks v (set.Stream stream) Change None asked.key)) ∙ none))

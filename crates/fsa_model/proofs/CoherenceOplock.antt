@@ -10,8 +10,8 @@ use Rattle.fsa_types.specs.declared.request.Request.TheVariants.{Oplock, Ack, Ca
 use Rattle.fsa_types.specs.declared.request.What.{What}
 use Rattle.fsa_types.specs.declared.request.What.TheVariants.{Ask}
 use Rattle.fsa_types.specs.declared.status.Status.{Status}
-use Rattle.fsa_model.specs.Coherence.{CountsUntilCause, Acknowledged, Switched, Cancelled, key_of, key_acting, is_own, acting_handle, acting_key, IsTied}
-use Rattle.fsa_model.specs.Edits.{is_call}
+use Rattle.fsa_model.specs.Coherence.{CountsUntilCause, Acknowledged, Switched, Cancelled, key_of, key_acting, is_own, acting_handle, acting_key, IsTied, CountsFromCause, Granted, Kept, WritersAlone}
+use Rattle.fsa_model.specs.Edits.{is_call, without_oplock}
 use Rattle.fsa_model.specs.Grant.{is_not_granted, oplock_on, oplock_by, oplock_at, try_oplock, target_of, ack_with, ack_at, try_ack}
 use Rattle.fsa_model.specs.Lookups.{handle_of, number_of}
 use Rattle.fsa_model.specs.Outcome.{Outcome, refused}
@@ -21,6 +21,8 @@ use Rattle.fsa_model.proofs.CoherenceSteps.{KeepsBytes}
 use Rattle.fsa_model.specs.Waiting.{with_oplock_given_up, try_cancel}
 use Rattle.fsa_model.proofs.CoherenceGrant.{KeepsBytes-oplocks, IsTied-granted, KeepsBytes-granted, ends-granted, IsTied-kept, ends-kept, ends-without, IsTied-given_up, ends-given_up}
 use Rattle.fsa_model.proofs.CoherenceTied.{IsTied-alike, IsUntouched-with_end, IsTied-without_oplock}
+use Rattle.fsa_model.proofs.CoherenceBegins.{Falls-given_up, Falls-without_oplock, alone-granted, alone-kept, begins-granted, begins-kept, reads-left}
+use Rattle.fsa_model.proofs.CoherenceFalls.{alone-falls, counts-falls}
 
 -- one try of such a call of this client keeps what coherence rests on; bytes change as they may; and what no longer
 -- counts has a cause
@@ -28,6 +30,8 @@ pub record Coheres (v : Volume) (client : ℕ) (what : What) (outcome : Outcome)
   pub tied : IsTied (volume_after outcome)
   pub keeps : KeepsBytes v (acting_handle v client what) (acting_key v client what) (volume_after outcome)
   pub ended : CountsUntilCause v client what outcome
+  pub begins : CountsFromCause v client what (volume_after outcome)
+  pub alone : WritersAlone v → WritersAlone (volume_after outcome)
 
 pub Coheres-if : {v : Volume} {client : ℕ} {what : What} (test : Bool) (one other : Outcome) → (test ≡ true → Coheres v client what one)
     → (test ≡ false → Coheres v client what other) → Coheres v client what (if test then one else other)
@@ -44,6 +48,8 @@ Coheres-refused v client what status tied = record {
   tied = tied;
   keeps = KeepsBytes-oplocks v v _ _ tied refl refl;
   ended = λ handle before after. absurd (false≢true (sym after ∙ before));
+  begins = λ handle before after. absurd (false≢true (sym before ∙ after));
+  alone = λ alone. alone;
 }
 
 -- ---- a request of an oplock
@@ -57,6 +63,8 @@ Coheres-oplock_on v client number level turn id row stream tied named living on_
       tied = IsTied-granted v id row.key stream row level turn living refl on_it tied;
       keeps = KeepsBytes-granted v id row.key stream level turn _ _ tied;
       ended = λ handle before after. Switched number level refl (by_it handle (ends-granted v id row.key stream level turn handle tied before after));
+      begins = λ handle before after. Granted number level refl (named ∙ ap (λ h. Some h) (sym (begins-granted v id row.key stream level turn handle before after)));
+      alone = λ alone. alone-granted v id row.key stream row level turn tied living refl on_it isnt alone;
     })
   where
     key_is : key_of v id ≡ row.key
@@ -86,27 +94,32 @@ Coheres-oplock v client number level turn tied =
 
 -- ---- an acknowledgement
 
-Coheres-ack_with : (v : Volume) (client number : ℕ) (asked level : Level) (turn id : ℕ) → IsTied v → handle_of v client number ≡ Some id
-    → Coheres v client (Ask (Ack number asked)) (ack_with v id level turn)
+Coheres-ack_with : (v : Volume) (client number : ℕ) (asked target : Level) (turn id : ℕ) → IsTied v → handle_of v client number ≡ Some id → target_of v id ≡ Some target
+    → Coheres v client (Ask (Ack number asked)) (ack_with v id (in_both asked target) turn)
 unfolding ack_with
-Coheres-ack_with v client number asked level turn id tied named =
-    Coheres-if (has_read level) _ _
+Coheres-ack_with v client number asked target turn id tied named answers =
+    Coheres-if (has_read (in_both asked target)) _ _
     (λ stays. record {
-      tied = IsTied-kept v id level turn tied;
+      tied = IsTied-kept v id (in_both asked target) turn tied;
       keeps = KeepsBytes-oplocks v _ _ _ tied refl refl;
-      ended = λ handle before after. Acknowledged number asked refl (named ∙ ap (λ h. Some h) (sym (ends-kept v id level turn handle before after)));
+      ended = λ handle before after. Acknowledged number asked refl (named ∙ ap (λ h. Some h) (sym (ends-kept v id (in_both asked target) turn handle before after)));
+      begins = λ handle before after. (let same : handle ≡ id = begins-kept v id (in_both asked target) turn handle before after in
+          Kept number asked target refl (named ∙ ap (λ h. Some h) (sym same)) (ap (target_of v) same ∙ answers) (reads-left asked target stays));
+      alone = alone-kept v id asked target turn answers;
     })
     (λ ends. record {
       tied = IsTied-without_oplock v id tied;
       keeps = KeepsBytes-oplocks v _ _ _ tied refl refl;
       ended = λ handle before after. Acknowledged number asked refl (named ∙ ap (λ h. Some h) (sym (ends-without v id handle before after)));
+      begins = λ handle before after. absurd (false≢true (sym before ∙ counts-falls v (without_oplock v id) handle (Falls-without_oplock v id tied) after));
+      alone = alone-falls v (without_oplock v id) (Falls-without_oplock v id tied);
     })
 
 Coheres-ack_at : (v : Volume) (client number : ℕ) (level : Level) (turn id : ℕ) → IsTied v → handle_of v client number ≡ Some id
     → Coheres v client (Ask (Ack number level)) (ack_at v id level turn)
 unfolding ack_at
 Coheres-ack_at v client number level turn id tied named =
-    Coheres-option (target_of v id) _ _ (λ target is. Coheres-ack_with v client number level (in_both level target) turn id tied named) (Coheres-refused v client _ _ tied)
+    Coheres-option (target_of v id) _ _ (λ target is. Coheres-ack_with v client number level target turn id tied named is) (Coheres-refused v client _ _ tied)
 
 pub Coheres-ack : (v : Volume) (client number : ℕ) (level : Level) (turn : ℕ) → IsTied v → Coheres v client (Ask (Ack number level)) (try_ack v client number level turn)
 unfolding try_ack
@@ -123,5 +136,7 @@ Coheres-cancel v client number tied =
       tied = IsTied-alike _ _ (IsUntouched-with_end (with_oplock_given_up v turn) client number _) (IsTied-given_up v turn tied);
       keeps = KeepsBytes-oplocks v _ _ _ tied refl refl;
       ended = λ handle before after. Cancelled number turn refl is (ends-given_up v turn handle before after);
+      begins = λ handle before after. absurd (false≢true (sym before ∙ counts-falls v (with_oplock_given_up v turn) handle (Falls-given_up v turn tied) after));
+      alone = λ alone. alone-falls v (with_oplock_given_up v turn) (Falls-given_up v turn tied) alone;
     })
     (Coheres-refused v client _ _ tied)

@@ -28,6 +28,7 @@ use Rattle.fsa_model.proofs.CoherenceEdits.{IsTied-stream_changed}
 use Rattle.fsa_model.proofs.CoherenceSteps.{Changes, KeepsBytes-changes}
 use Rattle.fsa_model.proofs.CoherenceTied.{IsUntouched-same, IsTied-alike, IsUntouched}
 use Rattle.fsa_model.proofs.CoherenceEnds.{Gone, HasTold, Awaits, EndsByCause}
+use Rattle.fsa_model.proofs.CoherenceFalls.{Falls-next, Falls-opens}
 
 -- ---- a new length
 
@@ -70,6 +71,7 @@ Behaves-set_end_grown v acting key link stream end tied goes =
       tied = it.tied broken.tied;
       coherent = KeepsBytes-changes v (with_end_set u link stream end) acting key stream tied goes it.changes;
       ends = ends-as v u (with_end_set u link stream end) acting key it.changes.oplocks (λ handle none. ap (λ (rows : List (ℕ × Handle)). row_of rows handle) it.handles ∙ none) broken.ends;
+      falls = Falls-next v u (with_end_set u link stream end) broken.falls (Falls-opens u (with_end_set u link stream end) it.handles it.changes.oplocks);
     })
 
 Behaves-set_end_to : (v : Volume) (id key link stream end : ℕ) → IsTied v → Behaves v (Some id) key (set_end_to v id key link stream end)
@@ -133,8 +135,9 @@ Behaves-lock_free v acting key handle stream at count exclusive wait tied goes =
       tied = IsTied-alike u _ (IsUntouched-with_lock u handle at count exclusive) broken.tied;
       coherent = record { reads_stay = broken.coherent.reads_stay; writers_are_done = broken.coherent.writers_are_done };
       ends = ends-as v u (with_lock u handle at count exclusive) acting key refl (λ other none. none) broken.ends;
+      falls = Falls-next v u (with_lock u handle at count exclusive) broken.falls (Falls-opens u (with_lock u handle at count exclusive) refl refl);
     })
-    (λ taken. Behaves-if wait _ _ (λ waits. record { tied = broken.tied; coherent = broken.coherent; ends = ends-any v u acting key _ broken.ends })
+    (λ taken. Behaves-if wait _ _ (λ waits. record { tied = broken.tied; coherent = broken.coherent; ends = ends-any v u acting key _ broken.ends; falls = broken.falls })
     (λ refuses. Behaves-broken v acting key u _ broken))
 
 Behaves-lock_by : (v : Volume) (id : ℕ) (handle : Handle) (at count : ℕ) (exclusive wait : Bool) → IsTied v → Behaves v (Some id) handle.key (lock_by v id handle at count exclusive wait)

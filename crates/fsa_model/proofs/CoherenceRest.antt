@@ -1,7 +1,7 @@
 -- Ways that the verbs to come take: breaks that leave reads counted on, links that come, move and go,
 -- and an enumeration that goes on.
-use Rattle.std.proofs.Common.{◌≡◌, ℕ, Bool, true, false, ◌==◌, List, [], get_or, refl, ap, ◌∙◌, Option, Some, inl, inr}
-use Rattle.std.specs.Prelude.{if◌then◌else◌}
+use Rattle.std.proofs.Common.{◌≡◌, ℕ, Bool, true, false, ◌==◌, List, [], get_or, refl, ap, sym, ◌∙◌, Option, Some, None, inl, inr}
+use Rattle.std.specs.Prelude.{option_map, if◌then◌else◌}
 use Rattle.std.specs.Option.{option_map_or}
 use Rattle.std.proofs.lemmas.Bool.{cases_Bool, false≢true}
 use Rattle.std.proofs.lemmas.List.Elements.{All-map}
@@ -22,12 +22,15 @@ use Rattle.fsa_model.proofs.CoherenceEnds.{counts-kept}
 use Rattle.fsa_model.proofs.CoherenceTied.{IsTied-breaks, IsUntouched}
 use Rattle.fsa_model.specs.Sound.{has_its_key}
 use Rattle.fsa_model.proofs.CoherenceSteps.{KeepsBytes}
+use Rattle.fsa_model.proofs.CoherenceFalls.{Falls, Falls-breaks, Falls-opens, FallsTo-same}
+use Rattle.fsa_model.proofs.CoherenceLaws.{held_in}
 
 -- ---- names
 
 -- the breaks of a clash, of a change of names and of a read
 pub Left-breaks : (v : Volume) (on : HandleSet) (kind : Class) (acting : Option ℕ) (key : ℕ) → (kind ≡ Change → ⊥) → IsTied v → Left v (with_breaks v on kind acting key)
 Left-breaks v on kind acting key no_change tied = record {
+  falls = Falls-breaks v on kind acting key tied;
   tied = IsTied-breaks v on kind acting key tied;
   leaves = record {
     handles = λ handle row living. rw (handles-breaks v on kind acting key) at living;
@@ -39,6 +42,7 @@ Left-breaks v on kind acting key no_change tied = record {
 -- a link more, of another file than the root
 pub Left-with_link : (v : Volume) (parent : ℕ) (name : List ℕ) (file : ℕ) → (file == 1) ≡ false → IsTied v → Left v (with_link v parent name file)
 Left-with_link v parent name file not_root tied = record {
+  falls = Falls-opens v (with_link v parent name file) refl refl;
   tied = IsTied-with_link v parent name file not_root tied;
   leaves = record { handles = λ handle row living. living; bytes = λ handle row stream living has. refl };
   counts = λ handle counts. inl counts;
@@ -47,6 +51,7 @@ Left-with_link v parent name file not_root tied = record {
 -- a link that moves, and one that is marked or not
 pub Left-link_moved : (v : Volume) (link parent : ℕ) (name : List ℕ) → IsTied v → Left v (with_link_moved v link parent name)
 Left-link_moved v link parent name tied = record {
+  falls = Falls-opens v (with_link_moved v link parent name) refl refl;
   tied = IsTied-link_changed v (λ row. record row { parent = parent; name = name }) link (λ row. refl) tied;
   leaves = record { handles = λ handle row living. living; bytes = λ handle row stream living has. refl };
   counts = λ handle counts. inl counts;
@@ -54,6 +59,7 @@ Left-link_moved v link parent name tied = record {
 
 pub Left-link_set : (v : Volume) (link : ℕ) (deleted : Bool) → IsTied v → Left v (with_link_marked v link deleted)
 Left-link_set v link deleted tied = record {
+  falls = Falls-opens v (with_link_marked v link deleted) refl refl;
   tied = IsTied-link_changed v (λ row. record row { deleted = deleted }) link (λ row. refl) tied;
   leaves = record { handles = λ handle row living. living; bytes = λ handle row stream living has. refl };
   counts = λ handle counts. inl counts;
@@ -111,3 +117,22 @@ KeepsBytes-with_cursor v acting key handle expression cursor = record {
           | inl none ↦ rw none refl
           | inr some ↦ rw some.1 (ap (λ stream. option_map_or (bytes_of v) stream []) (row_moved-same (λ row. row.stream) handle expression cursor of some.0 (λ row. refl)))
         ]
+
+pub Falls-with_cursor : (v : Volume) (handle : ℕ) (expression : List ℕ) (cursor : Cursor) → Falls v (with_cursor v handle expression cursor)
+Falls-with_cursor v at expression cursor = record {
+  held = λ handle. FallsTo-same (held_in v.oplocks handle);
+  rows = λ handle row living reads. elim (option_cases (row_of v.handles handle)) [
+    | inl none ↦ (let impossible : None ≡ Some row = rw none at (sym (moved handle) ∙ living) in cc)
+    | inr some ↦ (let same : Some (row_moved at expression cursor handle some.0) ≡ Some row = rw some.1 at (sym (moved handle) ∙ living) in
+        let is : row_moved at expression cursor handle some.0 ≡ row = cc in
+        record {
+          before = some.0;
+          living = some.1;
+          stream = sym (row_moved-same (λ (r : Handle). r.stream) at expression cursor handle some.0 (λ r. refl)) ∙ ap (λ (r : Handle). r.stream) is;
+          key = sym (row_moved-same (λ (r : Handle). r.key) at expression cursor handle some.0 (λ r. refl)) ∙ ap (λ (r : Handle). r.key) is;
+        })
+  ];
+}
+  where
+    moved : (handle : ℕ) → row_of (with_cursor v at expression cursor).handles handle ≡ option_map (row_moved at expression cursor handle) (row_of v.handles handle)
+    moved handle = row_of-changed (λ (row : Handle). record row { enumeration = Some (expression, cursor) }) v.handles at handle

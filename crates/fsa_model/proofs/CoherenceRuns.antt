@@ -14,7 +14,7 @@ use Rattle.fsa_types.specs.declared.request.What.TheVariants.{Ask}
 use Rattle.fsa_types.specs.declared.status.Status.{Status}
 use Rattle.fsa_types.specs.declared.status.Status.TheVariants.{Stalled}
 use Rattle.fsa_model.specs.Close.{with_calls_ended}
-use Rattle.fsa_model.specs.Coherence.{CachingIsCoherent, CountsAlong, IsAlike, IsCoherentTry, IsTied, LeadTo, Stretch, bytes_under, is_by_own_key}
+use Rattle.fsa_model.specs.Coherence.{CachingIsCoherent, CountsAlong, IsAlike, IsCoherentTry, IsTied, LeadTo, Stretch, bytes_under, is_by_own_key, WritersAlone}
 use Rattle.fsa_model.specs.Edits.{with_end}
 use Rattle.fsa_model.specs.Engine.{own_tried}
 use Rattle.fsa_model.specs.History.{HistoryEntry, Run, begun, run, steps, turn_on, with_turn}
@@ -30,10 +30,11 @@ use Rattle.fsa_model.specs.Waiting.{all_wait, is_held, next_ready, waits_in_orde
 use Rattle.fsa_model.specs.Watching.{due_size}
 use Rattle.fsa_model.proofs.CoherenceData.{IsUntouched-next}
 use Rattle.fsa_model.proofs.CoherenceTied.{IsUntouched, IsUntouched-same, IsUntouched-with_end, IsTied-alike}
-use Rattle.fsa_model.proofs.CoherenceTries.{IsCoherent-try, IsTied-fresh}
+use Rattle.fsa_model.proofs.CoherenceTries.{IsCoherent-try, IsTied-fresh, WritersAlone-fresh}
 use Rattle.fsa_model.proofs.EngineLaws.{turn-turned}
 use Rattle.fsa_model.proofs.RowLaws.{option_cases}
 use Rattle.fsa_model.proofs.SettleLaws.{some_equal}
+use Rattle.fsa_model.proofs.CoherenceFalls.{Falls-untouched, alone-falls}
 
 -- ---- stretches, one after another
 
@@ -60,32 +61,40 @@ Stretch-next (t ∷ more) second u v w one two = (one.0, Stretch-next more secon
 
 -- ---- tries that lead from one volume to another
 
--- the facts are kept, and each of them is coherent
+-- what every try keeps
+record Holds (v : Volume) : Type 0 where
+  tied : IsTied v
+  alone : WritersAlone v
+
+-- it is kept, and each of them is coherent
 record Goes (tries : List Tried) (v w : Volume) : Type 0 where
-  tied : IsTied v → IsTied w
-  all : IsTied v → All IsCoherentTry tries
+  keeps : Holds v → Holds w
+  all : Holds v → All IsCoherentTry tries
   stretch : Stretch tries v w
 
+Holds-untouched : (v w : Volume) → IsUntouched v w → Holds v → Holds w
+Holds-untouched v w untouched holds = record { tied = IsTied-alike v w untouched holds.tied; alone = alone-falls v w (Falls-untouched v w untouched) holds.alone }
+
 Goes-none : (v w : Volume) → IsUntouched v w → Goes [] v w
-Goes-none v w untouched = record { tied = λ tied. IsTied-alike v w untouched tied; all = λ tied. All-nil IsCoherentTry; stretch = alike v w untouched }
+Goes-none v w untouched = record { keeps = Holds-untouched v w untouched; all = λ holds. All-nil IsCoherentTry; stretch = alike v w untouched }
 
 Goes-try : (v : Volume) (call : Call) (turn : ℕ) → Goes (record { before = v; call = call; turn = turn } ∷ []) v (volume_after (try v call turn))
 Goes-try v call turn = record {
-  tied = λ tied. (IsCoherent-try v call turn tied).tied;
-  all = λ tied. All-cons IsCoherentTry (record { before = v; call = call; turn = turn }) [] (record { tied = tied; coherent = IsCoherent-try v call turn tied }) (All-nil IsCoherentTry);
+  keeps = λ holds. record { tied = (IsCoherent-try v call turn holds.tied).tied; alone = (IsCoherent-try v call turn holds.tied).alone holds.alone };
+  all = λ holds. All-cons IsCoherentTry (record { before = v; call = call; turn = turn }) [] (record { tied = holds.tied; alone = holds.alone; coherent = IsCoherent-try v call turn holds.tied }) (All-nil IsCoherentTry);
   stretch = (alike-same v, alike-same (volume_after (try v call turn)));
 }
 
 Goes-next : (first second : List Tried) (u v w : Volume) → Goes first u v → Goes second v w → Goes (first ++ second) u w
 Goes-next first second u v w one two = record {
-  tied = λ tied. two.tied (one.tied tied);
-  all = λ tied. All-append IsCoherentTry first second (one.all tied) (two.all (one.tied tied));
+  keeps = λ holds. two.keeps (one.keeps holds);
+  all = λ holds. All-append IsCoherentTry first second (one.all holds) (two.all (one.keeps holds));
   stretch = Stretch-next first second u v w one.stretch two.stretch;
 }
 
 Goes-then : (tries : List Tried) (u v w : Volume) → Goes tries u v → IsUntouched v w → Goes tries u w
 Goes-then tries u v w one untouched = record {
-  tied = λ tied. IsTied-alike v w untouched (one.tied tied);
+  keeps = λ holds. Holds-untouched v w untouched (one.keeps holds);
   all = one.all;
   stretch = Stretch-then tries u v w one.stretch (alike v w untouched);
 }
@@ -178,13 +187,13 @@ Goes-from (entry ∷ more) r after is = elim (option_cases (turn_on r entry)) [
 ]
 
 -- all tries of these turns are coherent, also where there is no such turn
-all-from : (history : List HistoryEntry) (r : Run) → IsTied r.volume → All IsCoherentTry (tries_from r history)
-all-from [] r tied = All-nil IsCoherentTry
-all-from (entry ∷ more) r tied =
+all-from : (history : List HistoryEntry) (r : Run) → Holds r.volume → All IsCoherentTry (tries_from r history)
+all-from [] r holds = All-nil IsCoherentTry
+all-from (entry ∷ more) r holds =
     let here : Goes (tries_of_turn r.volume entry.call entry.starved) r.volume (settlement r.volume entry.call entry.starved).volume = Goes-turn r.volume entry.call entry.starved in
-    All-append IsCoherentTry (tries_of_turn r.volume entry.call entry.starved) _ (here.all tied) (elim (option_cases (turn_on r entry)) [
+    All-append IsCoherentTry (tries_of_turn r.volume entry.call entry.starved) _ (here.all holds) (elim (option_cases (turn_on r entry)) [
       | inl none ↦ rw none (All-nil IsCoherentTry)
-      | inr some ↦ rw some.1 (all-from more some.0 (subst (λ (w : Volume). IsTied w) (sym (turn_on-settled r entry some.0 some.1)) (here.tied tied)))
+      | inr some ↦ rw some.1 (all-from more some.0 (subst (λ (w : Volume). Holds w) (sym (turn_on-settled r entry some.0 some.1)) (here.keeps holds)))
     ])
 
 -- ---- a stretch in which a handle counts
@@ -220,7 +229,7 @@ leads handle (t ∷ more) v w all stretch counts =
 
 pub run-coherent : (setup : Setup) (history : List HistoryEntry) → CachingIsCoherent setup history
 run-coherent setup history =
-    let all : All IsCoherentTry (tries_of setup history) = all-from history (begun setup) (IsTied-fresh setup) in
+    let all : All IsCoherentTry (tries_of setup history) = all-from history (begun setup) (record { tied = IsTied-fresh setup; alone = WritersAlone-fresh setup }) in
     record {
       tries = all;
       between = λ r is. Goes.stretch (Goes-from history (begun setup) r is);

@@ -1,6 +1,6 @@
 -- Each try keeps what coherence rests on and is coherent.
-use Rattle.std.proofs.Common.{◌≡◌, ℕ, Bool, true, false, List, refl, sym, subst, arith, Option, Some, None, inl, inr}
-use Rattle.std.proofs.lemmas.Bool.{cases_Bool}
+use Rattle.std.proofs.Common.{◌≡◌, ℕ, Bool, true, false, List, refl, sym, subst, ◌∙◌, arith, Option, Some, None, inl, inr}
+use Rattle.std.proofs.lemmas.Bool.{cases_Bool, false≢true}
 use Rattle.std.proofs.lemmas.List.Elements.{All-nil}
 use Rattle.fsa_types.specs.OplockLists.{told_by}
 use Rattle.fsa_types.specs.Oplocks.{effect}
@@ -14,7 +14,7 @@ use Rattle.fsa_types.specs.declared.request.What.{What}
 use Rattle.fsa_types.specs.declared.request.What.TheVariants.{Ask, Tick, WaitFor, Leave}
 use Rattle.fsa_types.specs.declared.status.Status.TheVariants.{InvalidHandle}
 use Rattle.fsa_model.specs.Breaks.{is_told}
-use Rattle.fsa_model.specs.Coherence.{Closed, Told, Awaited, WhyEnded, ReadsWhereNoneWrites, ClashesWhereNoneKeeps, IsCoherent, IsTied, acting_handle, acting_key, gives_bytes, is_clash, Where, NoOtherWrites, NoOtherKeeps, set_of_path}
+use Rattle.fsa_model.specs.Coherence.{Closed, Told, Awaited, WhyEnded, ReadsWhereNoneWrites, ClashesWhereNoneKeeps, IsCoherent, IsTied, acting_handle, acting_key, gives_bytes, is_clash, Where, NoOtherWrites, NoOtherKeeps, set_of_path, WritersAlone}
 use Rattle.fsa_model.specs.Lookups.{has_left}
 use Rattle.fsa_model.specs.Outcome.{Outcome, refused}
 use Rattle.fsa_model.specs.Setup.{Setup}
@@ -32,6 +32,8 @@ use Rattle.fsa_model.proofs.CoherenceOplock.{Coheres, Coheres-refused, Coheres-o
 use Rattle.fsa_model.proofs.CoherenceRanges.{Behaves-set_end, Behaves-lock, Behaves-unlock, Behaves-flush}
 use Rattle.fsa_model.proofs.CoherenceTied.{IsUntouched-same}
 use Rattle.fsa_model.specs.Try.{try_request, try_what, try}
+use Rattle.fsa_model.proofs.CoherenceFalls.{alone-falls, counts-falls}
+use Rattle.fsa_model.specs.Turn.{volume_after}
 
 -- ---- why counting ends
 
@@ -52,7 +54,7 @@ why-ended v client what next blockers handle (Awaits oplock broken awaits) = Awa
 
 -- a try that behaves is coherent: what ends by it is closed or broken
 Coheres-behaves : (v : Volume) (client : ℕ) (what : What) (outcome : Outcome) → Behaves v (acting_handle v client what) (acting_key v client what) outcome → Coheres v client what outcome
-Coheres-behaves v client what outcome it = record { tied = it.tied; keeps = it.coherent; ended = λ handle before after. why-ended v client what _ _ handle (it.ends handle before after) }
+Coheres-behaves v client what outcome it = record { tied = it.tied; keeps = it.coherent; ended = λ handle before after. why-ended v client what _ _ handle (it.ends handle before after); begins = λ handle before after. absurd (false≢true (sym before ∙ counts-falls v (volume_after outcome) handle it.falls after)); alone = alone-falls v (volume_after outcome) it.falls }
 
 -- ---- each request
 
@@ -122,6 +124,8 @@ IsCoherent-try v call turn tied = elim (cases_Bool (has_left v call.client)) [
       tied = it.tied;
       bytes = it.keeps.reads_stay;
       ends = it.ended;
+      begins = it.begins;
+      alone = it.alone;
       changes = it.keeps.writers_are_done;
       reads = reads;
       clashes = clashes;
@@ -137,3 +141,6 @@ IsTied-fresh setup = record {
   streams_numbered = record { rising = λ j k d below within. absurd (omega arith); given = All-nil _ };
   root = record { is_there = refl; has_no_link = All-nil _; given = omega arith };
 }
+
+pub WritersAlone-fresh : (setup : Setup) → WritersAlone (fresh setup)
+WritersAlone-fresh setup handle other apart writes = cc

@@ -3,12 +3,14 @@ pub mod BreakLaws
 pub mod BytesExamples
 pub mod CloseExamples
 pub mod CoherenceAnswers
+pub mod CoherenceBegins
 pub mod CoherenceBreaks
 pub mod CoherenceClose
 pub mod CoherenceData
 pub mod CoherenceEdits
 pub mod CoherenceEnds
 pub mod CoherenceExamples
+pub mod CoherenceFalls
 pub mod CoherenceGone
 pub mod CoherenceGrant
 pub mod CoherenceInformation

@@ -2,7 +2,7 @@
 -- 'Algorithm to Check for an Oplock Break'. First when a handle counts on the reads that it has cached, and by
 -- whom a call acts; then the facts that every try keeps, and the four points that hold of every try; then all
 -- tries of a history, and any stretch of them.
-use Rattle.std.specs.Prelude.{◌≡◌, ◌≢◌, ◌≤◌, ℕ, Bool, true, false, not, ◌&&◌, ◌==◌, ◌++◌, List, [], ◌∷◌, length, filter, Option, Some, None, option_map, option_and_then, unwrap_or, All, AllPairs, IsTrue, if◌then◌else◌}
+use Rattle.std.specs.Prelude.{◌≡◌, ◌≢◌, ◌≤◌, ℕ, Bool, true, false, not, ◌&&◌, ◌||◌, ◌==◌, ◌++◌, List, [], ◌∷◌, length, filter, Option, Some, None, option_map, option_and_then, unwrap_or, All, AllPairs, IsTrue, if◌then◌else◌}
 use Rattle.std.specs.List.{list_any}
 use Rattle.std.specs.Option.{option_map_or}
 use Rattle.fsa_types.specs.OplockLists.{effect_on, number_of_break, told_by}
@@ -28,9 +28,9 @@ use Rattle.fsa_types.specs.declared.status.Status.TheVariants.{SharingViolation}
 use Rattle.fsa_model.specs.Breaks.{is_chosen, with_breaks}
 use Rattle.fsa_model.specs.Close.{handle_named}
 use Rattle.fsa_model.specs.Edits.{is_call}
-use Rattle.fsa_model.specs.Grant.{oplock_of, call_of}
+use Rattle.fsa_model.specs.Grant.{oplock_of, call_of, target_of}
 use Rattle.fsa_model.specs.History.{HistoryEntry, Run, begun, run}
-use Rattle.fsa_model.specs.Lookups.{bytes_of, child_of, handle_of, is_directory, is_on, number_of, stream_of}
+use Rattle.fsa_model.specs.Lookups.{bytes_of, child_of, handle_of, is_directory, is_on, is_open_on, number_of, stream_of}
 use Rattle.fsa_model.specs.Open.{stream_name}
 use Rattle.fsa_model.specs.Outcome.{Outcome, Done, Hold}
 use Rattle.fsa_model.specs.Setup.{Setup}
@@ -94,6 +94,20 @@ abbrev pub NoOtherHas : (Level → Bool) → Volume → HandleSet → Option ℕ
 NoOtherHas has v on acting key =
     (handle : ℕ) (row : Handle) → row_of v.handles handle ≡ Some row → is_on v on row ≡ true → is_own v handle acting key ≡ false
     → has (level_of v handle) ≡ false
+
+-- the handle's oplock, or what a break in progress leaves of it, has this
+abbrev pub has_in : (Level → Bool) → Volume → ℕ → Bool
+has_in has v handle = option_map_or (λ oplock. has oplock.level || option_map_or has oplock.target false) (oplock_of v handle) false
+
+-- two handles of one stream, of different keys
+abbrev pub is_on_one : Handle → Handle → Bool
+is_on_one row other = option_map_or (λ stream. is_open_on stream other) row.stream false
+
+abbrev pub are_apart : Volume → ℕ → ℕ → Bool
+are_apart v handle other =
+    option_map_or
+    (λ row. option_map_or (λ other_row. is_on_one row other_row && not (is_same_key handle row.key (Some other) other_row.key)) (row_of v.handles other) false)
+    (row_of v.handles handle) false
 
 -- ---- the facts of a volume that every try keeps; each is part of soundness
 
@@ -174,6 +188,16 @@ CountsUntilCause v client what outcome =
     (handle : ℕ) → counts_on_reads v handle ≡ true → counts_on_reads (volume_after outcome) handle ≡ false
     → WhyEnded v client what (volume_after outcome) (blockers_of outcome) handle
 
+-- it begins only where the handle is granted an oplock, or acknowledges a break that left it reads
+pub data WhyBegun (v : Volume) (client : ℕ) (what : What) (handle : ℕ) : Type 0 where
+  Granted : (number : ℕ) (level : Level) → what ≡ Ask (Oplock number level) → handle_of v client number ≡ Some handle → WhyBegun v client what handle
+  Kept : (number : ℕ) (level target : Level) → what ≡ Ask (Ack number level) → handle_of v client number ≡ Some handle → target_of v handle ≡ Some target
+      → has_read target ≡ true → WhyBegun v client what handle
+
+abbrev pub CountsFromCause : Volume → ℕ → What → Volume → Type 0
+CountsFromCause v client what next =
+    (handle : ℕ) → counts_on_reads v handle ≡ false → counts_on_reads next handle ≡ true → WhyBegun v client what handle
+
 -- ---- third: bytes are changed, or read, only where nobody of another key may have written
 
 -- the bytes of a stream change only where no handle of another key on it is left with write caching
@@ -203,6 +227,11 @@ abbrev pub ReadsWhereNoneWrites : Volume → ℕ → What → Outcome → Type 0
 ReadsWhereNoneWrites v client what outcome =
     (handle at count : ℕ) → what ≡ Ask (Read handle at count)
     → Where (λ reply. gives_bytes reply.body) (NoOtherWrites v (acting_handle v client what) (acting_key v client what)) outcome
+
+-- a handle that caches writes has no handle of another key beside it that caches anything: so nobody of another key
+-- writes in his cache while a handle counts
+abbrev pub WritersAlone : Volume → Type 0
+WritersAlone v = (handle other : ℕ) → are_apart v handle other ≡ true → has_in has_write v handle ≡ true → has_in has_read v other ≡ false
 
 -- ---- fourth: an open ends SHARING_VIOLATION only where nobody of another key caches the handle
 
@@ -244,8 +273,10 @@ pub record IsCoherent (v : Volume) (client : ℕ) (what : What) (outcome : Outco
   pub tied : IsTied (volume_after outcome)
   pub bytes : BytesStay v (acting_handle v client what) (acting_key v client what) (volume_after outcome)
   pub ends : CountsUntilCause v client what outcome
+  pub begins : CountsFromCause v client what (volume_after outcome)
   pub changes : ChangesWhereNoneWrites v (acting_handle v client what) (acting_key v client what) (volume_after outcome)
   pub reads : ReadsWhereNoneWrites v client what outcome
+  pub alone : WritersAlone v → WritersAlone (volume_after outcome)
   pub clashes : ClashesWhereNoneKeeps v what outcome
 
 -- ---- all tries of a history
@@ -253,6 +284,7 @@ pub record IsCoherent (v : Volume) (client : ℕ) (what : What) (outcome : Outco
 -- the facts hold before it, and it is coherent
 pub record IsCoherentTry (t : Tried) : Type 0 where
   pub tied : IsTied t.before
+  pub alone : WritersAlone t.before
   pub coherent : IsCoherent t.before t.call.client t.call.what (try t.before t.call t.turn)
 
 -- handles, oplocks, and bytes are as they were
