@@ -1,11 +1,10 @@
 -- What a grant, an answer and a cancellation leave: a handle begins to count only by its own grant or answer, and
 -- nobody is granted or keeps anything beside a handle of another key that caches writes, or writes beside one that
 -- caches anything.
-use Rattle.std.proofs.Common.{◌≡◌, ℕ, suc, Bool, true, false, ◌==◌, ◌&&◌, ◌||◌, not, List, [], ◌∷◌, ◌++◌, refl, ap, sym, ◌∙◌, arith, Option, Some, None, inl, inr, eq-eqb}
+use Rattle.std.proofs.Common.{◌≡◌, ℕ, suc, Bool, true, false, ◌==◌, ◌&&◌, ◌||◌, not, List, [], ◌∷◌, ◌++◌, refl, ap, sym, ◌∙◌, arith, Some, None, inl, inr, eq-eqb}
 use Rattle.std.specs.List.{list_any}
-use Rattle.std.specs.Option.{option_map_or}
 use Rattle.std.specs.Prelude.{filter, fold, is_some, map, option_map, AllPairs, if◌then◌else◌}
-use Rattle.std.proofs.lemmas.Bool.{cases_Bool, eqb-true, false≢true, ne_eqb, and_from, not_from_false}
+use Rattle.std.proofs.lemmas.Bool.{cases_Bool, eqb-true, false≢true, ne_eqb}
 use Rattle.std.proofs.lemmas.List.Folds.{list_any_none}
 use Rattle.fsa_types.specs.OplockGrants.{as_answered, is_of_key, some_breaking, some_writer}
 use Rattle.fsa_types.specs.Oplocks.{has_read, has_write, in_both, is_same_key}
@@ -19,7 +18,7 @@ use Rattle.fsa_model.specs.Lookups.{is_open_on}
 use Rattle.fsa_model.specs.Volume.{Handle, Oplock, Volume}
 use Rattle.fsa_model.specs.Waiting.{with_oplock_given_up, is_granted_under}
 use Rattle.fsa_model.proofs.CoherenceBreaks.{counts-held, counts_held, find-passes}
-use Rattle.fsa_model.proofs.CoherenceFalls.{Apart, Apart-from, Falls, FallsTo, FallsTo-none, FallsTo-same, WasOpen, alone-falls, alone-from, counts-falls, has_held, has_in-held, writes-both}
+use Rattle.fsa_model.proofs.CoherenceFalls.{Apart, Apart-from, Falls, FallsTo, FallsTo-none, FallsTo-same, alone-falls, alone-from, counts-falls, has_held, has_in-held, writes-both}
 use Rattle.fsa_model.proofs.CoherenceGrant.{Keeps, Keeps-all, held-all, held-granted, own-key}
 use Rattle.fsa_model.proofs.CoherenceLaws.{held_in}
 use Rattle.fsa_model.proofs.RowLaws.{any-filter_none, eqb-swap, find-any, option_cases}

@@ -1,6 +1,7 @@
 -- Coherent caching, worked by hand from the rules and shown by computation over whole runs: what each point speaks
 -- of does occur.
 use Rattle.std.specs.Prelude.{◌≡◌, ℕ, Bool, true, false, List, [], ◌∷◌, map, Option, Some, None, codes, refl}
+use Rattle.fsa_types.specs.Oplocks.{has_read, has_write}
 use Rattle.fsa_types.specs.declared.oplock.HandleSet.{HandleSet}
 use Rattle.fsa_types.specs.declared.oplock.HandleSet.TheVariants as set
 use Rattle.fsa_types.specs.declared.request.Call.{Call}
@@ -8,7 +9,7 @@ use Rattle.fsa_types.specs.declared.request.Disposition.TheVariants.{CreateNew, 
 use Rattle.fsa_types.specs.declared.request.Level.{Level}
 use Rattle.fsa_types.specs.declared.request.Level.TheVariants.{Nil, R, RH, RWH}
 use Rattle.fsa_types.specs.declared.request.Request.TheVariants.{Create, Read, Write, Oplock, Ack}
-use Rattle.fsa_model.specs.Coherence.{awaits_break_of, blockers_of, bytes_under, counts_on_reads, gives_bytes, is_by_own_key, is_clash, level_of, set_of_path}
+use Rattle.fsa_model.specs.Coherence.{are_apart, awaits_break_of, blockers_of, bytes_under, counts_on_reads, gives_bytes, has_in, is_by_own_key, is_clash, level_of, set_of_path}
 use Rattle.fsa_model.specs.Grant.{oplock_on, oplock_by, oplock_at, try_oplock, ack_with, ack_at, try_ack}
 use Rattle.fsa_model.specs.Open.{try_create, create_at, create_walked, create_named, create_by_link, create_found, create_there, create_in_file, create_stream, create_on_stream, open_stream, open_granted, open_existing, clashed, create_missing, make_file}
 use Rattle.fsa_model.specs.Outcome.{Outcome, Done}
@@ -137,3 +138,26 @@ pub clashes_once_no_handle_is_cached :
     ∷ []
 unfolding try_create create_at create_walked create_named create_by_link create_found create_there create_in_file create_stream create_on_stream open_stream open_granted open_existing clashed create_missing make_file try_oplock oplock_at oplock_by oplock_on try_ack ack_at ack_with
 clashes_once_no_handle_is_cached = refl
+
+-- ---- nobody caches beside a handle of another key that caches writes
+
+-- `b` opens for attributes alone, which breaks nothing, and is granted no oplock
+abbrev beside_a_writer : List Call
+beside_a_writer =
+    asks 0 1 (Create (codes "\\f") 0x3 0x7 CreateNew 0x0 0x0 5)
+    ∷ asks 0 2 (Oplock 1 RWH)
+    ∷ asks 1 1 (Create (codes "\\f") 0x80 0x7 OpenExisting 0x0 0x0 0)
+    ∷ asks 1 2 (Oplock 1 R)
+    ∷ []
+
+-- whether the two handles are of one stream and of different keys, whether the first caches writes, and whether the
+-- second caches anything
+pub nobody_caches_beside_a_writer :
+    map {B = Bool × Bool × Bool} (λ t. (are_apart (left_by t) 1 2, has_in has_write (left_by t) 1, has_in has_read (left_by t) 2)) (tries beside_a_writer)
+    ≡ (false, false, false)
+    ∷ (false, true, false)
+    ∷ (true, true, false)
+    ∷ (true, true, false)
+    ∷ []
+unfolding try_create create_at create_walked create_named create_by_link create_found create_there create_in_file create_stream create_on_stream open_stream open_granted open_existing clashed create_missing make_file try_oplock oplock_at oplock_by oplock_on
+nobody_caches_beside_a_writer = refl

@@ -17,7 +17,7 @@ use Rattle.fsa_model.specs.Close.{with_calls_ended}
 use Rattle.fsa_model.specs.Coherence.{CachingIsCoherent, CountsAlong, IsAlike, IsCoherentTry, IsTied, LeadTo, Stretch, bytes_under, is_by_own_key, WritersAlone}
 use Rattle.fsa_model.specs.Edits.{with_end}
 use Rattle.fsa_model.specs.Engine.{own_tried}
-use Rattle.fsa_model.specs.History.{HistoryEntry, Run, begun, run, steps, turn_on, with_turn}
+use Rattle.fsa_model.specs.History.{HistoryEntry, Run, begun, steps, turn_on, with_turn}
 use Rattle.fsa_model.specs.Lookups.{bytes_of, handle_of}
 use Rattle.fsa_model.specs.Outcome.{Outcome, Done, Stay, Hold}
 use Rattle.fsa_model.specs.Settle.{Settling, come_over, repeated, reported, settle_step, starves, taken_up, taken_up_all, with_tried}

@@ -106,11 +106,12 @@ pub fn a_generated_script_is_spelled()
     ensures long { (seed : ℕ) → length (generated seed).lines ≡ 4096 }
 {}
 
-/// A try of any call from a volume in which the facts hold that caching rests on keeps these facts and is coherent:
-/// while a handle counts on the reads that it has cached its bytes change only by its own key; it stops to count
-/// only for one of six causes; bytes are changed, or given to a read, only where no handle of another key is left
-/// with write caching; and an open ends SHARING_VIOLATION only where none of another key is left with handle
-/// caching. Each sound volume has these facts.
+/// A try of any call from a volume in which the facts hold that caching rests on keeps these facts and is coherent.
+/// While a handle counts on the reads that it has cached its bytes change only by its own key. It begins to count
+/// only by a grant or by its answer to a break, and stops only for one of six causes. Bytes are changed, or given to
+/// a read, only where no handle of another key is left with write caching; and a try leaves none with that beside a
+/// handle of another key that caches anything, where there was none. An open ends SHARING_VIOLATION only where no
+/// handle of another key is left with handle caching. Each sound volume has these facts.
 pub fn each_try_is_coherent()
     ensures sound { (v : Volume) → IsSound v → IsTied v }
     ensures coherent { (v : Volume) (call : Call) (turn : ℕ) → IsTied v → IsCoherent v call.client call.what (try v call turn) }
