@@ -1,30 +1,30 @@
 -- A read gives bytes only where no handle of another key may write in its cache; an open clashes only
 -- where none of another key may keep its handle.
 use Rattle.std.proofs.Common.{◌≡◌, ℕ, ◌+◌, Bool, true, false, ◌==◌, ◌&&◌, ◌||◌, not, List, [], ◌∷◌, length, refl, sym, ◌∙◌, Option, Some, None, inl, inr}
-use Rattle.std.specs.Prelude.{⊤, nat_lt, nat_le, option_map, option_and_then, is_some, if◌then◌else◌}
 use Rattle.std.specs.Int.RustNames.{bit_or}
 use Rattle.std.specs.Option.{option_map_or}
+use Rattle.std.specs.Prelude.{⊤, nat_lt, nat_le, option_map, option_and_then, is_some, if◌then◌else◌}
 use Rattle.std.proofs.lemmas.Bool.{cases_Bool, false≢true}
 use Rattle.fsa_types.specs.Access.{has_any}
-use Rattle.fsa_types.specs.Oplocks.{has_write, has_handle}
-use Rattle.fsa_types.specs.Paths.{path_fault, components, rest_of}
-use Rattle.fsa_types.specs.Rows.{row_of}
 use Rattle.fsa_types.specs.declared.oplock.Class.TheVariants.{Clash, Change, ReadOpen}
 use Rattle.fsa_types.specs.declared.oplock.HandleSet.{HandleSet}
 use Rattle.fsa_types.specs.declared.oplock.HandleSet.TheVariants as set
 use Rattle.fsa_types.specs.declared.reply.Reply.{Reply}
 use Rattle.fsa_types.specs.declared.status.Status.{Status}
+use Rattle.fsa_types.specs.Oplocks.{has_write, has_handle}
+use Rattle.fsa_types.specs.Paths.{path_fault, components, rest_of}
+use Rattle.fsa_types.specs.Rows.{row_of}
 use Rattle.fsa_model.specs.Coherence.{key_of, key_acting, NoOtherHas, IsTied, Where, gives_bytes, is_clash, NoOtherWrites, set_of_file, set_of_link, set_walked, set_of_path, NoOtherKeeps}
 use Rattle.fsa_model.specs.Locked.{read_is_locked}
 use Rattle.fsa_model.specs.Lookups.{bytes_of, handle_of, child_of, stream_of, is_directory, clashes_on, attributes_of, is_marked, largest_end}
 use Rattle.fsa_model.specs.Open.{open_waits, Asked, wants_directory, deletes_on_close, opens_point, overwrites, only_opens, only_makes, access_of, is_invalid, wants_no_right, lacks_delete, has_stream_part, stream_name, names_stream, grants, is_readonly, uncovers, stopped, make_directory, make_file, parent_right, create_missing, clashed, wants_more, completes_if_oplocked, open_existing, overwrite_existing, open_granted, open_directory, replacing_right, open_stream, create_on_stream, create_stream, create_in_file, is_other_kind, asks_for_file, create_there, create_found, create_by_link, create_named, create_walked, create_at, try_create}
-use Rattle.fsa_model.specs.Outcome.{Outcome, Done, refused}
+use Rattle.fsa_model.specs.Outcome.{Outcome, Done, refused, Hold, Stay}
 use Rattle.fsa_model.specs.Read.{read_bytes, read_unlocked, read_range, read_stream, read_by, read_at, try_read}
 use Rattle.fsa_model.specs.Volume.{Handle, Volume}
 use Rattle.fsa_model.specs.Waits.{waits_for}
 use Rattle.fsa_model.specs.Walk.{Walked, Reached, Barred, Diverted, point_of, through, by_link, into, then_walk, walk_from, walk, last_name}
-use Rattle.fsa_model.proofs.RowLaws.{option_cases}
 use Rattle.fsa_model.proofs.CoherenceBreaks.{no_other-breaks, takes_writing, takes_handles}
+use Rattle.fsa_model.proofs.RowLaws.{option_cases}
 
 record Answers (test : Reply → Bool) (Such : Volume → Type 0) (outcome : Outcome) : Type 0 where
   holds : Where test Such outcome
@@ -45,8 +45,8 @@ passes_not test Such v reply fails = record { holds = λ passes. absurd (false�
 
 Answers-weaker : (test : Reply → Bool) (One Other : Volume → Type 0) (outcome : Outcome) → ((v : Volume) → One v → Other v) → Answers test One outcome → Answers test Other outcome
 Answers-weaker test One Other (Done v reply) weaker answers = record { holds = λ passes. weaker v (answers.holds passes) }
-Answers-weaker test One Other (Rattle.fsa_model.specs.Outcome.Stay v interim) weaker answers = record { holds = tt }
-Answers-weaker test One Other (Rattle.fsa_model.specs.Outcome.Hold v blockers interim) weaker answers = record { holds = tt }
+Answers-weaker test One Other (Stay v interim) weaker answers = record { holds = tt }
+Answers-weaker test One Other (Hold v blockers interim) weaker answers = record { holds = tt }
 
 -- ---- a read
 

@@ -6,11 +6,11 @@ use Rattle.std.specs.List.{list_any}
 use Rattle.std.specs.Prelude.{filter, fold, is_some, map, option_map, AllPairs, if◌then◌else◌}
 use Rattle.std.proofs.lemmas.Bool.{cases_Bool, eqb-true, false≢true, ne_eqb}
 use Rattle.std.proofs.lemmas.List.Folds.{list_any_none}
+use Rattle.fsa_types.specs.declared.request.Level.{Level}
+use Rattle.fsa_types.specs.declared.request.Level.TheVariants.{Nil, R, RH, RW, RWH}
 use Rattle.fsa_types.specs.OplockGrants.{as_answered, is_of_key, some_breaking, some_writer}
 use Rattle.fsa_types.specs.Oplocks.{has_read, has_write, in_both, is_same_key}
 use Rattle.fsa_types.specs.Rows.{row_of}
-use Rattle.fsa_types.specs.declared.request.Level.{Level}
-use Rattle.fsa_types.specs.declared.request.Level.TheVariants.{Nil, R, RH, RW, RWH}
 use Rattle.fsa_model.specs.Coherence.{IsTied, WritersAlone, are_apart, counts_on_reads, has_in, is_on_one}
 use Rattle.fsa_model.specs.Edits.{without_oplock}
 use Rattle.fsa_model.specs.Grant.{is_not_granted, is_open_by_others, is_oplock_on, oplock_of, switched, target_of, with_all_switched, with_granted, with_level_kept, with_switched}

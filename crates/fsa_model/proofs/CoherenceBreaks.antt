@@ -1,28 +1,28 @@
 -- Where a request doesn't wait for the breaks that it began, no handle of another key has what the
 -- class takes away; and after a change no handle of another key counts on its reads.
 use Rattle.std.proofs.Common.{◌≡◌, ℕ, Bool, true, false, ◌==◌, ◌&&◌, ◌||◌, not, List, [], ◌∷◌, length, refl, ap, sym, ◌∙◌, arith, Option, Some, None, inl, inr}
-use Rattle.std.specs.Prelude.{filter, find, map, All, AllPairs, if◌then◌else◌}
 use Rattle.std.specs.List.{list_any}
 use Rattle.std.specs.Option.{option_map_or}
+use Rattle.std.specs.Prelude.{filter, find, map, All, AllPairs, if◌then◌else◌}
 use Rattle.std.proofs.lemmas.Bool.{cases_Bool, eqb-true, ne_eqb, false≢true, or_parts, and_right, and_from, not_from_false}
 use Rattle.std.proofs.lemmas.List.Elements.{All-filter}
-use Rattle.fsa_types.specs.Oplocks.{Effect, Stays, Ends, Begins, Lowers, effect, is_awaited, is_same_key, has_read, has_write, has_handle, in_both, is_within, keep, loses}
-use Rattle.fsa_types.specs.Rows.{row_of}
 use Rattle.fsa_types.specs.declared.oplock.Class.{Class}
 use Rattle.fsa_types.specs.declared.oplock.Class.TheVariants.{Clash, NameChange, ReadOpen, Change}
 use Rattle.fsa_types.specs.declared.oplock.HandleSet.{HandleSet}
 use Rattle.fsa_types.specs.declared.request.Level.{Level}
 use Rattle.fsa_types.specs.declared.request.Level.TheVariants.{Nil, R, RH, RW, RWH}
+use Rattle.fsa_types.specs.Oplocks.{Effect, Stays, Ends, Begins, Lowers, effect, is_awaited, is_same_key, has_read, has_write, has_handle, in_both, is_within, keep, loses}
+use Rattle.fsa_types.specs.Rows.{row_of}
 use Rattle.fsa_model.specs.Breaks.{with_effect, with_breaks, is_broken_before, is_chosen, chosen}
 use Rattle.fsa_model.specs.Coherence.{level_of, counts_on_reads, is_own, NoOtherHas, IsTied}
+use Rattle.fsa_model.specs.Grant.{oplock_of}
 use Rattle.fsa_model.specs.Lookups.{is_on}
+use Rattle.fsa_model.specs.Sound.{has_its_key}
 use Rattle.fsa_model.specs.Volume.{Handle, Oplock, Volume}
 use Rattle.fsa_model.specs.Waits.{waits_for}
 use Rattle.fsa_model.proofs.BreakLaws.{broken, with_breaks-rest, break_of}
 use Rattle.fsa_model.proofs.CoherenceLaws.{held_in, held_after, held-effect, held-broken, only_oplock, any_oplock, All-in_order, any-in_order}
 use Rattle.fsa_model.proofs.RowLaws.{find-any, find-all, option_cases}
-use Rattle.fsa_model.specs.Grant.{oplock_of}
-use Rattle.fsa_model.specs.Sound.{has_its_key}
 
 -- ---- what is held after the breaks
 

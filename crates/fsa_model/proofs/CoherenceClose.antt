@@ -1,13 +1,13 @@
 -- A close and a leaving are coherent: handles go, and streams and links without handles.
 use Rattle.std.proofs.Common.{◌≡◌, ℕ, Bool, true, false, ◌==◌, not, List, [], ◌∷◌, refl, ap, sym, ◌∙◌, Option, Some, None, inl, inr, ◌⊎◌}
-use Rattle.std.specs.Prelude.{filter, find}
 use Rattle.std.specs.Option.{option_map_or}
+use Rattle.std.specs.Prelude.{filter, find}
 use Rattle.std.proofs.lemmas.Bool.{cases_Bool, eqb-true, false≢true, and_parts, not_from_false, not-true}
-use Rattle.fsa_types.specs.Rows.{row_of, without_row, with_row_changed}
-use Rattle.fsa_types.specs.declared.request.What.{What}
 use Rattle.fsa_types.specs.declared.reply.Body.TheVariants.{Nothing}
+use Rattle.fsa_types.specs.declared.request.What.{What}
 use Rattle.fsa_types.specs.declared.status.Status.{Status}
 use Rattle.fsa_types.specs.declared.status.Status.TheVariants.{Cancelled}
+use Rattle.fsa_types.specs.Rows.{row_of, without_row, with_row_changed}
 use Rattle.fsa_model.specs.Changes.{with_change_noted}
 use Rattle.fsa_model.specs.Close.{is_call_on, closed_status, is_left_behind, pending_by_turn, with_calls_ended, named_stream, is_link_of_parent, with_mark_on_close, is_stream_over, with_stream_swept, is_link_over, name_bit, with_link_swept, with_swept, with_closed, close_at, try_close, handles_of_client, with_all_closed, with_client_gone, try_leave}
 use Rattle.fsa_model.specs.Coherence.{caches_reads, counts_on_reads, has_living_stream, IsTied}
@@ -16,14 +16,14 @@ use Rattle.fsa_model.specs.Lookups.{handle_of, has_row, is_open_on, is_open_by}
 use Rattle.fsa_model.specs.Outcome.{Outcome}
 use Rattle.fsa_model.specs.Turn.{volume_after}
 use Rattle.fsa_model.specs.Volume.{Stream, Handle, Oplock, Pending, Volume}
-use Rattle.fsa_model.proofs.RowLaws.{option_cases, row_of-all, none-all}
 use Rattle.fsa_model.proofs.CoherenceData.{Behaves, Behaves-option, Behaves-refused}
 use Rattle.fsa_model.proofs.CoherenceEdits.{row_of-kept, row_of-filter_none, row_of-changed, Lives, Lives-from, IsTied-stream_changed, IsTied-link_changed}
 use Rattle.fsa_model.proofs.CoherenceEnds.{counts-same, Gone}
+use Rattle.fsa_model.proofs.CoherenceFalls.{Falls, Falls-next, Falls-opens, Falls-same, Falls-untouched, Falls-without_handle}
 use Rattle.fsa_model.proofs.CoherenceGone.{IsTied-without_handle, IsTied-without_row, IsTied-without_stream, IsTied-without_link, other_file}
 use Rattle.fsa_model.proofs.CoherenceSteps.{Leaves, Leaves-next, KeepsBytes-leaves}
 use Rattle.fsa_model.proofs.CoherenceTied.{IsUntouched-noted, IsUntouched-with_end, IsTied-alike, IsUntouched}
-use Rattle.fsa_model.proofs.CoherenceFalls.{Falls, Falls-next, Falls-opens, Falls-same, Falls-untouched, Falls-without_handle}
+use Rattle.fsa_model.proofs.RowLaws.{option_cases, row_of-all, none-all}
 
 -- handles, streams and links went, coherence rests on what is left, and all handles count that did and are left
 pub record Left (v w : Volume) : Type 0 where

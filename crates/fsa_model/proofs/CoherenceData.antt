@@ -1,11 +1,9 @@
 -- A read, a write and a setting of security are coherent.
 use Rattle.std.proofs.Common.{◌≡◌, ℕ, ◌+◌, Bool, true, false, ◌==◌, not, List, [], length, refl, ap, sym, ◌∙◌, Option, Some, None, inl, inr}
-use Rattle.std.specs.Prelude.{nat_lt, nat_le, unwrap_or, if◌then◌else◌}
 use Rattle.std.specs.Option.{option_map_or}
+use Rattle.std.specs.Prelude.{nat_lt, nat_le, unwrap_or, if◌then◌else◌}
 use Rattle.std.proofs.lemmas.Bool.{cases_Bool, false≢true}
 use Rattle.fsa_types.specs.Access.{has_any}
-use Rattle.fsa_types.specs.Rows.{row_of, with_row_changed}
-use Rattle.fsa_types.specs.StreamBytes.{put}
 use Rattle.fsa_types.specs.declared.oplock.Class.{Class}
 use Rattle.fsa_types.specs.declared.oplock.Class.TheVariants.{Change, ReadOpen}
 use Rattle.fsa_types.specs.declared.oplock.HandleSet.{HandleSet}
@@ -14,6 +12,8 @@ use Rattle.fsa_types.specs.declared.reply.Blocker.{Blocker}
 use Rattle.fsa_types.specs.declared.request.DaclChange.{DaclChange}
 use Rattle.fsa_types.specs.declared.request.DaclChange.TheVariants.{Keep, Remove, Put}
 use Rattle.fsa_types.specs.declared.status.Status.{Status}
+use Rattle.fsa_types.specs.Rows.{row_of, with_row_changed}
+use Rattle.fsa_types.specs.StreamBytes.{put}
 use Rattle.fsa_model.specs.Breaks.{with_breaks}
 use Rattle.fsa_model.specs.Coherence.{IsBrokenByChange, IsTied, key_of, key_acting, blockers_of}
 use Rattle.fsa_model.specs.Edits.{with_basic}
@@ -28,13 +28,13 @@ use Rattle.fsa_model.specs.Volume as volume
 use Rattle.fsa_model.specs.Volume.{Handle, Volume}
 use Rattle.fsa_model.specs.Waits.{waits_for, held_by}
 use Rattle.fsa_model.specs.Write.{with_write_noted, with_written, lengthens, write_bytes, write_grown, write_unlocked, write_range, write_at_place, can_write, write_stream, write_by, write_at, try_write}
-use Rattle.fsa_model.proofs.RowLaws.{option_cases}
 use Rattle.fsa_model.proofs.CoherenceBreaks.{handles-breaks, streams-breaks}
 use Rattle.fsa_model.proofs.CoherenceEdits.{row_of-changed, IsTied-stream_changed, IsUntouched-file_changed}
 use Rattle.fsa_model.proofs.CoherenceEnds.{ends-held, ends-gone_on, counts-same, Gone, HasTold, Awaits, EndsByCause}
+use Rattle.fsa_model.proofs.CoherenceFalls.{Falls, Falls-breaks, Falls-next, Falls-opens, Falls-untouched}
 use Rattle.fsa_model.proofs.CoherenceSteps.{Comes, KeepsBytes-comes, Changes, KeepsBytes-changes, KeepsBytes}
 use Rattle.fsa_model.proofs.CoherenceTied.{IsUntouched-same, IsUntouched-noted, IsTied-alike, IsTied-breaks, IsUntouched}
-use Rattle.fsa_model.proofs.CoherenceFalls.{Falls, Falls-breaks, Falls-next, Falls-opens, Falls-untouched}
+use Rattle.fsa_model.proofs.RowLaws.{option_cases}
 
 -- ---- a try
 

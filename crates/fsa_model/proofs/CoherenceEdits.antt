@@ -1,16 +1,16 @@
 -- What coherence rests on is kept by each edit of links, streams and handles.
 use Rattle.std.proofs.Common.{◌≡◌, ℕ, ◌+◌, ◌≤◌, Bool, true, false, ◌==◌, ◌&&◌, List, [], ◌∷◌, ◌++◌, get_or, refl, ap, sym, ◌∙◌, arith, Some, None, inl, inr, eq-eqb}
-use Rattle.std.specs.Prelude.{filter, option_map, All, if◌then◌else◌}
 use Rattle.std.specs.Option.{option_map_or}
+use Rattle.std.specs.Prelude.{filter, option_map, All, if◌then◌else◌}
 use Rattle.std.proofs.lemmas.Bool.{cases_Bool, eqb-true, false≢true}
 use Rattle.std.proofs.lemmas.List.Elements.{All-push, All-map}
 use Rattle.fsa_types.specs.Rows.{row_of, with_row_changed}
 use Rattle.fsa_model.specs.Coherence.{is_under_link, has_living_stream, IsTied}
 use Rattle.fsa_model.specs.Edits.{with_file, with_link, with_stream, with_handle}
-use Rattle.fsa_model.specs.Volume.{File, Link, Stream, Handle, Oplock, Volume}
-use Rattle.fsa_model.proofs.RowLaws.{option_cases, IsNumbered-push, IsNumbered-change, any-push, any-map, any-same, change_at, change_at-same, change_at-number}
 use Rattle.fsa_model.specs.Sound.{has_its_key}
+use Rattle.fsa_model.specs.Volume.{File, Link, Stream, Handle, Oplock, Volume}
 use Rattle.fsa_model.proofs.CoherenceTied.{IsUntouched}
+use Rattle.fsa_model.proofs.RowLaws.{option_cases, IsNumbered-push, IsNumbered-change, any-push, any-map, any-same, change_at, change_at-same, change_at-number}
 
 -- ---- rows
 

@@ -1,27 +1,27 @@
 -- How counting on reads ends by breaks: only by a change of another key, which tells the holder that
 -- nothing is left or waits for its break.
 use Rattle.std.proofs.Common.{◌≡◌, ℕ, Bool, true, false, ◌==◌, ◌&&◌, List, [], refl, ap, sym, ◌∙◌, Option, Some, None, inl, inr, ◌⊎◌, eq-eqb}
-use Rattle.std.specs.Prelude.{filter, find, map, if◌then◌else◌}
 use Rattle.std.specs.Option.{option_map_or}
-use Rattle.std.proofs.lemmas.Bool.{cases_Bool, eqb-true, false≢true, and_from, and_parts, not-true, not-false}
-use Rattle.fsa_types.specs.Oplocks.{effect, is_awaited, has_read}
+use Rattle.std.specs.Prelude.{filter, find, map, if◌then◌else◌}
+use Rattle.std.proofs.lemmas.Bool.{cases_Bool, eqb-true, false≢true, and_from, and_parts, not-true, not-false, or_right}
 use Rattle.fsa_types.specs.declared.oplock.Class.{Class}
 use Rattle.fsa_types.specs.declared.oplock.Class.TheVariants.{Clash, NameChange, ReadOpen, Change}
 use Rattle.fsa_types.specs.declared.oplock.HandleSet.{HandleSet}
-use Rattle.fsa_types.specs.Rows.{row_of}
 use Rattle.fsa_types.specs.declared.reply.Blocker.{Blocker}
 use Rattle.fsa_types.specs.declared.reply.Blocker.TheVariants.{Break}
 use Rattle.fsa_types.specs.declared.request.Level.{Level}
 use Rattle.fsa_types.specs.declared.request.Level.TheVariants.{Nil, R, RH, RW, RWH}
+use Rattle.fsa_types.specs.Oplocks.{effect, is_awaited, has_read}
+use Rattle.fsa_types.specs.Rows.{row_of}
 use Rattle.fsa_model.specs.Breaks.{with_breaks, is_broken_before, is_chosen, is_told, chosen, awaited}
-use Rattle.fsa_model.specs.Coherence.{IsBrokenByChange, counts_on_reads, is_own, IsTied, is_break, awaits_break_of}
+use Rattle.fsa_model.specs.Coherence.{IsBrokenByChange, counts_on_reads, is_own, IsTied, is_break, awaits_break_of, caches_reads}
+use Rattle.fsa_model.specs.Grant.{oplock_of}
 use Rattle.fsa_model.specs.Volume.{Oplock, Volume}
 use Rattle.fsa_model.specs.Waits.{waits_for}
-use Rattle.fsa_model.proofs.RowLaws.{find-any, option_cases, any-map}
+use Rattle.fsa_model.proofs.BreakLaws.{break_of}
 use Rattle.fsa_model.proofs.CoherenceBreaks.{held-breaks, counts_held, counts-held, any-both, find-passes, not_awaited}
 use Rattle.fsa_model.proofs.CoherenceLaws.{held_after, any-in_order}
-use Rattle.fsa_model.proofs.BreakLaws.{break_of}
-use Rattle.fsa_model.specs.Grant.{oplock_of}
+use Rattle.fsa_model.proofs.RowLaws.{find-any, option_cases, any-map}
 
 -- ---- by what breaks and closes end it
 
@@ -90,10 +90,10 @@ told_or_awaited level (Some Nil) counts = absurd (false≢true (sym (none level)
     none RH = refl
     none RW = refl
     none RWH = refl
-told_or_awaited level (Some R) counts = inr (Rattle.std.proofs.lemmas.Bool.or_right _ true refl)
-told_or_awaited level (Some RH) counts = inr (Rattle.std.proofs.lemmas.Bool.or_right _ true refl)
-told_or_awaited level (Some RW) counts = inr (Rattle.std.proofs.lemmas.Bool.or_right _ true refl)
-told_or_awaited level (Some RWH) counts = inr (Rattle.std.proofs.lemmas.Bool.or_right _ true refl)
+told_or_awaited level (Some R) counts = inr (or_right _ true refl)
+told_or_awaited level (Some RH) counts = inr (or_right _ true refl)
+told_or_awaited level (Some RW) counts = inr (or_right _ true refl)
+told_or_awaited level (Some RWH) counts = inr (or_right _ true refl)
 told_or_awaited Nil None counts = cc
 told_or_awaited R None counts = inl refl
 told_or_awaited RH None counts = inl refl
@@ -177,4 +177,4 @@ counts-kept v on kind acting key handle tied no_change before = elim (cases_Bool
 
 -- with the same oplocks nothing ends
 pub counts-same : (v w : Volume) (handle : ℕ) → w.oplocks ≡ v.oplocks → counts_on_reads w handle ≡ counts_on_reads v handle
-counts-same v w handle same = ap (λ (oplocks : List Oplock). option_map_or Rattle.fsa_model.specs.Coherence.caches_reads (find (λ o. o.handle == handle) oplocks) false) same
+counts-same v w handle same = ap (λ (oplocks : List Oplock). option_map_or caches_reads (find (λ o. o.handle == handle) oplocks) false) same

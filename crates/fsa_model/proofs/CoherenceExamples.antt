@@ -1,7 +1,6 @@
 -- Coherent caching, worked by hand from the rules and shown by computation over whole runs: what each point speaks
 -- of does occur.
 use Rattle.std.specs.Prelude.{◌≡◌, ℕ, Bool, true, false, List, [], ◌∷◌, map, Option, Some, None, codes, refl}
-use Rattle.fsa_types.specs.Oplocks.{has_read, has_write}
 use Rattle.fsa_types.specs.declared.oplock.HandleSet.{HandleSet}
 use Rattle.fsa_types.specs.declared.oplock.HandleSet.TheVariants as set
 use Rattle.fsa_types.specs.declared.request.Call.{Call}
@@ -9,6 +8,7 @@ use Rattle.fsa_types.specs.declared.request.Disposition.TheVariants.{CreateNew, 
 use Rattle.fsa_types.specs.declared.request.Level.{Level}
 use Rattle.fsa_types.specs.declared.request.Level.TheVariants.{Nil, R, RH, RWH}
 use Rattle.fsa_types.specs.declared.request.Request.TheVariants.{Create, Read, Write, Oplock, Ack}
+use Rattle.fsa_types.specs.Oplocks.{has_read, has_write}
 use Rattle.fsa_model.specs.Coherence.{are_apart, awaits_break_of, blockers_of, bytes_under, counts_on_reads, gives_bytes, has_in, is_by_own_key, is_clash, level_of, set_of_path}
 use Rattle.fsa_model.specs.Grant.{oplock_on, oplock_by, oplock_at, try_oplock, ack_with, ack_at, try_ack}
 use Rattle.fsa_model.specs.Open.{try_create, create_at, create_walked, create_named, create_by_link, create_found, create_there, create_in_file, create_stream, create_on_stream, open_stream, open_granted, open_existing, clashed, create_missing, make_file}

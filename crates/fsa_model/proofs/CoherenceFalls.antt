@@ -2,12 +2,12 @@
 use Rattle.std.proofs.Common.{◌≡◌, ℕ, Bool, true, false, ◌==◌, ◌&&◌, ◌||◌, not, List, refl, ap, sym, subst, ◌∙◌, Option, Some, None, inl, inr}
 use Rattle.std.specs.Option.{option_map_or}
 use Rattle.std.proofs.lemmas.Bool.{cases_Bool, false≢true, and_parts, and_from}
-use Rattle.fsa_types.specs.Oplocks.{effect, has_read, has_write, in_both, is_same_key, is_within, keep}
-use Rattle.fsa_types.specs.Rows.{row_of}
 use Rattle.fsa_types.specs.declared.oplock.Class.{Class}
 use Rattle.fsa_types.specs.declared.oplock.HandleSet.{HandleSet}
 use Rattle.fsa_types.specs.declared.request.Level.{Level}
 use Rattle.fsa_types.specs.declared.request.Level.TheVariants.{Nil, R, RH, RW, RWH}
+use Rattle.fsa_types.specs.Oplocks.{effect, has_read, has_write, in_both, is_same_key, is_within, keep}
+use Rattle.fsa_types.specs.Rows.{row_of}
 use Rattle.fsa_model.specs.Breaks.{is_chosen, with_breaks}
 use Rattle.fsa_model.specs.Coherence.{IsTied, WritersAlone, are_apart, counts_on_reads, has_in, is_on_one}
 use Rattle.fsa_model.specs.Edits.{without_handle}

@@ -4,16 +4,16 @@ use Rattle.std.proofs.Common.{◌≡◌, ℕ, Bool, true, false, ◌==◌, ◌&&
 use Rattle.std.specs.Prelude.{filter, All}
 use Rattle.std.proofs.lemmas.Bool.{cases_Bool, eqb-true, false≢true, and_parts, not_from_false}
 use Rattle.std.proofs.lemmas.List.Elements.{All-filter}
-use Rattle.std.proofs.lemmas.List.Kept.{AllPairs-filter}
 use Rattle.std.proofs.lemmas.List.Elements.{filter_passes}
+use Rattle.std.proofs.lemmas.List.Kept.{AllPairs-filter}
 use Rattle.fsa_types.specs.Rows.{row_of, without_row}
 use Rattle.fsa_model.specs.Coherence.{has_living_stream, IsTied}
 use Rattle.fsa_model.specs.Edits.{without_handle, without_file, without_file_unless_linked, without_stream, without_link}
 use Rattle.fsa_model.specs.Lookups.{has_row, is_open_on, is_open_by}
-use Rattle.fsa_model.specs.Volume.{Link, Handle, Oplock, Volume}
-use Rattle.fsa_model.proofs.RowLaws.{option_cases, IsNumbered-filter, none-all, row_of-all, any-filter, eqb-swap}
-use Rattle.fsa_model.proofs.CoherenceEdits.{row_of-kept, All-living}
 use Rattle.fsa_model.specs.Sound.{has_its_key}
+use Rattle.fsa_model.specs.Volume.{Link, Handle, Oplock, Volume}
+use Rattle.fsa_model.proofs.CoherenceEdits.{row_of-kept, All-living}
+use Rattle.fsa_model.proofs.RowLaws.{option_cases, IsNumbered-filter, none-all, row_of-all, any-filter, eqb-swap}
 
 pub IsTied-without_handle : (v : Volume) (handle : ℕ) → IsTied v → IsTied (without_handle v handle)
 IsTied-without_handle v handle tied = record {

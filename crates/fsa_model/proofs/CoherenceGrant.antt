@@ -1,29 +1,29 @@
 -- A grant, an acknowledgement and a cancellation keep what coherence rests on, change no bytes, and end
 -- only the counting that they are meant to end.
 use Rattle.std.proofs.Common.{◌≡◌, ℕ, Bool, true, false, ◌==◌, ◌&&◌, not, List, [], ◌∷◌, ◌++◌, refl, ap, sym, ◌∙◌, Option, Some, None, inl, inr, eq-eqb}
-use Rattle.std.specs.Prelude.{filter, find, fold, map, if◌then◌else◌}
 use Rattle.std.specs.List.{list_any}
 use Rattle.std.specs.Option.{option_map_or}
-use Rattle.std.proofs.lemmas.Bool.{cases_Bool, eqb-true, ne_eqb, false≢true, and_from, and_parts, not_from_false, not-true, or_left}
+use Rattle.std.specs.Prelude.{filter, find, fold, map, if◌then◌else◌}
+use Rattle.std.proofs.lemmas.Bool.{cases_Bool, eqb-true, ne_eqb, false≢true, and_from, and_parts, not_from_false, not-true, or_left, and_right}
 use Rattle.std.proofs.lemmas.List.Elements.{All-push, All-filter}
 use Rattle.std.proofs.lemmas.List.Kept.{AllPairs-filter}
 use Rattle.std.proofs.lemmas.List.Quantifiers.{all_pairs_push}
-use Rattle.fsa_types.specs.Oplocks.{is_same_key}
-use Rattle.fsa_types.specs.Rows.{row_of}
 use Rattle.fsa_types.specs.declared.request.Level.{Level}
 use Rattle.fsa_types.specs.declared.status.Status.{Status}
 use Rattle.fsa_types.specs.declared.status.Status.TheVariants.{OplockSwitchedToNewHandle}
+use Rattle.fsa_types.specs.Oplocks.{is_same_key}
+use Rattle.fsa_types.specs.Rows.{row_of}
 use Rattle.fsa_model.specs.Coherence.{caches_reads, counts_on_reads, is_own, IsTied}
 use Rattle.fsa_model.specs.Edits.{without_oplock}
 use Rattle.fsa_model.specs.Grant.{is_oplock_on, is_of_key, with_call_ended, with_switched, switched, with_all_switched, with_oplock, with_granted, with_level_kept, oplock_of, call_of}
+use Rattle.fsa_model.specs.Sound.{has_its_key}
 use Rattle.fsa_model.specs.Volume.{Handle, Oplock, Volume}
 use Rattle.fsa_model.specs.Waiting.{is_granted_under, with_oplock_given_up}
-use Rattle.fsa_model.proofs.RowLaws.{option_cases, find-all, find-none, none-all}
 use Rattle.fsa_model.proofs.CoherenceBreaks.{find-passes, counts-held}
 use Rattle.fsa_model.proofs.CoherenceLaws.{held_in, held-without, any_oplock}
 use Rattle.fsa_model.proofs.CoherenceSteps.{KeepsBytes-comes, KeepsBytes}
 use Rattle.fsa_model.proofs.CoherenceTied.{IsUntouched-same, IsUntouched-with_end, IsTied-alike, IsTied-oplocks, IsTied-without_oplock, differ-changed, keyed-changed, IsUntouched}
-use Rattle.fsa_model.specs.Sound.{has_its_key}
+use Rattle.fsa_model.proofs.RowLaws.{option_cases, find-all, find-none, none-all}
 
 -- ---- the oplocks of the key end
 
@@ -151,7 +151,7 @@ ends-granted v id key stream level turn handle tied before after = elim (cases_B
     | inr some ↦ (let u : Volume = with_all_switched v id key stream in
         let not_its : is_of_key id key some.0 ≡ false = sym (own-key v handle some.0 (Some id) key tied some.1) ∙ other in
         let stays : list_any (λ (o : Oplock). o.handle == handle) (switched v id key stream) ≡ false
-        = any_oplock (λ o. is_oplock_on v stream o && is_of_key id key o) v.oplocks handle some.0 tied.oplocks_differ some.1 ∙ rw not_its (Rattle.std.proofs.lemmas.Bool.and_right _ false refl) in
+        = any_oplock (λ o. is_oplock_on v stream o && is_of_key id key o) v.oplocks handle some.0 tied.oplocks_differ some.1 ∙ rw not_its (and_right _ false refl) in
         let held : held_in u.oplocks handle ≡ Some (some.0.level, some.0.target) = held-all (switched v id key stream) v handle ∙ rw (stays, some.1) refl in
         let still : counts_on_reads (with_granted v id key stream level turn) handle ≡ counts_on_reads v handle
         = counts-held (with_granted v id key stream level turn) handle ∙ rw (held-more u.oplocks _ handle (some.0.level, some.0.target) held, some.1) refl in

@@ -4,16 +4,16 @@ use Rattle.std.proofs.Common.{◌≡◌, ℕ, Bool, ◌==◌, not, ◌&&◌, Lis
 use Rattle.std.specs.Prelude.{is_some, nat_lt}
 use Rattle.std.proofs.lemmas.Bool.{cases_Bool}
 use Rattle.fsa_types.specs.Access.{has_any}
-use Rattle.fsa_types.specs.Match.{is_refused}
-use Rattle.fsa_types.specs.Packing.{head_size}
-use Rattle.fsa_types.specs.FixedBuffers.{read_reparse}
-use Rattle.fsa_types.specs.PackedRows.{pack_kind}
-use Rattle.fsa_types.specs.Rows.{row_of}
 use Rattle.fsa_types.specs.declared.request.DirKind.{DirKind}
 use Rattle.fsa_types.specs.declared.request.InfoKind.{InfoKind}
 use Rattle.fsa_types.specs.declared.request.InfoKind.TheVariants.{Basic, Standard, Internal, Tag, Streams}
-use Rattle.fsa_model.specs.Coherence.{IsTied, blockers_of}
+use Rattle.fsa_types.specs.FixedBuffers.{read_reparse}
+use Rattle.fsa_types.specs.Match.{is_refused}
+use Rattle.fsa_types.specs.PackedRows.{pack_kind}
+use Rattle.fsa_types.specs.Packing.{head_size}
+use Rattle.fsa_types.specs.Rows.{row_of}
 use Rattle.fsa_model.specs.Close.{is_link_of_parent}
+use Rattle.fsa_model.specs.Coherence.{IsTied, blockers_of}
 use Rattle.fsa_model.specs.Edits.{with_cursor, with_point}
 use Rattle.fsa_model.specs.Lookups.{file_of_link, handle_of, is_link_marked}
 use Rattle.fsa_model.specs.Outcome.{Outcome}

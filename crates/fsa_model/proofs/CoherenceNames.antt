@@ -4,11 +4,11 @@ use Rattle.std.proofs.Common.{◌≡◌, ℕ, Bool, true, false, not, List, refl
 use Rattle.std.specs.Prelude.{◌==◌, ◌||◌, is_some}
 use Rattle.std.proofs.lemmas.Bool.{cases_Bool}
 use Rattle.fsa_types.specs.Access.{has_any}
-use Rattle.fsa_types.specs.Paths.{components, rest_of}
-use Rattle.fsa_types.specs.Rows.{row_of}
 use Rattle.fsa_types.specs.declared.oplock.Class.TheVariants.{NameChange}
 use Rattle.fsa_types.specs.declared.oplock.HandleSet.{HandleSet}
 use Rattle.fsa_types.specs.declared.oplock.HandleSet.TheVariants as set
+use Rattle.fsa_types.specs.Paths.{components, rest_of}
+use Rattle.fsa_types.specs.Rows.{row_of}
 use Rattle.fsa_model.specs.Breaks.{with_breaks}
 use Rattle.fsa_model.specs.Changes.{with_change_noted}
 use Rattle.fsa_model.specs.Close.{name_bit, named_stream, is_link_of_parent}
@@ -24,13 +24,13 @@ use Rattle.fsa_model.specs.Turn.{volume_after}
 use Rattle.fsa_model.specs.Volume.{Handle, Volume}
 use Rattle.fsa_model.specs.Waits.{waits_for}
 use Rattle.fsa_model.specs.Walk.{Walked, Reached, Barred, Diverted, point_of, walk}
-use Rattle.fsa_model.proofs.CoherenceClose.{Behaves-left, bytes-marked, Left, Left-alike, Left-next, Left-same, Left-noted, Left-without_link, handles-noted}
 use Rattle.fsa_model.proofs.CoherenceBreaks.{handles-breaks}
+use Rattle.fsa_model.proofs.CoherenceClose.{Behaves-left, bytes-marked, Left, Left-alike, Left-next, Left-same, Left-noted, Left-without_link, handles-noted}
 use Rattle.fsa_model.proofs.CoherenceData.{Behaves, IsUntouched-basic}
 use Rattle.fsa_model.proofs.CoherenceEdits.{IsTied-stream_changed}
+use Rattle.fsa_model.proofs.CoherenceFalls.{Falls-opens}
 use Rattle.fsa_model.proofs.CoherenceRest.{Left-breaks, Left-link_moved, Left-link_set}
 use Rattle.fsa_model.proofs.RowLaws.{option_cases}
-use Rattle.fsa_model.proofs.CoherenceFalls.{Falls-opens}
 
 -- ---- what is changed
 

@@ -1,15 +1,15 @@
 -- A request of an oplock, an acknowledgement and a cancellation are coherent.
 use Rattle.std.proofs.Common.{◌≡◌, ℕ, Bool, true, false, refl, ap, sym, ◌∙◌, Option, Some, None}
-use Rattle.std.specs.Prelude.{if◌then◌else◌}
 use Rattle.std.specs.Option.{option_map_or}
+use Rattle.std.specs.Prelude.{if◌then◌else◌}
 use Rattle.std.proofs.lemmas.Bool.{false≢true}
-use Rattle.fsa_types.specs.Oplocks.{has_read, in_both}
-use Rattle.fsa_types.specs.Rows.{row_of}
 use Rattle.fsa_types.specs.declared.request.Level.{Level}
 use Rattle.fsa_types.specs.declared.request.Request.TheVariants.{Oplock, Ack, Cancel}
 use Rattle.fsa_types.specs.declared.request.What.{What}
 use Rattle.fsa_types.specs.declared.request.What.TheVariants.{Ask}
 use Rattle.fsa_types.specs.declared.status.Status.{Status}
+use Rattle.fsa_types.specs.Oplocks.{has_read, in_both}
+use Rattle.fsa_types.specs.Rows.{row_of}
 use Rattle.fsa_model.specs.Coherence.{CountsUntilCause, Acknowledged, Switched, Cancelled, key_of, key_acting, is_own, acting_handle, acting_key, IsTied, CountsFromCause, Granted, Kept, WritersAlone}
 use Rattle.fsa_model.specs.Edits.{is_call, without_oplock}
 use Rattle.fsa_model.specs.Grant.{is_not_granted, oplock_on, oplock_by, oplock_at, try_oplock, target_of, ack_with, ack_at, try_ack}
@@ -17,12 +17,12 @@ use Rattle.fsa_model.specs.Lookups.{handle_of, number_of}
 use Rattle.fsa_model.specs.Outcome.{Outcome, refused}
 use Rattle.fsa_model.specs.Turn.{volume_after}
 use Rattle.fsa_model.specs.Volume.{Handle, Volume}
-use Rattle.fsa_model.proofs.CoherenceSteps.{KeepsBytes}
 use Rattle.fsa_model.specs.Waiting.{with_oplock_given_up, try_cancel}
-use Rattle.fsa_model.proofs.CoherenceGrant.{KeepsBytes-oplocks, IsTied-granted, KeepsBytes-granted, ends-granted, IsTied-kept, ends-kept, ends-without, IsTied-given_up, ends-given_up}
-use Rattle.fsa_model.proofs.CoherenceTied.{IsTied-alike, IsUntouched-with_end, IsTied-without_oplock}
 use Rattle.fsa_model.proofs.CoherenceBegins.{Falls-given_up, Falls-without_oplock, alone-granted, alone-kept, begins-granted, begins-kept, reads-left}
 use Rattle.fsa_model.proofs.CoherenceFalls.{alone-falls, counts-falls}
+use Rattle.fsa_model.proofs.CoherenceGrant.{KeepsBytes-oplocks, IsTied-granted, KeepsBytes-granted, ends-granted, IsTied-kept, ends-kept, ends-without, IsTied-given_up, ends-given_up}
+use Rattle.fsa_model.proofs.CoherenceSteps.{KeepsBytes}
+use Rattle.fsa_model.proofs.CoherenceTied.{IsTied-alike, IsUntouched-with_end, IsTied-without_oplock}
 
 -- one try of such a call of this client keeps what coherence rests on; bytes change as they may; and what no longer
 -- counts has a cause

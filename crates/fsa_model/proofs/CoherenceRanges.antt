@@ -1,14 +1,14 @@
 -- A new length, a lock, an unlock and a flush are coherent.
 use Rattle.std.proofs.Common.{◌≡◌, ℕ, Bool, true, false, ◌==◌, ◌||◌, not, List, [], length, refl, ap, ◌∙◌, Option, Some, None, inl, inr}
-use Rattle.std.specs.Prelude.{nat_lt}
 use Rattle.std.specs.Option.{option_map_or}
+use Rattle.std.specs.Prelude.{nat_lt}
 use Rattle.std.proofs.lemmas.Bool.{cases_Bool}
 use Rattle.fsa_types.specs.Access.{has_any}
-use Rattle.fsa_types.specs.Rows.{row_of, with_row_changed}
-use Rattle.fsa_types.specs.StreamBytes.{cut}
 use Rattle.fsa_types.specs.declared.oplock.Class.TheVariants.{Change}
 use Rattle.fsa_types.specs.declared.oplock.HandleSet.TheVariants.{Stream}
 use Rattle.fsa_types.specs.declared.reply.Blocker.{Blocker}
+use Rattle.fsa_types.specs.Rows.{row_of, with_row_changed}
+use Rattle.fsa_types.specs.StreamBytes.{cut}
 use Rattle.fsa_model.specs.Breaks.{with_breaks}
 use Rattle.fsa_model.specs.Coherence.{IsTied, key_of, key_acting}
 use Rattle.fsa_model.specs.Edits.{is_lock_on, with_lock, without_lock}
@@ -22,13 +22,13 @@ use Rattle.fsa_model.specs.Volume as volume
 use Rattle.fsa_model.specs.Volume.{Handle, Volume}
 use Rattle.fsa_model.specs.Waits.{waits_for}
 use Rattle.fsa_model.specs.Write.{with_write_noted}
-use Rattle.fsa_model.proofs.RowLaws.{option_cases}
 use Rattle.fsa_model.proofs.CoherenceData.{Behaves, Behaves-if, Behaves-option, Behaves-done, Behaves-refused, Behaves-held, Broken, Broken-breaks, Behaves-broken, Changes-stream, IsUntouched-write_noted, IsUntouched-basic, ends-as}
 use Rattle.fsa_model.proofs.CoherenceEdits.{IsTied-stream_changed}
-use Rattle.fsa_model.proofs.CoherenceSteps.{Changes, KeepsBytes-changes}
-use Rattle.fsa_model.proofs.CoherenceTied.{IsUntouched-same, IsTied-alike, IsUntouched}
 use Rattle.fsa_model.proofs.CoherenceEnds.{Gone, HasTold, Awaits, EndsByCause}
 use Rattle.fsa_model.proofs.CoherenceFalls.{Falls-next, Falls-opens}
+use Rattle.fsa_model.proofs.CoherenceSteps.{Changes, KeepsBytes-changes}
+use Rattle.fsa_model.proofs.CoherenceTied.{IsUntouched-same, IsTied-alike, IsUntouched}
+use Rattle.fsa_model.proofs.RowLaws.{option_cases}
 
 -- ---- a new length
 

@@ -1,29 +1,29 @@
 -- Ways that the verbs to come take: breaks that leave reads counted on, links that come, move and go,
 -- and an enumeration that goes on.
 use Rattle.std.proofs.Common.{◌≡◌, ℕ, Bool, true, false, ◌==◌, List, [], get_or, refl, ap, sym, ◌∙◌, Option, Some, None, inl, inr}
-use Rattle.std.specs.Prelude.{option_map, if◌then◌else◌}
 use Rattle.std.specs.Option.{option_map_or}
+use Rattle.std.specs.Prelude.{option_map, if◌then◌else◌}
 use Rattle.std.proofs.lemmas.Bool.{cases_Bool, false≢true}
 use Rattle.std.proofs.lemmas.List.Elements.{All-map}
-use Rattle.fsa_types.specs.Rows.{row_of, with_row_changed}
 use Rattle.fsa_types.specs.declared.oplock.Class.{Class}
 use Rattle.fsa_types.specs.declared.oplock.Class.TheVariants.{Change}
 use Rattle.fsa_types.specs.declared.oplock.HandleSet.{HandleSet}
+use Rattle.fsa_types.specs.Rows.{row_of, with_row_changed}
 use Rattle.fsa_model.specs.Breaks.{with_breaks}
 use Rattle.fsa_model.specs.Coherence.{bytes_under, has_living_stream, IsTied}
 use Rattle.fsa_model.specs.Edits.{with_link, with_link_moved, with_link_marked, with_cursor, with_limit, with_watch}
 use Rattle.fsa_model.specs.Lookups.{bytes_of}
+use Rattle.fsa_model.specs.Sound.{has_its_key}
 use Rattle.fsa_model.specs.Volume.{Handle, Cursor, Oplock, Volume}
-use Rattle.fsa_model.proofs.RowLaws.{option_cases, change_at, change_at-same}
 use Rattle.fsa_model.proofs.CoherenceBreaks.{handles-breaks, streams-breaks}
 use Rattle.fsa_model.proofs.CoherenceClose.{Left}
 use Rattle.fsa_model.proofs.CoherenceEdits.{row_of-changed, IsTied-with_link, IsTied-link_changed}
 use Rattle.fsa_model.proofs.CoherenceEnds.{counts-kept}
-use Rattle.fsa_model.proofs.CoherenceTied.{IsTied-breaks, IsUntouched}
-use Rattle.fsa_model.specs.Sound.{has_its_key}
-use Rattle.fsa_model.proofs.CoherenceSteps.{KeepsBytes}
 use Rattle.fsa_model.proofs.CoherenceFalls.{Falls, Falls-breaks, Falls-opens, FallsTo-same}
 use Rattle.fsa_model.proofs.CoherenceLaws.{held_in}
+use Rattle.fsa_model.proofs.CoherenceSteps.{KeepsBytes}
+use Rattle.fsa_model.proofs.CoherenceTied.{IsTied-breaks, IsUntouched}
+use Rattle.fsa_model.proofs.RowLaws.{option_cases, change_at, change_at-same}
 
 -- ---- names
 

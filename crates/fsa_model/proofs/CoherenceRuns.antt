@@ -5,7 +5,7 @@ use Rattle.std.specs.Option.{option_map_or}
 use Rattle.std.specs.Prelude.{◌&&◌, nat_le, filter, All}
 use Rattle.std.proofs.lemmas.Bool.{cases_Bool}
 use Rattle.std.proofs.lemmas.List.Elements.{All-append, All-cons, All-nil}
-use Rattle.fsa_types.specs.Rows.{row_of}
+use Rattle.fsa_types.specs.declared.reply.Body.TheVariants.{Nothing}
 use Rattle.fsa_types.specs.declared.request.Call.{Call}
 use Rattle.fsa_types.specs.declared.request.CallId.{CallId}
 use Rattle.fsa_types.specs.declared.request.Request.TheVariants.{Notify}
@@ -13,6 +13,7 @@ use Rattle.fsa_types.specs.declared.request.What.{What}
 use Rattle.fsa_types.specs.declared.request.What.TheVariants.{Ask}
 use Rattle.fsa_types.specs.declared.status.Status.{Status}
 use Rattle.fsa_types.specs.declared.status.Status.TheVariants.{Stalled}
+use Rattle.fsa_types.specs.Rows.{row_of}
 use Rattle.fsa_model.specs.Close.{with_calls_ended}
 use Rattle.fsa_model.specs.Coherence.{CachingIsCoherent, CountsAlong, IsAlike, IsCoherentTry, IsTied, LeadTo, Stretch, bytes_under, is_by_own_key, WritersAlone}
 use Rattle.fsa_model.specs.Edits.{with_end}
@@ -29,12 +30,12 @@ use Rattle.fsa_model.specs.Volume.{Handle, Pending, Volume}
 use Rattle.fsa_model.specs.Waiting.{all_wait, is_held, next_ready, waits_in_order, with_stalled}
 use Rattle.fsa_model.specs.Watching.{due_size}
 use Rattle.fsa_model.proofs.CoherenceData.{IsUntouched-next}
+use Rattle.fsa_model.proofs.CoherenceFalls.{Falls-untouched, alone-falls}
 use Rattle.fsa_model.proofs.CoherenceTied.{IsUntouched, IsUntouched-same, IsUntouched-with_end, IsTied-alike}
 use Rattle.fsa_model.proofs.CoherenceTries.{IsCoherent-try, IsTied-fresh, WritersAlone-fresh}
 use Rattle.fsa_model.proofs.EngineLaws.{turn-turned}
 use Rattle.fsa_model.proofs.RowLaws.{option_cases}
 use Rattle.fsa_model.proofs.SettleLaws.{some_equal}
-use Rattle.fsa_model.proofs.CoherenceFalls.{Falls-untouched, alone-falls}
 
 -- ---- stretches, one after another
 
@@ -130,7 +131,7 @@ untouched-come s pending _ = IsUntouched-with_end s.volume _ _ _
 untouched-calls_ended : (status_of : What → Status) (calls : List (ℕ × Pending)) (v : Volume) → IsUntouched v (with_calls_ended status_of calls v)
 untouched-calls_ended status_of [] v = IsUntouched-same v
 untouched-calls_ended status_of (entry ∷ calls) v =
-    (let first : Volume = with_end v entry.1.call.client entry.1.call.number (record { status = status_of entry.1.call.what; body = Rattle.fsa_types.specs.declared.reply.Body.TheVariants.Nothing }) in
+    (let first : Volume = with_end v entry.1.call.client entry.1.call.number (record { status = status_of entry.1.call.what; body = Nothing }) in
     IsUntouched-next v first (with_calls_ended status_of calls first) (IsUntouched-with_end v entry.1.call.client entry.1.call.number _) (untouched-calls_ended status_of calls first))
 
 untouched-stalled : (v : Volume) → IsUntouched v (with_stalled v)

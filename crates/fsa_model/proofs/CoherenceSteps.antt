@@ -1,21 +1,21 @@
 -- Ways from one volume to the next that are coherent.
 use Rattle.std.proofs.Common.{◌≡◌, ℕ, true, false, ◌==◌, List, [], refl, ap, sym, ◌∙◌, Option, Some, None, inl, inr, ◌⊎◌}
-use Rattle.std.specs.Prelude.{find}
 use Rattle.std.specs.Option.{option_map_or}
+use Rattle.std.specs.Prelude.{find}
 use Rattle.std.proofs.lemmas.Bool.{cases_Bool, eqb-true, false≢true}
-use Rattle.fsa_types.specs.Oplocks.{has_write}
-use Rattle.fsa_types.specs.Rows.{row_of}
 use Rattle.fsa_types.specs.declared.oplock.Class.TheVariants.{Change}
 use Rattle.fsa_types.specs.declared.oplock.HandleSet.TheVariants.{Stream}
+use Rattle.fsa_types.specs.Oplocks.{has_write}
+use Rattle.fsa_types.specs.Rows.{row_of}
 use Rattle.fsa_model.specs.Breaks.{with_breaks}
 use Rattle.fsa_model.specs.Coherence.{BytesStay, ChangesWhereNoneWrites, counts_on_reads, bytes_under, IsTied}
+use Rattle.fsa_model.specs.Grant.{oplock_of}
 use Rattle.fsa_model.specs.Lookups.{bytes_of, is_on, is_open_on}
+use Rattle.fsa_model.specs.Sound.{has_its_key}
 use Rattle.fsa_model.specs.Volume.{Handle, Oplock, Volume}
 use Rattle.fsa_model.specs.Waits.{waits_for}
-use Rattle.fsa_model.proofs.RowLaws.{option_cases, find-all}
 use Rattle.fsa_model.proofs.CoherenceBreaks.{find-passes, handles-breaks, streams-breaks, no_other-breaks, counts-change, takes_writing}
-use Rattle.fsa_model.specs.Grant.{oplock_of}
-use Rattle.fsa_model.specs.Sound.{has_its_key}
+use Rattle.fsa_model.proofs.RowLaws.{option_cases, find-all}
 
 -- a way from one volume to the next by a call that acts by this handle and with this key: where a handle counts its
 -- bytes change only by its own key, and bytes change only where nobody of another key is left with write caching

@@ -4,22 +4,22 @@ use Rattle.std.specs.Prelude.{map, All, AllPairs, if◌then◌else◌}
 use Rattle.std.proofs.lemmas.Bool.{cases_Bool}
 use Rattle.std.proofs.lemmas.List.Elements.{All-map, All-filter}
 use Rattle.std.proofs.lemmas.List.Kept.{AllPairs-filter}
-use Rattle.fsa_types.specs.Oplocks.{Effect, Stays, Ends, Begins, Lowers, effect}
-use Rattle.fsa_types.specs.Rows.{row_of}
 use Rattle.fsa_types.specs.declared.oplock.Class.{Class}
 use Rattle.fsa_types.specs.declared.oplock.HandleSet.{HandleSet}
+use Rattle.fsa_types.specs.declared.reply.Reply.{Reply}
 use Rattle.fsa_types.specs.declared.request.Level.{Level}
 use Rattle.fsa_types.specs.declared.request.Level.TheVariants.{Nil}
-use Rattle.fsa_types.specs.declared.reply.Reply.{Reply}
+use Rattle.fsa_types.specs.Oplocks.{Effect, Stays, Ends, Begins, Lowers, effect}
+use Rattle.fsa_types.specs.Rows.{row_of}
 use Rattle.fsa_model.specs.Breaks.{with_told, with_break_begun, with_effect, with_breaks, chosen}
 use Rattle.fsa_model.specs.Changes.{with_change_noted}
 use Rattle.fsa_model.specs.Coherence.{HasRoot, IsTied}
 use Rattle.fsa_model.specs.Edits.{with_end, without_oplock}
+use Rattle.fsa_model.specs.Sound.{has_its_key}
 use Rattle.fsa_model.specs.Volume.{Handle, Oplock, Volume}
 use Rattle.fsa_model.proofs.BreakLaws.{broken}
 use Rattle.fsa_model.proofs.RowLaws.{option_cases, AllPairs-map}
 use Rattle.fsa_model.proofs.SoundWaits.{touched}
-use Rattle.fsa_model.specs.Sound.{has_its_key}
 
 -- ---- the parts that it speaks of
 

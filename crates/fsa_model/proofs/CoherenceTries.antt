@@ -2,9 +2,8 @@
 use Rattle.std.proofs.Common.{◌≡◌, ℕ, Bool, true, false, List, refl, sym, subst, ◌∙◌, arith, Option, Some, None, inl, inr}
 use Rattle.std.proofs.lemmas.Bool.{cases_Bool, false≢true}
 use Rattle.std.proofs.lemmas.List.Elements.{All-nil}
-use Rattle.fsa_types.specs.OplockLists.{told_by}
-use Rattle.fsa_types.specs.Oplocks.{effect}
 use Rattle.fsa_types.specs.declared.oplock.Class.TheVariants.{Change}
+use Rattle.fsa_types.specs.declared.reply.Blocker.{Blocker}
 use Rattle.fsa_types.specs.declared.request.Call.{Call}
 use Rattle.fsa_types.specs.declared.request.Level.{Level}
 use Rattle.fsa_types.specs.declared.request.Level.TheVariants.{Nil, R, RH, RW, RWH}
@@ -13,17 +12,22 @@ use Rattle.fsa_types.specs.declared.request.Request.TheVariants as request
 use Rattle.fsa_types.specs.declared.request.What.{What}
 use Rattle.fsa_types.specs.declared.request.What.TheVariants.{Ask, Tick, WaitFor, Leave}
 use Rattle.fsa_types.specs.declared.status.Status.TheVariants.{InvalidHandle}
+use Rattle.fsa_types.specs.OplockLists.{told_by}
+use Rattle.fsa_types.specs.Oplocks.{effect}
 use Rattle.fsa_model.specs.Breaks.{is_told}
 use Rattle.fsa_model.specs.Coherence.{Closed, Told, Awaited, WhyEnded, ReadsWhereNoneWrites, ClashesWhereNoneKeeps, IsCoherent, IsTied, acting_handle, acting_key, gives_bytes, is_clash, Where, NoOtherWrites, NoOtherKeeps, set_of_path, WritersAlone}
 use Rattle.fsa_model.specs.Lookups.{has_left}
 use Rattle.fsa_model.specs.Outcome.{Outcome, refused}
 use Rattle.fsa_model.specs.Setup.{Setup}
+use Rattle.fsa_model.specs.Try.{try_request, try_what, try}
+use Rattle.fsa_model.specs.Turn.{volume_after}
 use Rattle.fsa_model.specs.Volume.{Volume, fresh}
 use Rattle.fsa_model.specs.Waiting.{has_ended, is_pending, try_wait}
 use Rattle.fsa_model.proofs.CoherenceAnswers.{read-coherent, create-coherent}
 use Rattle.fsa_model.proofs.CoherenceClose.{Behaves-close, Behaves-leave}
 use Rattle.fsa_model.proofs.CoherenceData.{Behaves, Behaves-if, Behaves-done, Behaves-refused, Behaves-read, Behaves-write, Behaves-set_security}
 use Rattle.fsa_model.proofs.CoherenceEnds.{WhyBroken, Gone, HasTold, Awaits}
+use Rattle.fsa_model.proofs.CoherenceFalls.{alone-falls, counts-falls}
 use Rattle.fsa_model.proofs.CoherenceInformation.{Behaves-set_basic, Behaves-set_reparse, Behaves-get_reparse, Behaves-delete_reparse, Behaves-set_quota, Behaves-query_quota, Behaves-query_info, Behaves-query_dir, Behaves-notify}
 use Rattle.fsa_model.proofs.CoherenceLink.{Behaves-link}
 use Rattle.fsa_model.proofs.CoherenceNames.{Behaves-rename, Behaves-set_disposition}
@@ -31,9 +35,6 @@ use Rattle.fsa_model.proofs.CoherenceOpen.{Behaves-create}
 use Rattle.fsa_model.proofs.CoherenceOplock.{Coheres, Coheres-refused, Coheres-oplock, Coheres-ack, Coheres-cancel}
 use Rattle.fsa_model.proofs.CoherenceRanges.{Behaves-set_end, Behaves-lock, Behaves-unlock, Behaves-flush}
 use Rattle.fsa_model.proofs.CoherenceTied.{IsUntouched-same}
-use Rattle.fsa_model.specs.Try.{try_request, try_what, try}
-use Rattle.fsa_model.proofs.CoherenceFalls.{alone-falls, counts-falls}
-use Rattle.fsa_model.specs.Turn.{volume_after}
 
 -- ---- why counting ends
 
@@ -46,7 +47,7 @@ told-nothing RH None told = (true, refl)
 told-nothing RW None told = (true, refl)
 told-nothing RWH None told = (true, refl)
 
-why-ended : (v : Volume) (client : ℕ) (what : What) (next : Volume) (blockers : List Rattle.fsa_types.specs.declared.reply.Blocker.Blocker) (handle : ℕ)
+why-ended : (v : Volume) (client : ℕ) (what : What) (next : Volume) (blockers : List Blocker) (handle : ℕ)
     → WhyBroken v (acting_handle v client what) (acting_key v client what) next blockers handle → WhyEnded v client what next blockers handle
 why-ended v client what next blockers handle (Gone none) = Closed none
 why-ended v client what next blockers handle (HasTold oplock broken told) = (let it = told-nothing oplock.level oplock.target told in Told oplock it.0 broken it.1)

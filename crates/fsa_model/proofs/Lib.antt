@@ -6,6 +6,7 @@ pub mod CoherenceAnswers
 pub mod CoherenceBegins
 pub mod CoherenceBreaks
 pub mod CoherenceClose
+pub mod CoherenceComes
 pub mod CoherenceData
 pub mod CoherenceEdits
 pub mod CoherenceEnds

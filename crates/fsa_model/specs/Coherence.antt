@@ -2,13 +2,9 @@
 -- 'Algorithm to Check for an Oplock Break'. First when a handle counts on the reads that it has cached, and by
 -- whom a call acts; then the facts that every try keeps, and the four points that hold of every try; then all
 -- tries of a history, and any stretch of them.
-use Rattle.std.specs.Prelude.{◌≡◌, ◌≢◌, ◌≤◌, ℕ, Bool, true, false, not, ◌&&◌, ◌||◌, ◌==◌, ◌++◌, List, [], ◌∷◌, length, filter, Option, Some, None, option_map, option_and_then, unwrap_or, All, AllPairs, IsTrue, if◌then◌else◌}
 use Rattle.std.specs.List.{list_any}
 use Rattle.std.specs.Option.{option_map_or}
-use Rattle.fsa_types.specs.OplockLists.{effect_on, number_of_break, told_by}
-use Rattle.fsa_types.specs.Oplocks.{has_read, has_write, has_handle, is_same_key}
-use Rattle.fsa_types.specs.Paths.{components}
-use Rattle.fsa_types.specs.Rows.{row_of, IsNumbered}
+use Rattle.std.specs.Prelude.{◌≡◌, ◌≢◌, ◌≤◌, ℕ, Bool, true, false, not, ◌&&◌, ◌||◌, ◌==◌, ◌++◌, List, [], ◌∷◌, length, filter, Option, Some, None, option_map, option_and_then, unwrap_or, All, AllPairs, IsTrue, if◌then◌else◌}
 use Rattle.fsa_types.specs.declared.oplock.Class.TheVariants.{Change}
 use Rattle.fsa_types.specs.declared.oplock.HandleSet.{HandleSet}
 use Rattle.fsa_types.specs.declared.oplock.HandleSet.TheVariants as set
@@ -25,6 +21,10 @@ use Rattle.fsa_types.specs.declared.request.What.{What}
 use Rattle.fsa_types.specs.declared.request.What.TheVariants.{Ask}
 use Rattle.fsa_types.specs.declared.status.Status.{Status}
 use Rattle.fsa_types.specs.declared.status.Status.TheVariants.{SharingViolation}
+use Rattle.fsa_types.specs.OplockLists.{effect_on, number_of_break, told_by}
+use Rattle.fsa_types.specs.Oplocks.{has_read, has_write, has_handle, is_same_key}
+use Rattle.fsa_types.specs.Paths.{components}
+use Rattle.fsa_types.specs.Rows.{row_of, IsNumbered}
 use Rattle.fsa_model.specs.Breaks.{is_chosen, with_breaks}
 use Rattle.fsa_model.specs.Close.{handle_named}
 use Rattle.fsa_model.specs.Edits.{is_call}

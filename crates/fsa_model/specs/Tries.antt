@@ -1,7 +1,7 @@
 -- The tries of a history, in order: in each turn the turn's own call is tried, and then the held calls that are
 -- taken up while the turn settles.
-use Rattle.std.specs.Prelude.{◌&&◌, not, ℕ, zero, suc, List, [], ◌∷◌, ◌++◌, length, if◌then◌else◌}
 use Rattle.std.specs.Option.{option_map_or}
+use Rattle.std.specs.Prelude.{◌&&◌, not, ℕ, zero, suc, List, [], ◌∷◌, ◌++◌, length, if◌then◌else◌}
 use Rattle.fsa_types.specs.declared.request.Call.{Call}
 use Rattle.fsa_types.specs.declared.request.CallId.{CallId}
 use Rattle.fsa_model.specs.Engine.{own_tried}
