@@ -3,7 +3,7 @@
 use Rattle.std.proofs.Common.{◌≡◌, ℕ, Bool, true, false, ◌==◌, ◌&&◌, List, [], refl, ap, sym, ◌∙◌, Option, Some, None, inl, inr, ◌⊎◌, eq-eqb}
 use Rattle.std.specs.Option.{option_map_or}
 use Rattle.std.specs.Prelude.{filter, find, map, if◌then◌else◌}
-use Rattle.std.proofs.lemmas.Bool.{cases_Bool, eqb-true, false≢true, and_from, and_parts, not-true, not-false, or_right}
+use Rattle.std.proofs.lemmas.Bool.{cases_Bool, eqb-true, false≢true, and_from, or_right}
 use Rattle.fsa_types.specs.declared.oplock.Class.{Class}
 use Rattle.fsa_types.specs.declared.oplock.Class.TheVariants.{Clash, NameChange, ReadOpen, Change}
 use Rattle.fsa_types.specs.declared.oplock.HandleSet.{HandleSet}
@@ -14,7 +14,7 @@ use Rattle.fsa_types.specs.declared.request.Level.TheVariants.{Nil, R, RH, RW, R
 use Rattle.fsa_types.specs.Oplocks.{effect, is_awaited, has_read}
 use Rattle.fsa_types.specs.Rows.{row_of}
 use Rattle.fsa_model.specs.Breaks.{with_breaks, is_broken_before, is_chosen, is_told, chosen, awaited}
-use Rattle.fsa_model.specs.Coherence.{IsBrokenByChange, counts_on_reads, is_own, IsTied, is_break, awaits_break_of, caches_reads}
+use Rattle.fsa_model.specs.Coherence.{IsBrokenByChange, counts_on_reads, IsTied, is_break, awaits_break_of, caches_reads}
 use Rattle.fsa_model.specs.Grant.{oplock_of}
 use Rattle.fsa_model.specs.Volume.{Oplock, Volume}
 use Rattle.fsa_model.specs.Waits.{waits_for}
