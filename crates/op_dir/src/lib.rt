@@ -1,5 +1,5 @@
-//! Directories over a volume. So far one is listed, after [MS-FSA] 'Server Requests Querying a Directory': one
-//! try of a QueryDir, from its first check.
+//! Directories over a volume: one is listed, after [MS-FSA] 'Server Requests Querying a Directory', or watched, after
+//! 'Server Requests Change Notifications for a Directory'. One try of a QueryDir or a Notify, from its first check.
 //!
 //! ```text
 //! match try_query_dir(alloc, &mut volume, &call, turn) {
@@ -7,25 +7,37 @@
 //!     Tried::NoMemory => ..          // nothing has changed
 //!     Tried::Stay(_) | Tried::Hold { .. } => ..    // never: it breaks no oplock and waits for nothing
 //! }
+//! match try_notify(alloc, &mut volume, &call, turn) {
+//!     Tried::Done(reply) => ..       // changes that were due, or that they exceed the room, or a refusal
+//!     Tried::Stay(interim) => ..     // nothing is due: it is to be pending
+//!     Tried::NoMemory => ..          // nothing has changed
+//!     Tried::Hold { .. } => ..       // never: it breaks no oplock
+//! }
+//! let reply = report(alloc, &mut volume, handle, room)?;         // of one that is pending, once something is due
 //! ```
 //!
-//! The definition is `QueryDir` of `fsa_model`, with `Shown` for what an entry tells of its file. The files here
-//! follow it: the expression and the cursor with which a query begins (`begun`), the entries that are still to
-//! come (`places`), what is shown of them (`shown`, `rows`), as many as fit into the room (`listing`), and the
-//! checks in order (`query_dir`).
+//! The definitions are `QueryDir` of `fsa_model`, with `Shown` for what an entry tells of its file, and `Watching`.
+//! The files here follow them: the expression and the cursor with which a query begins (`begun`), the entries that
+//! are still to come (`places`), what is shown of them (`shown`, `rows`), as many as fit into the room (`listing`),
+//! and the checks in order (`query_dir`); and a Notify with its report (`notify`).
 //!
-//! - The call has to be a QueryDir. Nothing is asked of the volume.
-//! - All memory is taken before the enumeration goes on; nothing else changes.
+//! - The call has to be of its verb. Nothing is asked of the volume.
+//! - All memory is taken before the enumeration goes on or a watch begins or reports; nothing else changes. A report
+//!   that exceeds its room takes none.
 //! - Entries are taken one after the other, no more than could fit into the room and one. Each costs a look through
 //!   the links of the volume, marked or not, and so does each that is passed over.
+//! - A Notify looks once over the changes that were noted since its watch began or last reported, and a report
+//!   twice; each change costs its ancestor directories and its name.
 #![tactic(auto)]
 
 mod begun;
 mod kinds;
 mod listing;
+mod notify;
 mod places;
 mod query_dir;
 mod rows;
 mod shown;
 
+pub use notify::{report, try_notify};
 pub use query_dir::try_query_dir;
