@@ -6,7 +6,7 @@ use std::test::Fail;
 use wire_io::{MemorySink, MemorySource};
 
 // Scripts and their texts.
-const ROWS: [(&str, &str); 27] = [
+const ROWS: [(&str, &str); 31] = [
     // A listing goes on after the last name given; small rooms, no match, and an expression with
     // `<`.
     (
@@ -467,6 +467,52 @@ const ROWS: [(&str, &str); 27] = [
          > a 24 create\na 24 SUCCESS created\n> a 25 querydir\n\
          a 25 SUCCESS x0000000000000000020000006300 =c\n> a 26 setdelete\na 26 SUCCESS\n\
          > a 27 querydir\na 27 NO_SUCH_FILE\n> a 28 leave\na 28 SUCCESS\nend 28\n",
+    ),
+    // A report that just fits its room, and one whose room is a byte short.
+    (
+        "fsa 1\nclient a 7\nclient b 9\na 1 create =\\ 0x1 0x7 open 0x1 0x0 0\n\
+         a 2 notify 1 0x1 flat 14\na 3 create =\\n 0x1 0x7 create 0x0 0x0 0\n\
+         a 4 notify 1 0x1 flat 13\na 5 create =\\m 0x1 0x7 create 0x0 0x0 0\n\
+         a 6 notify 1 0x1 flat 14\na 7 create =\\k 0x1 0x7 create 0x0 0x0 0\n",
+        "> a 1 create\na 1 SUCCESS opened\n> a 2 notify\na 2 PENDING watch\n> a 3 create\n\
+         a 3 SUCCESS created\na 2 SUCCESS x0000000001000000020000006e00 ADDED=n\n> a 4 notify\n\
+         a 4 PENDING watch\n> a 5 create\na 5 SUCCESS created\na 4 NOTIFY_ENUM_DIR\n> a 6 notify\n\
+         a 6 PENDING watch\n> a 7 create\na 7 SUCCESS created\n\
+         a 6 SUCCESS x0000000001000000020000006b00 ADDED=k\n> a 8 leave\na 8 SUCCESS\n> b 1 leave\n\
+         b 1 SUCCESS\nend 9\n",
+    ),
+    // After a Notify was cancelled its watch goes on; changes carry the name that they had at the
+    // moment.
+    (
+        "fsa 1\nclient a 7\nclient b 9\na 1 create =\\t 0x1 0x7 create 0x1 0x0 0\n\
+         a 2 create =\\t\\f 0x10002 0x7 create 0x0 0x0 0\na 3 notify 1 0x11 tree 100\n\
+         a 4 cancel 3\na 5 write 2 0 x41\na 6 rename 2 =\\g keep\na 7 notify 1 0x11 tree 100\n",
+        "> a 1 create\na 1 SUCCESS created\n> a 2 create\na 2 SUCCESS created\n> a 3 notify\n\
+         a 3 PENDING watch\n> a 4 cancel\na 4 SUCCESS\na 3 CANCELLED\n> a 5 write\na 5 SUCCESS 1\n\
+         > a 6 rename\na 6 SUCCESS\n> a 7 notify\n\
+         a 7 SUCCESS x100000000300000002000000660000000000000002000000020000006600 MODIFIED=f REMOVED=f\n\
+         > a 8 leave\na 8 SUCCESS\n> b 1 leave\nb 1 SUCCESS\nend 9\n",
+    ),
+    // A handle that closes ends its pending Notify.
+    (
+        "fsa 1\nclient a 7\nclient b 9\na 1 create =\\ 0x1 0x7 open 0x1 0x0 0\n\
+         a 2 notify 1 0x1 flat 14\na 3 close 1\n",
+        "> a 1 create\na 1 SUCCESS opened\n> a 2 notify\na 2 PENDING watch\n> a 3 close\n\
+         a 3 SUCCESS\na 2 NOTIFY_CLEANUP\n> a 4 leave\na 4 SUCCESS\n> b 1 leave\nb 1 SUCCESS\n\
+         end 5\n",
+    ),
+    // A rename of a directory breaks an oplock below it, waits, and is reported with both names.
+    (
+        "fsa 1\nclient a 7\nclient b 9\na 1 create =\\d 0x10001 0x7 create 0x1 0x0 0\n\
+         b 1 create =\\d\\f 0x1 0x7 create 0x0 0x0 0\nb 2 oplock 1 rh\n\
+         a 2 create =\\ 0x1 0x7 open 0x1 0x0 0\na 3 notify 2 0x2 tree 100\na 4 rename 1 =\\e keep\n\
+         b 3 close 1\n",
+        "> a 1 create\na 1 SUCCESS created\n> b 1 create\nb 1 SUCCESS created\n> b 2 oplock\n\
+         b 2 PENDING granted rh\n> a 2 create\na 2 SUCCESS opened\n> a 3 notify\n\
+         a 3 PENDING watch\n> a 4 rename\na 4 PENDING held\nb 2 SUCCESS broken r ack\n> b 3 close\n\
+         b 3 SUCCESS\na 4 SUCCESS\n\
+         a 3 SUCCESS x100000000400000002000000640000000000000005000000020000006500 RENAMED_OLD_NAME=d RENAMED_NEW_NAME=e\n\
+         > a 5 leave\na 5 SUCCESS\n> b 4 leave\nb 4 SUCCESS\nend 9\n",
     ),
 ];
 
