@@ -27,6 +27,7 @@ VERBS = {
     "query": [("handle", MOST_ID), ("kind", ("basic", "standard", "internal", "tag", "stream")), ("room", MOST_COUNT)],
     "setbasic": [("handle", MOST_ID), ("time of creation", MOST_TIME), ("time of access", MOST_TIME), ("time of write", MOST_TIME), ("time of change", MOST_TIME), ("attributes", "mask")],
     "querydir": [("handle", MOST_ID), ("layout", ("names", "dir", "full", "idfull")), ("expression", "text"), ("word behind the expression", ("restart", "go")), ("room", MOST_COUNT)],
+    "notify": [("handle", MOST_ID), ("filter", "mask"), ("word behind the filter", ("flat", "tree")), ("room", MOST_COUNT)],
     "setreparse": [("handle", MOST_ID), ("bytes", "bytes")],
     "getreparse": [("handle", MOST_ID), ("room", MOST_COUNT)],
     "deletereparse": [("handle", MOST_ID), ("tag", "mask")],
@@ -36,7 +37,6 @@ VERBS = {
     "tick": [("ticks", MOST_ID)],
     "wait": [("number of a call", MOST_ID)],
 }
-LATER = "notify leave".split()
 
 
 def number(word, most, what):
@@ -133,10 +133,8 @@ def request(words, names, calls):
     if len(words) < 3:
         return "a request is a client, a number, a verb and its fields"
     verb, fields = words[2], words[3:]
-    if verb in LATER:
-        return f"`{verb}` is not in scripts so far; the verbs are {', '.join(VERBS)}" + (" (each client leaves by itself at the end)" if verb == "leave" else "")
     if verb not in VERBS:
-        return f"there is no verb {verb!r}; the verbs are {', '.join(VERBS)}"
+        return f"there is no verb {verb!r}; the verbs are {', '.join(VERBS)}" + (" (each client leaves by itself at the end)" if verb == "leave" else "")
     wanted = VERBS[verb]
     if len(fields) != len(wanted):
         return f"`{verb}` has the fields {', '.join(it for it, _ in wanted)}: {len(wanted)}, and here are {len(fields)}" + (". A space in a path or an expression is written %0020" if verb in ("create", "rename", "link", "querydir") and len(fields) > len(wanted) else "")
