@@ -67,7 +67,7 @@ impl Charges {
 
         // An owner that is there takes no room and can't fail. Another takes one place.
         ensures there { IsSome (row_of self.old.sums owner) → IsOk result }
-        ensures kept { IsSome (row_of self.old.sums owner) → self.old.room ≤ self.new.room }
+        ensures kept { IsSome (row_of self.old.sums owner) → self.new.room ≡ self.old.room }
         ensures succeeds { 1 ≤ self.old.room → IsOk result }
         ensures left { self.old.room ≤ self.new.room + 1 }
     {

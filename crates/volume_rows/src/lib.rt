@@ -17,7 +17,7 @@
 //! `has_child`, `count_links`, `count_unmarked_links`, `is_at_or_below`); files (`has_directory`, `FileRow::set_basic`,
 //! `set_owner`, `set_dacl`, `set_point`); handles (`find_handle`, `find_next`,
 //! `count_on`, `is_one_of`, `some_clashes`, `is_open_by_others`) and their enumerations (`Enumeration`, `Cursor`); streams (`find_stream`, `is_stream_of`, and `StreamRow` with
-//! its bytes); the space that streams take (`charge_for`, `sum_of_clusters`) and what an owner may be
+//! its bytes); the space that streams take (`clusters_of`, `clusters_of_file`) and what an owner may be
 //! charged (`find_limit`); oplocks (`effect`, `is_awaited`, `in_both`, `is_within`, `is_same_key`, `is_oplock_of`,
 //! `find_break`, `find_target`);
 //! pending calls (`find_pending`, `find_next_pending`, `is_call`) and watches (`find_watch`,
@@ -54,7 +54,7 @@ pub use cursors::{Cursor, Enumeration};
 pub use effects::{
     BreakEffect, effect, has_read, has_write, in_both, is_awaited, is_same_key, is_within,
 };
-pub use growth::{charge_for, sum_of_clusters};
+pub use growth::{clusters_of, clusters_of_file};
 pub use handles::find_handle;
 pub use kinds::has_directory;
 pub use links::{

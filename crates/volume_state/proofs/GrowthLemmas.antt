@@ -31,12 +31,6 @@ clusters-fit rows last numbered few small =
     let count = length-numbered rows last numbered in
     sum-fits (λ entry. clusters_for (length entry.1.stream.bytes)) rows (λ k d within. let bound = small-kept rows small k d within in omega arith) (omega arith)
 
-pub charges-fit : (rows : List (ℕ × Kept)) (last : ℕ) → IsNumbered rows last → last < 2 ^ 32 - 1 → All (λ entry. length entry.1.bytes ≤ 2 ^ 26) (streams_in rows)
-    → sum_by (λ entry. 4096 * clusters_for (length entry.1.stream.bytes)) rows < 2 ^ 64
-charges-fit rows last numbered few small =
-    let count = length-numbered rows last numbered in
-    sum-fits (λ entry. 4096 * clusters_for (length entry.1.stream.bytes)) rows (λ k d within. let bound = small-kept rows small k d within in omega arith) (omega arith)
-
 -- a sum over some of the streams is the one over their rows
 pub sum-streams : (f : Stream → ℕ) (test : Stream → Bool) (rows : List (ℕ × Kept))
     → sum_by (λ entry. f entry.1) (filter (λ entry. test entry.1) (streams_in rows)) ≡ sum_by (λ entry. f entry.1.stream) (filter (λ entry. test entry.1.stream) rows)

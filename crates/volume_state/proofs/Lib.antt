@@ -11,6 +11,8 @@ pub mod PathLaws
 pub mod PendingLaws
 pub mod PointLaws
 pub mod StreamLemmas
+pub mod SumLemmas
+pub mod TallyLaws
 pub mod ThereLaws
 pub mod WaitLaws
 pub mod WatchLaws

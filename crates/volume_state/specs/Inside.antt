@@ -1,6 +1,5 @@
--- The content and the spare room of the tables of a volume. An owner's charge is a scan, so there is room
--- for all owners.
-use Rattle.std.specs.Prelude.{[], ◌^◌, map}
+-- The content and the spare room of the tables of a volume.
+use Rattle.std.specs.Prelude.{[], map}
 use Rattle.fsa_model.specs.Setup.{client_of}
 use Rattle.fsa_model.specs.Volume.{Volume}
 use Rattle.volume_state.specs.Seen.{Beside, Spare}
@@ -40,7 +39,7 @@ spare_of v = record {
   links = record { own = v.links.rooms; others = 0 };
   streams = v.streams.room;
   handles = v.handles.room;
-  owners = 2 ^ 64;
+  owners = v.space.room;
   locks = record { own = v.handles.rooms; others = 0 };
   oplocks = record { own = []; others = v.oplocks.room };
   watches = v.watches.room;

@@ -8,6 +8,7 @@ ghost use Rattle.fsa_model.specs.Lookups.{has_row, is_directory, stream_of};
 ghost use Rattle.fsa_model.specs.Sound.{LeadsUp, PointFits};
 ghost use Rattle.volume_state.specs.Seen.{room_for};
 
+use crate::growth::{hand_over, part_of_file};
 use crate::volume::Volume;
 use fsa_types::Dacl;
 use object_tables::Table;
@@ -58,6 +59,7 @@ impl Volume {
         ensures unlinked { has_row (λ link. link.file == result) self.new.content.links ≡ false }
         ensures no_stream { (name : List ℕ) → stream_of self.new.content result name ≡ None }
     {
+        self.space.admit(file.owner);
         let Ok(id) = self.files.add(file) else {
             unreachable!()
         };
@@ -97,6 +99,9 @@ impl Volume {
         ensures others { self.new.spare ≡ record self.old.spare { owners = self.new.spare.owners } }
         ensures left { self.old.spare.owners ≤ self.new.spare.owners + 1 }
     {
+        let part = part_of_file(&self.files, &self.streams, file);
+        self.space.admit(owner);
+        hand_over(&mut self.space, part, owner);
         set_owner(&mut self.files, file, owner);
     }
 

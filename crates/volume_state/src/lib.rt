@@ -38,9 +38,10 @@
 //! call that finds or adds it, so that no caller needs a law of its own.
 //!
 //! A file, a link, a stream or a handle is found by its number in time logarithmic in the rows of its
-//! table; any other look-up costs time linear in them. The next handle of a client, the next pending
-//! call, the handles below a directory and an owner's charge cost that for each row, and a note and
-//! `is_at_or_below` cost a look through the links for each directory above. A break costs what `volume_breaks` says.
+//! table, and an owner's charge in time logarithmic in the owners; the clusters of all streams are kept. Any
+//! other look-up costs time linear in the rows. The next handle of a client, the next pending call and the
+//! handles below a directory cost that for each row, and a note and `is_at_or_below` cost a look through the
+//! links for each directory above. A break costs what `volume_breaks` says.
 //!
 //! A call that is held waits for breaks and locks; whatever ends one of these tells the queue of held calls,
 //! in time linear in what they wait for, and `next_held` asks nothing but the queue. `next_over` looks through

@@ -12,6 +12,7 @@ ghost use Rattle.volume_state.specs.Living.{StaysWithout, is_link_to};
 ghost use Rattle.volume_state.specs.Paths.{units_in, dirs_in};
 ghost use Rattle.volume_state.specs.Seen.{room_for};
 
+use crate::growth::{part_of_file, resize};
 use crate::streams::drop_streams_of;
 use crate::volume::Volume;
 use fsa_types::Name;
@@ -175,8 +176,10 @@ impl Volume {
         };
         let file = row.file;
         if !has_link(self.links.as_slice(), file) {
+            let part = part_of_file(&self.files, &self.streams, file);
             let _ = self.files.remove(file);
             drop_streams_of(&mut self.streams, file);
+            resize(&mut self.space, part, 0);
         }
     }
 }

@@ -14,6 +14,7 @@ ghost use Rattle.volume_state.specs.Seen.{CanWrite, CanReach};
 ghost use Rattle.volume_rows.specs.Streams.{KeepsStreams, ChangesStream};
 ghost use Rattle.fsa_types.specs.StreamBytes.{put, cut};
 
+use crate::growth::{clusters_at, part_of_stream, resize};
 use crate::volume::Volume;
 use fsa_types::{Name, NoMemory};
 use object_tables::Table;
@@ -128,7 +129,10 @@ impl Volume {
         ensures others { self.new.spare ≡ record self.old.spare { bytes = self.new.spare.bytes } }
         ensures bytes { (other : ℕ) → (other == stream) ≡ false → row_of self.new.spare.bytes other ≡ row_of self.old.spare.bytes other }
     {
+        let part = part_of_stream(&self.files, &self.streams, stream);
         put_in(&mut self.streams, stream, at as usize, bytes);
+        let after = clusters_at(&self.streams, stream);
+        resize(&mut self.space, part, after);
     }
 
     /// Makes a stream so many bytes long, with zeros beyond its old end. Where it grows room has to
@@ -141,7 +145,10 @@ impl Volume {
         ensures others { self.new.spare ≡ record self.old.spare { bytes = self.new.spare.bytes } }
         ensures bytes { (other : ℕ) → (other == stream) ≡ false → row_of self.new.spare.bytes other ≡ row_of self.old.spare.bytes other }
     {
+        let part = part_of_stream(&self.files, &self.streams, stream);
         set_length_in(&mut self.streams, stream, bytes as usize);
+        let after = clusters_at(&self.streams, stream);
+        resize(&mut self.space, part, after);
     }
 
     /// Takes a stream out. No handle may be open on it.
@@ -157,7 +164,9 @@ impl Volume {
         ensures units { (other : ℕ) (of : Option ℕ) → units_noted self.new.content other of ≤ units_noted self.old.content other of }
         ensures dirs { (other : ℕ) (of : Option ℕ) → dirs_noted self.new.content other of ≤ dirs_noted self.old.content other of }
     {
+        let part = part_of_stream(&self.files, &self.streams, stream);
         let _ = self.streams.remove(stream);
+        resize(&mut self.space, part, 0);
     }
 }
 

@@ -9,18 +9,19 @@ ghost use Rattle.fsa_model.specs.Setup.{setup_of};
 ghost use Rattle.fsa_model.specs.Volume.{fresh, root};
 ghost use Rattle.volume_state.specs.Room.{HasRoom, IsNoLess};
 
+use crate::growth::space_of_root;
 use fsa_types::{Client, ClientList, EndOf, NoMemory, Setup, UpcaseTable};
 use object_tables::{Series, Table};
 use std::alloc::{AllocError, Global};
 use std::marker::Model;
 use volume_breaks::{Oplocks, PendingCalls, SpareList};
 use volume_rows::{Changes, FileRow, Need, StreamRow, WatchRow};
-use volume_tables::{HandleTable, LinkTable};
+use volume_tables::{HandleTable, LinkTable, SpaceTally};
 
 /// A volume: its case table and clients, its files, links, streams and handles, the locks, oplocks and
 /// watches of handles, its changes, the calls that are pending and those that have ended, and the limits of
-/// owners. It is always sound, and its queue holds the calls that wait for breaks and locks, each with those
-/// that are still there.
+/// owners. It is always sound, its queue holds the calls that wait for breaks and locks, each with those
+/// that are still there, and its tally of space has what the streams take.
 pub struct Volume {
     pub(crate) alloc: Global,
     pub(crate) table: UpcaseTable,
@@ -28,6 +29,8 @@ pub struct Volume {
     pub(crate) files: Table<FileRow>,
     pub(crate) links: LinkTable,
     pub(crate) streams: Table<StreamRow>,
+    // What owners are charged for the streams of their files, and how many clusters all streams take.
+    pub(crate) space: SpaceTally,
     pub(crate) handles: HandleTable,
     pub(crate) changes: Changes,
     pub(crate) ended: Series<EndOf>,
@@ -48,10 +51,11 @@ impl Model for Volume {
     ghost use Rattle.volume_breaks.specs.Calls.{AreHeld};
     ghost use Rattle.volume_state.specs.Held.{is_there};
     ghost use Rattle.volume_state.specs.Inside.{content_of, beside_of, spare_of};
+    ghost use Rattle.volume_state.specs.Tallied.{AreTallied};
 
     ghost view = { λ v. record { content = content_of v; beside = beside_of v; spare = spare_of v } };
 
-    ghost invariant = { λ v. IsSound (content_of v) × AreHeld (is_there v.oplocks.rows v.handles.locks) v.pending };
+    ghost invariant = { λ v. IsSound (content_of v) × AreHeld (is_there v.oplocks.rows v.handles.locks) v.pending × AreTallied v.files.rows (content_of v).streams v.space };
 }
 
 // One drop of the whole, so that a function that holds a volume has one step for it at each of its ends.
@@ -64,6 +68,7 @@ impl Drop for Volume {
             files: _,
             links: _,
             streams: _,
+            space: _,
             handles: _,
             changes: _,
             ended: _,
@@ -92,6 +97,7 @@ impl Volume {
         let Ok(_) = files.add(root()) else {
             unreachable!()
         };
+        let space = space_of_root(alloc)?;
         Ok(Volume {
             alloc,
             table,
@@ -99,6 +105,7 @@ impl Volume {
             files,
             links: LinkTable::new(alloc),
             streams: Table::new(alloc),
+            space,
             handles: HandleTable::new(alloc),
             changes: Changes::new(alloc),
             ended: Series::new(alloc),
@@ -133,6 +140,7 @@ impl Volume {
         self.pending.reserve(calls, blockers)?;
         self.watches.reserve(need.watches as usize)?;
         self.limits.reserve(need.limits as usize)?;
+        self.space.reserve(need.owners as usize)?;
         Ok(())
     }
 

@@ -2,3 +2,4 @@ pub mod LockLemmas
 pub mod PlaceLemmas
 pub mod RangeLemmas
 pub mod RoomLemmas
+pub mod SpaceLemmas

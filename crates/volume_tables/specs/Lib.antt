@@ -2,3 +2,4 @@ pub mod HandleTable
 pub mod LinkTable
 pub mod Ranges
 pub mod Rooms
+pub mod Space

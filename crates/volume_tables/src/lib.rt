@@ -1,6 +1,7 @@
 //! Tables of a volume in which room is promised apart: links, with room for more of them in each
 //! directory, and handles with the byte-range locks that they hold, with room for more locks on each
-//! stream. They know no volume; `volume_state` keeps its links and handles in them.
+//! stream; and a tally of the space that streams take, for each owner and in all. They know no volume;
+//! `volume_state` keeps its links, handles and tally in them.
 //!
 //! ```text
 //! links.reserve(dir, 1)?;                 // may be refused
@@ -10,16 +11,24 @@
 //! let lock = handles.add_lock(handle, at, count, true);
 //! handles.locks_of(stream);               // the ranges of one stream, in the order in which they were granted
 //! handles.remove(handle);                 // with its locks
+//!
+//! space.reserve(1)?;
+//! space.admit(owner);                     // takes no memory
+//! space.resize(owner, 0, 2);              // he is charged for two clusters more
+//! space.hand_over(owner, other, 2);       // another one, admitted too, is charged for them
+//! space.charge(other)                     // in bytes
 //! ```
 //!
 //! The locks stand once in one list, in the order in which they were granted, and once more in a table
 //! of ranges for each stream. That both hold the same is the table's invariant.
 //!
 //! - It asks that room was reserved and that numbers are left; `add_lock` asks that the handle has a
-//!   stream, and not whether the range conflicts with another.
+//!   stream, and not whether the range conflicts with another. A tally asks that owners are admitted, that
+//!   what goes was charged for, and that sums fit 64 bits.
 //! - Removing takes no memory, and leaves what was promised as it was.
 //! - Each call takes time linear in the rows or locks that it goes over, and in the directories or streams
-//!   to which room was ever promised. A stream's table stays once it has been made.
+//!   to which room was ever promised; one of a tally, time logarithmic in the owners, and linear where one is
+//!   admitted. A stream's table stays once it has been made, and so does an owner.
 #![tactic(auto)]
 
 mod handle_table;
@@ -27,7 +36,9 @@ mod link_table;
 mod lock_row;
 mod ranges;
 mod room_list;
+mod space;
 
 pub use handle_table::HandleTable;
 pub use link_table::LinkTable;
 pub use lock_row::LockRow;
+pub use space::SpaceTally;

@@ -1,9 +1,12 @@
 use Rattle.fsa_model.proofs.SoundLaws.{IsSound-with_file}
 use Rattle.volume_state.specs.Inside.{content_of}
-use Rattle.std.proofs.Common.{◌+◌}
+use Rattle.std.proofs.Common.{◌+◌, ap, subst}
 use Rattle.std.proofs.lemmas.Bool.{and_left}
 use Rattle.fsa_model.specs.Lookups.{is_stream_named}
+use Rattle.fsa_model.specs.Volume.{File}
+use Rattle.volume_tables.specs.Space.{Admits}
 use Rattle.volume_state.proofs.OpenLaws.{is_directory-push, next-not_root, next-unlinked, next-no_stream, number-none}
+use Rattle.volume_state.proofs.TallyLaws.{tallied-file_added}
 use Rattle.volume_state.proofs.volume.Volume.add_file.Goals as goal
 
 pub invariant_of-self : goal.invariant_of-self
@@ -11,6 +14,9 @@ invariant_of-self c = (
   (rw (c.in-Ok.ensures.rows, c.in-Ok.ensures.last)
       (IsSound-with_file (content_of c.self.inside) c.args.file c.self.invariant.0 (rw (← c.self.view_is) at c.requires.ids_left) c.requires.point)),
   c.self.invariant.1,
+  rw c.in-Ok.ensures.rows
+  (tallied-file_added c.self.inside.files.rows (content_of c.self.inside).streams c.self.inside.space c.admit.new.self (c.self.inside.files.last + 1, c.args.file)
+  c.self.invariant.0.tree.stream_files_live (subst (λ owner. Admits c.self.inside.space c.admit.new.self owner) (ap (λ (file : File). file.owner) c.file.view_is) c.admit.ensures) c.self.invariant.2),
 )
 
 pub returns-clause-not_root : goal.returns-clause-not_root

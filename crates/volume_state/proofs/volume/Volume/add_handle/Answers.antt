@@ -9,4 +9,5 @@ invariant_of-self c = (
       (rw (← c.self.view_is) at c.requires.ids_left) (rw (← c.self.view_is) at c.requires.living) (rw (← c.self.view_is) at c.requires.stream)
       (rw (← c.self.view_is) at c.requires.new) (rw (← c.self.view_is) at c.requires.client))),
   rw c.add.ensures.rows c.self.invariant.1,
+  c.self.invariant.2,
 )

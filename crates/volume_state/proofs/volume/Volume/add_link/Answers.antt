@@ -17,6 +17,7 @@ invariant_of-self c = (
       (rw (← c.self.view_is) at c.requires.unmarked) (rw (← c.self.view_is) at c.requires.file) c.requires.not_root
       (rw (← c.self.view_is) at c.requires.one_link) (rw (← c.self.view_is) at c.requires.new))),
   c.self.invariant.1,
+  c.self.invariant.2,
 )
 
 pub returns-clause-row : goal.returns-clause-row

@@ -4,6 +4,7 @@ use Rattle.volume_state.specs.Inside.{content_of}
 use Rattle.fsa_model.specs.Lookups.{is_stream_named}
 use Rattle.volume_state.proofs.OpenLaws.{number_of-push, units_noted-stream, dirs_noted-stream}
 use Rattle.volume_state.proofs.StreamLemmas.{row_of-before, rooms-same}
+use Rattle.volume_state.proofs.TallyLaws.{tallied-push}
 use Rattle.volume_state.proofs.volume.Volume.add_stream.Goals as goal
 
 pub invariant_of-self : goal.invariant_of-self
@@ -13,6 +14,7 @@ invariant_of-self c = (
       (rw (← c.self.view_is) at c.requires.ids_left) (rw (← c.self.view_is) at c.requires.file)
       (rw (← c.self.view_is) at c.requires.no_directory) (rw (← c.self.view_is) at c.requires.new))),
   c.self.invariant.1,
+  rw (c.in-Ok.ensures.rows, map-append) (tallied-push c.self.inside.files.rows (content_of c.self.inside).streams c.self.inside.space _ c.new-bytes.ensures.items c.self.invariant.2),
 )
 
 pub returns-clause-named : goal.returns-clause-named

@@ -8,4 +8,5 @@ invariant_of-self c = (
   rw c.answer.ensures (
       held-answered c.self.inside.oplocks.rows c.self.inside.handles.locks c.self.inside.pending c.release_breaks.new.pending c.args.handle c.in_both-kept.result c.args.turn c.self.inside.oplocks.last
       c.self.invariant.0.oplocks (rw c.as_slice-2.ensures at c.release_breaks.ensures.held) c.self.invariant.1),
+  c.self.invariant.2,
 )

@@ -45,6 +45,7 @@ invariant_of-self c =
       rw (c.await_breaks.ensures.waited, after) (
           c.break_chosen.ensures.held (is_there (with_breaks v c.args.handles c.args.class c.args.handle c.args.key).oplocks v.locks)
           (held-with_breaks v c.args.handles c.args.class c.args.handle c.args.key c.self.inside.pending c.self.invariant.0.oplocks c.self.invariant.0.blockers_given c.self.invariant.1)),
+      c.self.invariant.2,
     )
 
 pub returns-clause-content : goal.returns-clause-content

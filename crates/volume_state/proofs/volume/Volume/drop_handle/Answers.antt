@@ -11,4 +11,5 @@ invariant_of-self c = (
       held-without_handle c.self.inside.oplocks.rows c.self.inside.handles.locks c.self.inside.pending c.release_locks.new.pending c.release_breaks.new.pending c.args.handle
       c.self.inside.handles.last_lock c.self.inside.oplocks.last c.self.invariant.0.locks_numbered c.self.invariant.0.oplocks
       (rw c.locks.ensures.rows at c.release_locks.ensures.held) (rw c.as_slice.ensures at c.release_breaks.ensures.held) c.self.invariant.1),
+  c.self.invariant.2,
 )

@@ -1,10 +1,10 @@
-use Rattle.std.proofs.Common.{◌≡◌, false, true, Some, sym, subst, ◌∙◌, not, ◌==◌}
-use Rattle.fsa_types.specs.Rows.{row_of, without_row}
+use Rattle.std.proofs.Common.{◌≡◌, false, true, Some, sym, subst, ◌∙◌, not, ◌==◌, arith}
+use Rattle.fsa_types.specs.Rows.{lives, row_of, without_row}
 use Rattle.fsa_types.proofs.RowLemmas.{map-filter_seen}
 use Rattle.fsa_model.specs.Lookups.{has_row}
 use Rattle.fsa_model.specs.Sound.{IsSound}
 use Rattle.fsa_model.specs.Volume.{Link}
-use Rattle.fsa_model.proofs.RowLaws.{without_row-none}
+use Rattle.fsa_model.proofs.RowLaws.{found-all, without_row-none}
 use Rattle.fsa_model.proofs.SoundLaws.{IsSound-without_link, without_link-last, without_link-other}
 use Rattle.volume_state.specs.Inside.{content_of}
 use Rattle.volume_state.specs.Seen.{Seen}
@@ -12,6 +12,7 @@ use Rattle.volume_state.proofs.DropLaws.{StaysWithout-without_link, units_noted-
 use Rattle.std.proofs.Common.{◌≡◌}
 use Rattle.fsa_types.proofs.RowLemmas.{lives-map}
 use Rattle.volume_state.proofs.StreamLemmas.{row_of-filter, rooms-same, AreRising-seen}
+use Rattle.volume_state.proofs.TallyLaws.{clusters-few, may-resize_file, tallied-without_file}
 use Rattle.volume_state.proofs.volume.Volume.drop_link.Goals as goal
 
 -- nothing is taken out
@@ -20,6 +21,7 @@ invariant_of-self c = (
   (let none = sym c.in_default.ensures.row in
       rw (c.in_default.ensures.rows, c.in_default.ensures.last, without_row-none c.self.inside.links.rows c.args.link none) c.self.invariant.0),
   c.self.invariant.1,
+  c.self.invariant.2,
 )
 
 pub returns-in_default-clause-content : goal.returns-in_default-clause-content
@@ -64,7 +66,28 @@ invariant_of-self-then-not-has_link c = (
       (subst IsSound (without_link-last (content_of c.self.inside) c.args.link row found linked)
       (IsSound-without_link (content_of c.self.inside) c.args.link c.self.invariant.0 (rw (← c.self.view_is) at c.requires.empty) (rw (← c.self.view_is) at c.requires.unopened)))),
   c.self.invariant.1,
+  (let row : Link = record { parent = c.row.inside.parent; name = c.row.inside.name; file = c.row.inside.file; deleted = c.row.inside.deleted } in
+      let found : row_of c.self.inside.links.rows c.args.link ≡ Some row = sym (rw (← c.row.view_is) at c.in-Some.ensures.row) in
+      let living : lives c.self.inside.files.rows c.row.inside.file ≡ true
+      = rw found at (found-all (λ (link : Link). lives c.self.inside.files.rows link.file ≡ true) c.self.inside.links.rows c.args.link c.self.invariant.0.tree.link_files_live) in
+      rw (c.remove-then-not-has_link.ensures.rows, c.drop_streams_of.ensures.rows, map-filter_seen (λ kept. kept.stream) (λ e. not (e.1.file == c.row.inside.file)) c.self.inside.streams.rows)
+      (tallied-without_file c.self.inside.files.rows (content_of c.self.inside).streams c.self.inside.space c.resize.new.space c.row.inside.file 0 c.self.invariant.2
+      (rw c.part_of_file-part.ensures at c.resize.ensures.some) living)),
 )
+
+pub part_of_file-part-requires : goal.part_of_file-part-requires
+part_of_file-part-requires c =
+    let sound = c.self.invariant.0 in
+    let v = content_of c.self.inside in
+    let few = clusters-few v.files v.streams v.last_stream sound.streams_numbered sound.bounded.streams sound.streams_fit in
+    omega arith
+
+pub resize-requires : goal.resize-requires
+resize-requires c =
+    let sound = c.self.invariant.0 in
+    let v = content_of c.self.inside in
+    rw c.part_of_file-part.ensures
+    (may-resize_file v.files v.streams v.last_stream c.self.inside.space sound.streams_numbered sound.bounded.streams sound.streams_fit sound.tree.stream_files_live c.self.invariant.2 c.row.inside.file)
 
 -- another link
 pub invariant_of-self-else-not-has_link : goal.invariant_of-self-else-not-has_link
@@ -77,6 +100,7 @@ invariant_of-self-else-not-has_link c = (
       (subst IsSound (without_link-other (content_of c.self.inside) c.args.link row found linked)
       (IsSound-without_link (content_of c.self.inside) c.args.link c.self.invariant.0 (rw (← c.self.view_is) at c.requires.empty) (rw (← c.self.view_is) at c.requires.unopened)))),
   c.self.invariant.1,
+  c.self.invariant.2,
 )
 
 pub returns-clause-content : goal.returns-clause-content

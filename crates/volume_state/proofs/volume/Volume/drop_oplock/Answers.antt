@@ -9,4 +9,5 @@ invariant_of-self c = (
   rw c.drop_of.ensures (
       held-without_oplock c.self.inside.oplocks.rows c.self.inside.handles.locks c.self.inside.pending c.release_breaks.new.pending c.args.handle c.self.inside.oplocks.last
       c.self.invariant.0.oplocks (rw c.as_slice.ensures at c.release_breaks.ensures.held) c.self.invariant.1),
+  c.self.invariant.2,
 )

@@ -38,6 +38,7 @@ invariant_of-self c =
           c.switch_chosen.ensures.held (is_there (with_granted v opened.handle opened.key opened.stream c.args.level c.args.turn).oplocks v.locks)
           (held-granted v opened.handle opened.key opened.stream c.args.level c.args.turn c.self.inside.pending
           (none-breaking v opened.handle opened.key opened.stream c.args.level free) c.self.invariant.1)),
+      c.self.invariant.2,
     )
 
 pub returns-clause-content : goal.returns-clause-content

@@ -5,6 +5,7 @@ use Rattle.fsa_model.specs.Volume.{Stream}
 use Rattle.volume_state.specs.Inside.{content_of}
 use Rattle.volume_rows.specs.Streams.{Kept}
 use Rattle.volume_state.proofs.MarkLaws.{units_noted-stream_marked, dirs_noted-stream_marked}
+use Rattle.volume_state.proofs.TallyLaws.{tallied-unseen}
 use Rattle.volume_state.proofs.volume.Volume.mark_stream.Goals as goal
 
 pub invariant_of-self : goal.invariant_of-self
@@ -14,6 +15,10 @@ invariant_of-self c = (
       rw (c.mark_stream.ensures.rows, c.mark_stream.ensures.last, map-change (λ kept. kept.stream) change seen c.self.inside.streams.rows c.args.stream (λ row. refl))
       (IsSound-stream_changed (content_of c.self.inside) seen c.args.stream c.self.invariant.0 (λ row. refl) (λ row. refl) (λ row fits. fits))),
   c.self.invariant.1,
+  (let change : Kept → Kept = λ row. record row { stream = record row.stream { deleted = c.args.deleted } } in
+      let seen : Stream → Stream = λ row. record row { deleted = c.args.deleted } in
+      rw (c.mark_stream.ensures.rows, map-change (λ kept. kept.stream) change seen c.self.inside.streams.rows c.args.stream (λ row. refl))
+      (tallied-unseen c.self.inside.files.rows (content_of c.self.inside).streams c.self.inside.space c.args.stream seen c.self.invariant.0.streams_numbered.rising (λ row. refl) (λ row. refl) c.self.invariant.2)),
 )
 
 pub returns-clause-content : goal.returns-clause-content

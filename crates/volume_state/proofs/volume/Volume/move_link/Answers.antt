@@ -10,6 +10,7 @@ invariant_of-self c = (
       (rw (← c.self.view_is) at c.requires.parent) (rw (← c.self.view_is) at c.requires.leads)
       (rw (← c.self.view_is) at c.requires.unmarked) (rw (← c.self.view_is) at c.requires.not_below) (rw (← c.self.view_is) at c.requires.free))),
   c.self.invariant.1,
+  c.self.invariant.2,
 )
 
 pub returns-clause-units : goal.returns-clause-units

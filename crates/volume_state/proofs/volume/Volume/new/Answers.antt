@@ -1,5 +1,8 @@
-use Rattle.std.proofs.Common.{◌<◌, false, length, refl}
-use Rattle.std.proofs.lemmas.List.Elements.{All-map}
+use Rattle.std.proofs.Common.{ℕ, ◌<◌, [], false, length, refl}
+use Rattle.std.specs.Prelude.{IsSome}
+use Rattle.std.proofs.lemmas.List.Elements.{All-cons, All-map, All-nil}
+use Rattle.fsa_types.specs.Rows.{row_of}
+use Rattle.fsa_model.specs.Volume.{File, root}
 use Rattle.std.proofs.lemmas.Simd.{map-map}
 use Rattle.fsa_model.specs.Setup.{Client, client_of, setup_of}
 use Rattle.fsa_model.proofs.SoundLaws.{IsSound-fresh}
@@ -36,6 +39,20 @@ invariant_of-result c = (
   )
       (IsSound-fresh (setup_of c.args.setup) (All-map (λ client. 0 < length client.sids) client_of c.args.setup.clients.items c.requires.sids))),
   rw (c.new-7.ensures.items, c.new-7.ensures.held) refl,
+  rw (
+    c.in-Ok.ensures.rows,
+    c.in_ok-reserve.ensures.rows,
+    c.in_ok-reserve.ensures.last,
+    c.new-files.ensures.rows,
+    c.new-files.ensures.last,
+    c.root.ensures,
+    c.new-2.ensures.rows,
+  )
+  (record {
+    charges = λ owner. c.in_ok-space.ensures.charges owner;
+    clusters = c.in_ok-space.ensures.clusters;
+    owners = All-cons (λ (entry : ℕ × File). IsSome (row_of c.in_ok-space.space.sums entry.1.owner)) (1, root) [] c.in_ok-space.ensures.owner (All-nil _);
+  }),
 )
 
 pub returns-clause-content : goal.returns-clause-content

@@ -14,4 +14,5 @@ invariant_of-self c =
           (none-all _ v.pending (rw (← c.self.view_is) at c.requires.new_call)) (none-all _ v.pending (rw (← c.self.view_is) at c.requires.new_turn))
           (all-given v c.args.blockers.items c.self.invariant.0 living)),
       c.pend.ensures.held (is_there v.oplocks v.locks) c.self.invariant.1 (all-there v c.args.blockers.items living),
+      c.self.invariant.2,
     )

@@ -1,4 +1,3 @@
-use Rattle.std.proofs.Common.{arith}
 use Rattle.volume_state.proofs.volume.Volume.reserve.Goals as goal
 
 pub returns-clause-room : goal.returns-clause-room
@@ -7,7 +6,7 @@ returns-clause-room c = record {
   links = c.in_ok-reserve-2.ensures.room;
   streams = c.in_ok-reserve-3.ensures.room;
   handles = rw c.in_ok-reserve_locks.ensures.rows c.in_ok-reserve-4.ensures.room;
-  owners = omega arith;
+  owners = c.in_ok-reserve-11.ensures.room;
   locks = λ stream is. c.in_ok-reserve_locks.ensures.room stream (rw c.in_ok-reserve_locks.ensures.rows at is);
   oplocks = λ stream is. c.in_ok-reserve-7.ensures.room;
   watches = c.in_ok-reserve-9.ensures.room;

@@ -9,6 +9,13 @@ use Rattle.volume_state.proofs.volume.Volume.reserve_bytes.Goals as goal
 pub reserve_in-requires : goal.reserve_in-requires
 reserve_in-requires c = sym (lives-map (λ kept. kept.stream) c.self.inside.streams.rows c.args.stream) ∙ (rw (← c.self.view_is) at c.requires.lives)
 
+pub invariant_of-self : goal.invariant_of-self
+invariant_of-self c = (
+  rw (c.reserve_in.ensures.rows, c.reserve_in.ensures.last) c.self.invariant.0,
+  c.self.invariant.1,
+  rw c.reserve_in.ensures.rows c.self.invariant.2,
+)
+
 pub returns-clause-room : goal.returns-clause-room
 returns-clause-room c =
     OnOk-weaker _ _ c.reserve_in.result

@@ -1,6 +1,7 @@
 use Rattle.std.proofs.Common.{refl}
 use Rattle.fsa_model.proofs.SoundLaws.{IsSound-file_changed}
 use Rattle.volume_state.specs.Inside.{content_of}
+use Rattle.volume_state.proofs.TallyLaws.{tallied-file_changed}
 use Rattle.volume_state.proofs.volume.Volume.set_basic.Goals as goal
 
 pub invariant_of-self : goal.invariant_of-self
@@ -10,4 +11,6 @@ invariant_of-self c = (
       (λ row. record row { creation = c.args.creation; access = c.args.access; write = c.args.write; change = c.args.change; attributes = c.args.attributes })
       c.args.file c.self.invariant.0 (λ row. refl) (λ row fits. fits))),
   c.self.invariant.1,
+  rw c.set_basic.ensures.rows
+  (tallied-file_changed c.self.inside.files.rows (content_of c.self.inside).streams c.self.inside.space c.args.file (λ row. record row { creation = c.args.creation; access = c.args.access; write = c.args.write; change = c.args.change; attributes = c.args.attributes }) (λ row. refl) c.self.invariant.2),
 )

@@ -7,4 +7,5 @@ pub invariant_of-self : goal.invariant_of-self
 invariant_of-self c = (
   rw (c.set_enumeration.ensures, c.new.ensures) (IsSound-with_cursor (content_of c.self.inside) c.args.handle c.args.expression (cursor_of c.args.cursor) c.self.invariant.0),
   rw c.set_enumeration.ensures c.self.invariant.1,
+  c.self.invariant.2,
 )

@@ -6,4 +6,5 @@ pub invariant_of-self : goal.invariant_of-self
 invariant_of-self c = (
   rw c.put_limit.ensures.items (IsSound-with_limit (content_of c.self.inside) c.args.sid c.args.limit c.self.invariant.0),
   c.self.invariant.1,
+  c.self.invariant.2,
 )

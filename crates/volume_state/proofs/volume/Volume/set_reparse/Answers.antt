@@ -1,6 +1,7 @@
 use Rattle.std.proofs.Common.{refl}
 use Rattle.fsa_model.proofs.SoundLaws.{IsSound-file_changed}
 use Rattle.volume_state.specs.Inside.{content_of}
+use Rattle.volume_state.proofs.TallyLaws.{tallied-file_changed}
 use Rattle.volume_state.proofs.volume.Volume.set_reparse.Goals as goal
 
 pub invariant_of-self : goal.invariant_of-self
@@ -8,4 +9,6 @@ invariant_of-self c = (
   (rw (c.set_point.ensures.rows, c.set_point.ensures.last)
       (IsSound-file_changed (content_of c.self.inside) (λ row. record row { point = c.args.point }) c.args.file c.self.invariant.0 (λ row. refl) (λ row fits. c.requires.few))),
   c.self.invariant.1,
+  rw c.set_point.ensures.rows
+  (tallied-file_changed c.self.inside.files.rows (content_of c.self.inside).streams c.self.inside.space c.args.file (λ row. record row { point = c.args.point }) (λ row. refl) c.self.invariant.2),
 )

@@ -11,4 +11,5 @@ invariant_of-self c =
           (IsSound-with_watch (content_of c.self.inside) c.args.handle c.args.filter c.args.tree _ c.self.invariant.0
           (rw (← c.self.view_is) at c.requires.living) (none-passes (λ watch. watch.handle == c.args.handle) c.self.inside.watches.items new)),
       c.self.invariant.1,
+      c.self.invariant.2,
     )

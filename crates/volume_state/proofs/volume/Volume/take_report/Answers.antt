@@ -6,4 +6,5 @@ pub invariant_of-self : goal.invariant_of-self
 invariant_of-self c = (
   rw (c.begin_at.ensures.items, c.len-place.ensures, c.log.ensures) (IsSound-with_watch_seen (content_of c.self.inside) c.args.handle c.self.invariant.0),
   c.self.invariant.1,
+  c.self.invariant.2,
 )
