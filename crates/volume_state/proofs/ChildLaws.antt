@@ -1,5 +1,5 @@
 -- The links of a directory in the order of their names, taken one after the other.
-use Rattle.std.proofs.Common.{◌≡◌, ℕ, zero, suc, ◌+◌, ◌<◌, Bool, true, false, List, [], ◌∷◌, get_or, refl, ap, sym, subst, ◌∙◌, arith, inl, inr, ◌⊎◌, Option, Some, None, cond}
+use Rattle.std.proofs.Common.{◌≡◌, ℕ, zero, suc, Bool, true, false, List, [], ◌∷◌, get_or, refl, ap, sym, subst, ◌∙◌, arith, inl, inr, ◌⊎◌, Option, Some, None, cond}
 use Rattle.std.specs.List.{All, AllPairs, filter}
 use Rattle.std.specs.Ordering.{is_eq, is_lt, ordering_reverse}
 use Rattle.std.specs.Cmp.Lexicographic.{texts_ties}

@@ -14,7 +14,7 @@ use Rattle.fsa_model.specs.Volume.{File, Link, Stream, Volume}
 use Rattle.fsa_model.proofs.ReplacementLaws.{directory-without, files-without, leads-without, links_without, no_directory-without, others-without, table_without, unmarked-without, unnamed-without}
 use Rattle.fsa_model.proofs.RowLaws.{any-filter_none, find-all, lives-found, option_cases, row_of-all}
 use Rattle.fsa_model.proofs.SoundLaws.{without_link-last, without_link-other}
-use Rattle.volume_state.specs.Living.{CanHold, StaysWithout}
+use Rattle.volume_state.specs.Living.{StaysWithout}
 use Rattle.volume_state.specs.Paths.{units_above, dirs_above}
 use Rattle.volume_state.proofs.OpenLaws.{find-no, number-lives, number-none, units_noted-found, dirs_noted-found}
 

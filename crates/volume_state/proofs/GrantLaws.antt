@@ -1,14 +1,14 @@
 -- A grant of an oplock and an answer to a break leave a volume sound, and what calls wait for.
-use Rattle.std.proofs.Common.{◌≡◌, ℕ, zero, suc, ◌<◌, ◌≤◌, Bool, true, false, not, List, [], ◌∷◌, ◌++◌, length, get_or, refl, ap, sym, subst, ◌∙◌, arith, inl, inr, ◌⊎◌, Option, Some, None}
-use Rattle.std.specs.List.{filter, list_any, All, AllPairs}
-use Rattle.std.specs.Option.{option_map_or, option_and_then}
-use Rattle.std.specs.Prelude.{◌==◌, ◌&&◌, ◌||◌, fold, is_some, map, if◌then◌else◌}
-use Rattle.std.proofs.lemmas.Bool.{cases_Bool, eq-eqb, eqb-true, and_parts, both_ways}
+use Rattle.std.proofs.Common.{◌≡◌, ℕ, zero, suc, ◌≤◌, Bool, true, false, not, List, [], ◌∷◌, length, get_or, refl, ap, sym, subst, ◌∙◌, arith, inl, inr, ◌⊎◌, Option, Some, None}
+use Rattle.std.specs.List.{list_any, All}
+use Rattle.std.specs.Option.{option_map_or}
+use Rattle.std.specs.Prelude.{◌==◌, ◌&&◌, ◌||◌, map}
+use Rattle.std.proofs.lemmas.Bool.{cases_Bool, eq-eqb, eqb-true, both_ways}
 use Rattle.std.proofs.lemmas.List.Elements.{All-filter, All-map, All-push}
-use Rattle.std.proofs.lemmas.List.Folds.{list_any-append, list_any_none}
+use Rattle.std.proofs.lemmas.List.Folds.{list_any-append}
 use Rattle.fsa_types.proofs.OplockLemmas.{AreOplocks-push}
 use Rattle.fsa_types.proofs.RowLemmas.{length-filter_le}
-use Rattle.fsa_types.specs.OplockGrants.{after_answer, after_switches, as_answered, as_granted, switched_among}
+use Rattle.fsa_types.specs.OplockGrants.{after_answer, after_switches, as_answered, as_granted}
 use Rattle.fsa_types.specs.OplockLists.{AreOplocks, without_oplock_of}
 use Rattle.fsa_types.specs.Oplocks.{has_read}
 use Rattle.fsa_types.specs.Rows.{row_of}
@@ -17,7 +17,7 @@ use Rattle.fsa_types.specs.declared.reply.Blocker.TheVariants.{Break, Lock as Lo
 use Rattle.fsa_types.specs.declared.request.Level.{Level}
 use Rattle.fsa_types.specs.declared.status.Status.{Status}
 use Rattle.fsa_types.specs.declared.status.Status.TheVariants.{OplockSwitchedToNewHandle}
-use Rattle.fsa_model.specs.Edits.{with_end, without_oplock}
+use Rattle.fsa_model.specs.Edits.{without_oplock}
 use Rattle.fsa_model.specs.Grant.{is_breaking_on, is_not_granted, is_of_key, is_oplock_on, switched, with_all_switched, with_answer, with_call_ended, with_granted, with_oplock, with_switched}
 use Rattle.fsa_model.specs.Lookups.{is_open_on}
 use Rattle.fsa_model.specs.Sound.{IsSound, has_its_key}

@@ -1,5 +1,5 @@
 -- A link that moves: what a note of it takes then was told for the directory that it goes to.
-use Rattle.std.proofs.Common.{◌≡◌, ℕ, zero, suc, ◌≤◌, ◌+◌, true, false, List, length, refl, ap, ◌∙◌, arith, inl, inr, Option, Some, None}
+use Rattle.std.proofs.Common.{◌≡◌, ℕ, zero, suc, ◌≤◌, ◌+◌, true, false, List, length, refl, ap, ◌∙◌, arith, inl, inr, Option, Some}
 use Rattle.std.specs.List.{find}
 use Rattle.std.specs.Prelude.{◌==◌, ◌&&◌}
 use Rattle.std.proofs.lemmas.List.{length-map}

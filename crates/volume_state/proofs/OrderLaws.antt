@@ -1,6 +1,6 @@
 -- Streams in the order of their names: what comes after a name, and that a walk from name to name meets each stream once.
 use Rattle.std.proofs.Common.{◌≡◌, ◌∙◌, ℕ, suc, ◌+◌, ◌-◌, ◌<◌, ◌≤◌, Bool, true, false, List, [], ◌∷◌, Option, Some, None, drop, get_or, length, refl, sym, ap, subst, inl, inr, ◌⊎◌, arith}
-use Rattle.std.specs.Prelude.{◌==◌, ◌&&◌, not, filter, find, map, option_map, slice_get, if◌then◌else◌, All, AllPairs, IfSome, IfNone}
+use Rattle.std.specs.Prelude.{◌==◌, ◌&&◌, not, filter, find, map, option_map, slice_get, All, AllPairs, IfSome, IfNone}
 use Rattle.std.specs.Option.{option_map_or}
 use Rattle.std.specs.Ordering.{is_lt, is_eq, ordering_reverse}
 use Rattle.std.specs.declared.cmp.Ordering.{Ordering}

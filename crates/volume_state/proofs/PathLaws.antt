@@ -1,15 +1,13 @@
 -- Paths: what is noted of a link is as long as its name and what stands above it, and a link more
 -- leaves what stands above.
-use Rattle.std.proofs.Common.{◌≡◌, ℕ, zero, suc, ◌+◌, ◌-◌, ◌≤◌, true, false, not, List, [], ◌∷◌, ◌++◌, length, get_or, refl, ap, sym, ◌∙◌, arith, inl, inr, Some, None, length-append}
-use Rattle.std.specs.List.{filter}
+use Rattle.std.proofs.Common.{◌≡◌, ℕ, zero, suc, ◌+◌, ◌-◌, ◌≤◌, true, false, List, ◌∷◌, ◌++◌, length, refl, ap, ◌∙◌, arith, inl, inr, Some, None, length-append}
 use Rattle.std.specs.Prelude.{◌==◌}
-use Rattle.std.proofs.lemmas.Bool.{cases_Bool, eqb-true, both_ways}
+use Rattle.std.proofs.lemmas.Bool.{cases_Bool, eqb-true}
 use Rattle.std.proofs.lemmas.List.Folds.{find-append}
-use Rattle.fsa_types.proofs.RowLemmas.{length-filter_le}
 use Rattle.fsa_model.specs.Changes.{ancestors, path_units}
 use Rattle.fsa_model.specs.Lookups.{link_of_file, leads_to}
 use Rattle.fsa_model.specs.Volume.{Link}
-use Rattle.fsa_model.proofs.RowLaws.{option_cases, find-filter}
+use Rattle.fsa_model.proofs.RowLaws.{option_cases}
 use Rattle.volume_state.specs.Paths.{units_above, dirs_above}
 
 -- how long what is noted of a name is

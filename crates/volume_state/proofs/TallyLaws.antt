@@ -1,5 +1,5 @@
 -- The tally of what streams take stays right where files and streams change, and its sums fit.
-use Rattle.std.proofs.Common.{◌≡◌, ℕ, Bool, true, false, ◌+◌, ◌*◌, ◌-◌, ◌^◌, ◌≤◌, ◌<◌, ◌==◌, not, List, [], ◌∷◌, ◌++◌, length, get_or, refl, ap, sym, subst, ◌∙◌, arith, inl, inr, Option, Some, None}
+use Rattle.std.proofs.Common.{◌≡◌, ℕ, Bool, true, false, ◌+◌, ◌*◌, ◌-◌, ◌^◌, ◌≤◌, ◌<◌, ◌==◌, not, List, [], ◌∷◌, ◌++◌, length, get_or, refl, ap, sym, subst, ◌∙◌, arith, inl, inr, Option, Some}
 use Rattle.std.specs.List.{All, filter, sum_by}
 use Rattle.std.specs.Prelude.{IfSome, IfNone, IsSome, IsTrue, if◌then◌else◌}
 use Rattle.std.specs.Option.{option_map_or}
@@ -17,7 +17,7 @@ use Rattle.volume_state.specs.Tallied.{AreTallied, charged, clusters_at, cluster
 use Rattle.volume_state.proofs.StreamLemmas.{row_of-other}
 use Rattle.volume_state.proofs.SumLemmas.{row_of-change_here, sum-changed, sum-filtered, sum-same, sum-scaled, sum-without, sum-zero}
 use Rattle.volume_tables.specs.Space.{Admits, HandsOver, MayResize, Resizes, Space, share}
-use Rattle.volume_tables.proofs.PlaceLemmas.{row_of-append, row_of-gone, row_of-without}
+use Rattle.volume_tables.proofs.PlaceLemmas.{row_of-append, row_of-without}
 use Rattle.volume_tables.proofs.SpaceLemmas.{share-none}
 
 -- ---- what a stream is to a charge
@@ -228,7 +228,6 @@ clusters_at-few streams id change small stays = elim (option_cases (row_of strea
       rw (row_of-change_here change streams id some.0 some.1) (omega arith))
 ]
 
-
 module _ (files : List (ℕ × File)) (streams : List (ℕ × Stream)) (old new : Space) (id : ℕ) (rising : AreRising streams) (live : All (λ entry. IsTrue (lives files entry.1.file)) streams) (tallied : AreTallied files streams old) where
   pub tallied-changed : (change : Stream → Stream) → ((row : Stream) → (change row).file ≡ row.file)
       → IfSome (part_of_stream files streams id) (λ p. Resizes old new p.0 p.1 (clusters_at (with_row_changed change streams id) id)) → IfNone (part_of_stream files streams id) (new ≡ old)
@@ -242,7 +241,7 @@ module _ (files : List (ℕ × File)) (streams : List (ℕ × Stream)) (old new 
         let after = clusters_for (length (change row).bytes) in
         let now : clusters_at (with_row_changed change streams id) id ≡ after = rw (row_of-change_here change streams id row some.1) refl in
         let resized : Resizes old new file.owner (taken (id, row)) after =
-            subst (λ n. Resizes old new file.owner (taken (id, row)) n) now (rw (part-stream files streams id row file some.1 there.1) at some_resized) in
+        subst (λ n. Resizes old new file.owner (taken (id, row)) n) now (rw (part-stream files streams id row file some.1 there.1) at some_resized) in
         record {
           charges = λ owner. (
               let moved = resized.charges owner in
@@ -341,7 +340,7 @@ tallied-file_changed files streams space id change same tallied = record {
   charges = λ owner. tallied.charges owner ∙ sym (charged-same files (with_row_changed change files id) streams owner (λ k d within. is_owned-changed change same files id owner _));
   clusters = tallied.clusters;
   owners = All-map (λ (entry : ℕ × File). IsSome (row_of space.sums entry.1.owner)) (change_at change id) files
-  (λ k d within. subst (λ o. IsSome (row_of space.sums o)) (sym (change_at-same change id (λ (row : File). row.owner) same (get_or files k d))) (tallied.owners k d within));
+      (λ k d within. subst (λ o. IsSome (row_of space.sums o)) (sym (change_at-same change id (λ (row : File). row.owner) same (get_or files k d))) (tallied.owners k d within));
 }
 
 -- a file more, whose owner is there
@@ -349,12 +348,12 @@ pub tallied-file_added : (files : List (ℕ × File)) (streams : List (ℕ × St
     → AreTallied files streams old → AreTallied (files ++ entry ∷ []) streams new
 tallied-file_added files streams old new entry live admitted tallied = record {
   charges = λ owner. admitted.charges owner ∙ tallied.charges owner
-  ∙ sym (charged-same files (files ++ entry ∷ []) streams owner
-  (λ k d within. ap (λ (row : Option File). option_map_or (λ file. file.owner == owner) row false) (row_of-append files (entry ∷ []) _ (live k d within))));
+      ∙ sym (charged-same files (files ++ entry ∷ []) streams owner
+      (λ k d within. ap (λ (row : Option File). option_map_or (λ file. file.owner == owner) row false) (row_of-append files (entry ∷ []) _ (live k d within))));
   clusters = admitted.clusters ∙ tallied.clusters;
   owners = All-append (λ (e : ℕ × File). IsSome (row_of new.sums e.1.owner)) files (entry ∷ [])
-  (λ k d within. admitted.there _ (tallied.owners k d within))
-  (All-cons (λ (e : ℕ × File). IsSome (row_of new.sums e.1.owner)) entry [] admitted.here (λ k d within. absurd (omega arith)));
+      (λ k d within. admitted.there _ (tallied.owners k d within))
+      (All-cons (λ (e : ℕ × File). IsSome (row_of new.sums e.1.owner)) entry [] admitted.here (λ k d within. absurd (omega arith)));
 }
 
 -- where the owners are admitted all stays right
@@ -388,10 +387,10 @@ module _ (files : List (ℕ × File)) (streams : List (ℕ × Stream)) (old new 
               omega arith);
           clusters = handed.clusters ∙ tallied.clusters;
           owners = All-map (λ (entry : ℕ × File). IsSome (row_of new.sums entry.1.owner)) (change_at owned id) files
-          (λ k d within. elim (cases_Bool ((get_or files k d).0 == id)) [
-            | inl here ↦ rw here (handed.there to admitted)
-            | inr other ↦ rw other (handed.there _ (tallied.owners k d within))
-          ]);
+              (λ k d within. elim (cases_Bool ((get_or files k d).0 == id)) [
+                | inl here ↦ rw here (handed.there to admitted)
+                | inr other ↦ rw other (handed.there _ (tallied.owners k d within))
+              ]);
         })
   ]
 

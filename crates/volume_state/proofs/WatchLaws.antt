@@ -1,5 +1,5 @@
 -- Watches: a volume stays sound where one of them has reported; and what is answered for a report.
-use Rattle.std.proofs.Common.{◌≡◌, ℕ, Bool, true, false, cond, List, [], ◌∷◌, length, get_or, refl, inl, inr, Some, None}
+use Rattle.std.proofs.Common.{◌≡◌, ℕ, Bool, true, false, List, [], ◌∷◌, length, get_or, refl, inl, inr, Some, None}
 use Rattle.std.specs.Prelude.{◌==◌, find, nat_le, All}
 use Rattle.std.proofs.lemmas.Bool.{cases_Bool}
 use Rattle.std.proofs.lemmas.List.Elements.{All-cons, All-map, All-nil}

@@ -1,7 +1,6 @@
 -- The tables of streams, where one of them changes.
-use Rattle.std.proofs.Common.{◌≡◌, ℕ, ◌+◌, ◌≤◌, true, false, List, ◌++◌, ◌∷◌, [], refl, ap, ◌∙◌, sym, arith, inl, inr, Some, None}
-use Rattle.std.specs.Prelude.{◌==◌, option_map}
-use Rattle.std.specs.Option.{option_map_or}
+use Rattle.std.proofs.Common.{◌≡◌, ℕ, ◌≤◌, false, List, [], refl, ◌∙◌, arith, inl, inr, Some, None}
+use Rattle.std.specs.Prelude.{◌==◌}
 use Rattle.std.proofs.lemmas.Bool.{cases_Bool, eqb-true}
 use Rattle.fsa_types.specs.Rows.{row_of}
 use Rattle.range_locks.specs.RangeTable.{Ranges}

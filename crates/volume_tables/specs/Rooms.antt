@@ -1,5 +1,5 @@
 -- Room for more items that was promised apart: to each directory or stream its own.
-use Rattle.std.specs.Prelude.{◌≡◌, ℕ, List, [], ◌∷◌, ◌+◌, ◌≤◌, ◌==◌, false}
+use Rattle.std.specs.Prelude.{◌≡◌, ℕ, List, [], ◌∷◌, ◌+◌, ◌==◌, false}
 use Rattle.std.specs.Option.{option_map_or}
 use Rattle.fsa_types.specs.Rows.{row_of}
 

@@ -1,13 +1,8 @@
-use Rattle.std.proofs.Common.{sym, ◌∙◌, ◌≡◌, ap, refl, arith, ℕ, ◌≤◌, ◌+◌, ◌++◌, ◌∷◌, [], false, true, not, filter, Some, get_or}
-use Rattle.std.specs.Prelude.{◌==◌}
+use Rattle.std.proofs.Common.{sym, ◌∙◌, ◌≡◌, ap, arith, ◌++◌, ◌∷◌, [], false, true, get_or}
 use Rattle.std.proofs.Math.ListN.{set}
-use Rattle.fsa_types.specs.Rows.{row_of}
-use Rattle.fsa_types.specs.Ranges.{without_first}
 use Rattle.fsa_types.proofs.RowLemmas.{row_of-none}
-use Rattle.range_locks.specs.RangeTable.{is_of, is_range}
-use Rattle.volume_tables.specs.Ranges.{ranges_in, room_at}
-use Rattle.volume_tables.proofs.PlaceLemmas.{IsPut, IsFirst-position, row_of-first, put-first, push-last}
-use Rattle.volume_tables.proofs.RangeLemmas.{ranges_in-some, ranges_in-none, room_at-some, room_at-none, AreSetIn-put, room_at-other, kept-put, KeepsRanges-put}
+use Rattle.volume_tables.proofs.PlaceLemmas.{IsFirst-position, row_of-first, put-first}
+use Rattle.volume_tables.proofs.RangeLemmas.{ranges_in-some, room_at-some, room_at-none, AreSetIn-put, room_at-other}
 use Rattle.volume_tables.proofs.ranges.insert.Goals as goal
 
 pub unreachable-requires : goal.unreachable-requires

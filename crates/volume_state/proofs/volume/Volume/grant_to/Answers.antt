@@ -1,8 +1,8 @@
-use Rattle.std.proofs.Common.{◌≡◌, ◌∙◌, ◌∷◌, ◌++◌, [], List, Some, sym, ap, subst}
+use Rattle.std.proofs.Common.{◌≡◌, ◌∙◌, ◌∷◌, ◌++◌, [], Some, sym, ap, subst}
 use Rattle.fsa_types.specs.OplockGrants.{after_switches, as_granted}
 use Rattle.fsa_model.specs.Grant.{switched, with_all_switched, with_granted, with_oplock}
 use Rattle.fsa_model.specs.Sound.{IsSound}
-use Rattle.fsa_model.specs.Volume.{Oplock, Volume}
+use Rattle.fsa_model.specs.Volume.{Volume}
 use Rattle.volume_breaks.specs.Breaks.{with_held}
 use Rattle.volume_breaks.specs.Oplocks.{Held}
 use Rattle.volume_state.specs.Held.{is_there}

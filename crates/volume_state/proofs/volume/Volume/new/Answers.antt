@@ -48,11 +48,11 @@ invariant_of-result c = (
     c.root.ensures,
     c.new-2.ensures.rows,
   )
-  (record {
-    charges = λ owner. c.in_ok-space.ensures.charges owner;
-    clusters = c.in_ok-space.ensures.clusters;
-    owners = All-cons (λ (entry : ℕ × File). IsSome (row_of c.in_ok-space.space.sums entry.1.owner)) (1, root) [] c.in_ok-space.ensures.owner (All-nil _);
-  }),
+      (record {
+        charges = λ owner. c.in_ok-space.ensures.charges owner;
+        clusters = c.in_ok-space.ensures.clusters;
+        owners = All-cons (λ (entry : ℕ × File). IsSome (row_of c.in_ok-space.space.sums entry.1.owner)) (1, root) [] c.in_ok-space.ensures.owner (All-nil _);
+      }),
 )
 
 pub returns-clause-content : goal.returns-clause-content

@@ -32,9 +32,9 @@ invariant_of-self c = (
       (λ row. refl) (λ row. refl) (λ row fits. length-put_le row.bytes c.args.at c.args.bytes.now _ fits c.requires.fits))),
   c.self.invariant.1,
   rw c.put_in.ensures.rows
-  (tallied-changed c.self.inside.files.rows (content_of c.self.inside).streams c.self.inside.space c.resize.new.space c.args.stream c.self.invariant.0.streams_numbered.rising
-  c.self.invariant.0.tree.stream_files_live c.self.invariant.2 (λ row. record row { bytes = put row.bytes c.args.at c.args.bytes.now }) (λ row. refl)
-  (rw (c.part_of_stream-part.ensures, c.clusters_at-after.ensures, c.put_in.ensures.rows) at c.resize.ensures.some) (rw c.part_of_stream-part.ensures at c.resize.ensures.none)),
+      (tallied-changed c.self.inside.files.rows (content_of c.self.inside).streams c.self.inside.space c.resize.new.space c.args.stream c.self.invariant.0.streams_numbered.rising
+      c.self.invariant.0.tree.stream_files_live c.self.invariant.2 (λ row. record row { bytes = put row.bytes c.args.at c.args.bytes.now }) (λ row. refl)
+      (rw (c.part_of_stream-part.ensures, c.clusters_at-after.ensures, c.put_in.ensures.rows) at c.resize.ensures.some) (rw c.part_of_stream-part.ensures at c.resize.ensures.none)),
 )
 
 pub returns-clause-bytes : goal.returns-clause-bytes

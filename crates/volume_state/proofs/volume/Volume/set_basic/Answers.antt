@@ -12,5 +12,5 @@ invariant_of-self c = (
       c.args.file c.self.invariant.0 (λ row. refl) (λ row fits. fits))),
   c.self.invariant.1,
   rw c.set_basic.ensures.rows
-  (tallied-file_changed c.self.inside.files.rows (content_of c.self.inside).streams c.self.inside.space c.args.file (λ row. record row { creation = c.args.creation; access = c.args.access; write = c.args.write; change = c.args.change; attributes = c.args.attributes }) (λ row. refl) c.self.invariant.2),
+      (tallied-file_changed c.self.inside.files.rows (content_of c.self.inside).streams c.self.inside.space c.args.file (λ row. record row { creation = c.args.creation; access = c.args.access; write = c.args.write; change = c.args.change; attributes = c.args.attributes }) (λ row. refl) c.self.invariant.2),
 )

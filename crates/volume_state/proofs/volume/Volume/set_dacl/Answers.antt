@@ -11,5 +11,5 @@ invariant_of-self c = (
       (IsSound-file_changed (content_of c.self.inside) (λ row. record row { dacl = option_map (λ list. list.items) c.args.dacl }) c.args.file c.self.invariant.0 (λ row. refl) (λ row fits. fits))),
   c.self.invariant.1,
   rw c.set_dacl.ensures.rows
-  (tallied-file_changed c.self.inside.files.rows (content_of c.self.inside).streams c.self.inside.space c.args.file (λ row. record row { dacl = option_map (λ list. list.items) c.args.dacl }) (λ row. refl) c.self.invariant.2),
+      (tallied-file_changed c.self.inside.files.rows (content_of c.self.inside).streams c.self.inside.space c.args.file (λ row. record row { dacl = option_map (λ list. list.items) c.args.dacl }) (λ row. refl) c.self.invariant.2),
 )

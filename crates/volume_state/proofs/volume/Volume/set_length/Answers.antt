@@ -38,9 +38,9 @@ invariant_of-self c = (
       (λ row. refl) (λ row. refl) (λ row fits. rw (length-cut row.bytes c.args.bytes) c.requires.fits))),
   c.self.invariant.1,
   rw c.set_length_in.ensures.rows
-  (tallied-changed c.self.inside.files.rows (content_of c.self.inside).streams c.self.inside.space c.resize.new.space c.args.stream c.self.invariant.0.streams_numbered.rising
-  c.self.invariant.0.tree.stream_files_live c.self.invariant.2 (λ row. record row { bytes = cut row.bytes c.args.bytes }) (λ row. refl)
-  (rw (c.part_of_stream-part.ensures, c.clusters_at-after.ensures, c.set_length_in.ensures.rows) at c.resize.ensures.some) (rw c.part_of_stream-part.ensures at c.resize.ensures.none)),
+      (tallied-changed c.self.inside.files.rows (content_of c.self.inside).streams c.self.inside.space c.resize.new.space c.args.stream c.self.invariant.0.streams_numbered.rising
+      c.self.invariant.0.tree.stream_files_live c.self.invariant.2 (λ row. record row { bytes = cut row.bytes c.args.bytes }) (λ row. refl)
+      (rw (c.part_of_stream-part.ensures, c.clusters_at-after.ensures, c.set_length_in.ensures.rows) at c.resize.ensures.some) (rw c.part_of_stream-part.ensures at c.resize.ensures.none)),
 )
 
 pub returns-clause-bytes : goal.returns-clause-bytes

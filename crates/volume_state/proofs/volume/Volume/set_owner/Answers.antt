@@ -27,7 +27,7 @@ invariant_of-self c = (
       (IsSound-file_changed (content_of c.self.inside) (λ row. record row { owner = c.args.owner }) c.args.file c.self.invariant.0 (λ row. refl) (λ row fits. fits))),
   c.self.invariant.1,
   rw c.set_owner.ensures.rows
-  (tallied-owner_changed c.self.inside.files.rows (content_of c.self.inside).streams c.admit.new.self c.hand_over.new.space c.args.file c.args.owner
-  (tallied-admitted c.self.inside.files.rows (content_of c.self.inside).streams c.self.inside.space c.admit.new.self c.args.owner c.admit.ensures c.self.invariant.2)
-  c.admit.ensures.here (rw c.part_of_file-part.ensures at c.hand_over.ensures.some) (rw c.part_of_file-part.ensures at c.hand_over.ensures.none)),
+      (tallied-owner_changed c.self.inside.files.rows (content_of c.self.inside).streams c.admit.new.self c.hand_over.new.space c.args.file c.args.owner
+      (tallied-admitted c.self.inside.files.rows (content_of c.self.inside).streams c.self.inside.space c.admit.new.self c.args.owner c.admit.ensures c.self.invariant.2)
+      c.admit.ensures.here (rw c.part_of_file-part.ensures at c.hand_over.ensures.some) (rw c.part_of_file-part.ensures at c.hand_over.ensures.none)),
 )

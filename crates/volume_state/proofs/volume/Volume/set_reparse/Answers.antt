@@ -10,5 +10,5 @@ invariant_of-self c = (
       (IsSound-file_changed (content_of c.self.inside) (λ row. record row { point = c.args.point }) c.args.file c.self.invariant.0 (λ row. refl) (λ row fits. c.requires.few))),
   c.self.invariant.1,
   rw c.set_point.ensures.rows
-  (tallied-file_changed c.self.inside.files.rows (content_of c.self.inside).streams c.self.inside.space c.args.file (λ row. record row { point = c.args.point }) (λ row. refl) c.self.invariant.2),
+      (tallied-file_changed c.self.inside.files.rows (content_of c.self.inside).streams c.self.inside.space c.args.file (λ row. record row { point = c.args.point }) (λ row. refl) c.self.invariant.2),
 )

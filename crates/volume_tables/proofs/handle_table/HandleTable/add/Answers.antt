@@ -1,4 +1,4 @@
-use Rattle.std.proofs.Common.{◌+◌, ◌++◌, ◌∷◌, []}
+use Rattle.std.proofs.Common.{◌+◌}
 use Rattle.volume_tables.proofs.LockLemmas.{AreTabled-handle}
 use Rattle.volume_tables.proofs.handle_table.HandleTable.add.Goals as goal
 

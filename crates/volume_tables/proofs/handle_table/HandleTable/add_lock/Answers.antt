@@ -1,7 +1,4 @@
-use Rattle.std.proofs.Common.{sym, ◌∙◌, ◌≡◌, ℕ, ap, refl, arith, Some, false, true, ◌+◌, ◌≤◌, ◌++◌, ◌∷◌, []}
-use Rattle.std.specs.Option.{ForSome}
-use Rattle.volume_tables.specs.Rooms.{room_in}
-use Rattle.volume_tables.specs.HandleTable.{stream_of_handle}
+use Rattle.std.proofs.Common.{sym, ◌∙◌, ◌≡◌, arith, false, true, ◌+◌}
 use Rattle.volume_tables.proofs.RoomLemmas.{room_in-all}
 use Rattle.volume_tables.proofs.LockLemmas.{AreTabled-lock, HaveRoom-taken}
 use Rattle.volume_tables.proofs.handle_table.HandleTable.add_lock.Goals as goal

@@ -1,5 +1,4 @@
-use Rattle.std.proofs.Common.{sym, ◌∙◌, ◌≡◌, not, filter}
-use Rattle.std.specs.Prelude.{◌==◌}
+use Rattle.std.proofs.Common.{◌∙◌}
 use Rattle.volume_tables.proofs.LockLemmas.{AreTabled-gone, HaveRoom-kept}
 use Rattle.volume_tables.proofs.handle_table.HandleTable.remove.Goals as goal
 

@@ -1,4 +1,4 @@
-use Rattle.std.proofs.Common.{sym, ◌∙◌, ◌≡◌, Some}
+use Rattle.std.proofs.Common.{sym, ◌∙◌}
 use Rattle.volume_tables.proofs.LockLemmas.{AreTabled-unlock, HaveRoom-kept}
 use Rattle.volume_tables.proofs.handle_table.HandleTable.remove_lock.Goals as goal
 

@@ -1,4 +1,4 @@
-use Rattle.std.proofs.Common.{refl, Some, rules}
+use Rattle.std.proofs.Common.{refl, Some}
 use Rattle.fsa_model.specs.Volume.{Handle}
 use Rattle.volume_tables.proofs.LockLemmas.{AreTabled-changed}
 use Rattle.volume_tables.proofs.handle_table.HandleTable.set_enumeration.Goals as goal

@@ -1,4 +1,4 @@
-use Rattle.std.proofs.Common.{◌+◌, ◌*◌, ◌≤◌, arith}
+use Rattle.std.proofs.Common.{arith}
 use Rattle.volume_tables.proofs.SpaceLemmas.{charged-less, handed-over}
 use Rattle.volume_tables.proofs.space.SpaceTally.hand_over.Goals as goal
 
