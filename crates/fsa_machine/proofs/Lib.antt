@@ -1,3 +1,4 @@
+pub mod DueLaws
 pub mod LookLaws
 pub mod ReadyLaws
 pub mod ServeLaws

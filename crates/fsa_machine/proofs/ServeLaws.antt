@@ -19,7 +19,6 @@ use Rattle.fsa_model.specs.Frame.{FitsReply, FramedTo, InFrame, KeepsFrame, Only
 use Rattle.fsa_model.specs.LineCalls.{IsLineCall, ticks_fit}
 use Rattle.fsa_model.specs.Once.{IsOnce, how_many, is_end, made, times}
 use Rattle.fsa_model.specs.Outcome.{Outcome, Done, Stay, Hold}
-use Rattle.fsa_model.specs.Requests.{can_be_asked}
 use Rattle.fsa_model.specs.Settling.{Extends, HasGiven, HasOneOplockEach, is_call_of, unbroken}
 use Rattle.fsa_model.specs.Try.{try}
 use Rattle.fsa_model.specs.Setup.{Setup}
@@ -185,18 +184,16 @@ few-oplocks v turns given few =
 
 pub line-asked : (clients : ℕ) (call : Call) → IsTrue (is_line_call clients call) → IsLineCall clients call
 line-asked clients call is =
-    let first = and_parts (what_fits call.what) (can_be_asked call.what && (ticks_fit call.what && nat_lt call.client clients)) is in
-    let second = and_parts (can_be_asked call.what) (ticks_fit call.what && nat_lt call.client clients) first.1 in
-    let third = and_parts (ticks_fit call.what) (nat_lt call.client clients) second.1 in
-    record { fits = first.0; can_be_asked = second.0; ticks = third.0; client = ltb-true call.client clients third.1 }
+    let first = and_parts (what_fits call.what) (ticks_fit call.what && nat_lt call.client clients) is in
+    let second = and_parts (ticks_fit call.what) (nat_lt call.client clients) first.1 in
+    record { fits = first.0; ticks = second.0; client = ltb-true call.client clients second.1 }
 
 pub asked-line : (clients : ℕ) (call : Call) → IsLineCall clients call → IsTrue (is_line_call clients call)
 asked-line clients call asked =
     let fits : what_fits call.what ≡ true = asked.fits in
-    let marks : can_be_asked call.what ≡ true = asked.can_be_asked in
     let ticks : ticks_fit call.what ≡ true = asked.ticks in
     let client : nat_lt call.client clients ≡ true = lt-ltb call.client clients asked.client in
-    rw (fits, marks, ticks, client) refl
+    rw (fits, ticks, client) refl
 
 -- ---- a try
 

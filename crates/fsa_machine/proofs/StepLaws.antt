@@ -15,13 +15,13 @@ use Rattle.fsa_types.specs.declared.request.Call.{Call}
 use Rattle.fsa_types.specs.declared.reply.Interim.{Interim}
 use Rattle.fsa_model.specs.Edits.{with_blockers, with_end}
 use Rattle.fsa_model.specs.Outcome.{Outcome, Done, Stay, Hold}
-use Rattle.fsa_model.specs.Settle.{with_ended, with_tried, starves}
+use Rattle.fsa_model.specs.Settle.{with_ended, with_reported, with_tried, starves}
 use Rattle.fsa_model.specs.Try.{try}
 use Rattle.fsa_model.specs.Turn.{ends_between, volume_after}
 use Rattle.fsa_model.specs.Volume.{Pending, Volume}
 use Rattle.fsa_model.proofs.OnceLaws.{Extends-length, is_same-equal, is_same-refl}
 use Rattle.fsa_model.specs.Waiting.{is_held, next_ready}
-use Rattle.fsa_model.proofs.LoopLaws.{Keeping, Reaches-step, Reaches-keeping, TakesUp-tried, TakesUp-starves, TakesUp-waits, TakesUp-keeping, next-row, held-stays, try-extends}
+use Rattle.fsa_model.proofs.LoopLaws.{Keeping, Reaches-step, Reaches-keeping, TakesUp-tried, TakesUp-waits, TakesUp-reports, TakesUp-keeping, next-row, held-stays, try-extends}
 use Rattle.fsa_model.proofs.CountLaws.{how_many-length}
 use Rattle.fsa_model.proofs.RowLaws.{option_cases}
 use Rattle.std.specs.Prelude.{◌==◌, ◌&&◌, nat_lt, find, Bool, not, IsTrue, All}
@@ -32,11 +32,11 @@ use Rattle.fsa_types.specs.declared.request.What.{What}
 use Rattle.fsa_types.specs.declared.request.What.TheVariants.{Ask, WaitFor}
 use Rattle.fsa_types.specs.declared.request.Request.TheVariants.{Notify}
 use Rattle.fsa_model.specs.Frame.{EndsPending, FitsReply, FramedTo, InFrame}
-use Rattle.fsa_model.specs.Lookups.{is_opened_by}
+use Rattle.fsa_model.specs.Lookups.{handle_of, is_opened_by}
 use Rattle.fsa_model.specs.Once.{IsOnce, how_many, is_end, made, times}
 use Rattle.fsa_model.specs.Volume.{Handle}
-use Rattle.fsa_model.specs.Requests.{can_be_asked}
 use Rattle.fsa_model.specs.Waiting.{has_come, has_ended}
+use Rattle.fsa_model.specs.Watching.{report, with_watch_seen}
 use Rattle.fsa_model.specs.Settling.{Extends, GoesOn, MaySettle, MayTakeUp, Reaches, TakesNext, TakesUp, how_many_free, is_under, may_be_held}
 use Rattle.fsa_model.proofs.CountLaws.{and_right, how_many-some, how_many-weaker, some-how_many}
 use Rattle.fsa_model.proofs.LoopLaws.{Reaches-begins}
@@ -45,23 +45,24 @@ use Rattle.fsa_model.proofs.TryFrame.{try-frame}
 use Rattle.fsa_model.proofs.WatchLaws.{come_cases}
 use Rattle.fsa_model.proofs.TryLaws.{Leaves, Tries, TriesTo}
 use Rattle.fsa_machine.specs.Serves.{KnowsWaited, MayHoldAnew, MayTry, Serves, ServesOn, is_line_call, most_entries, most_turns}
-use Rattle.fsa_machine.specs.Step.{AreBare, ready_of}
+use Rattle.fsa_machine.specs.Step.{AreBare, Starves, ready_of, report_to}
 use Rattle.fsa_machine.proofs.ServeLaws.{Comes, ComesTo, GivesUpTo-more, few-oplocks, All-each, none-fails, line-asked, try-comes, SameBase-next, Serves-ends, Serves-over, Serves-blockers}
 use Rattle.fsa_machine.specs.declared.store.Ready.{Ready}
+use Rattle.fsa_machine.specs.declared.store.Report.{Report}
 
 -- the call that is ready
 pub record IsReady (v : Volume) (ready : Ready) : Type 0 where
   pub entry : ℕ × Pending
   pub found : next_ready v ≡ Some entry
-  pub is : ready_of entry ≡ ready
+  pub is : ready_of v entry ≡ ready
 
-pub ready-is : (v : Volume) (ready : Ready) → option_map ready_of (next_ready v) ≡ Some ready → IsReady v ready
+pub ready-is : (v : Volume) (ready : Ready) → option_map (ready_of v) (next_ready v) ≡ Some ready → IsReady v ready
 ready-is v ready is = elim (option_cases (next_ready v)) [
   | inl none ↦ (let impossible : None ≡ Some ready = rw none at is in cc)
-  | inr some ↦ (let same : Some (ready_of some.0) ≡ Some ready = rw some.1 at is in record { entry = some.0; found = some.1; is = cc })
+  | inr some ↦ (let same : Some (ready_of v some.0) ≡ Some ready = rw some.1 at is in record { entry = some.0; found = some.1; is = cc })
 ]
 
-pub ready-call : (v : Volume) (ready : Ready) → MayTakeUp v → option_map ready_of (next_ready v) ≡ Some ready
+pub ready-call : (v : Volume) (ready : Ready) → MayTakeUp v → option_map (ready_of v) (next_ready v) ≡ Some ready
     → option_map (λ row. row.call) (row_of v.pending ready.turn) ≡ option_map (λ entry. entry.1.call) (next_ready v)
 ready-call v ready may is =
     let next = ready-is v ready is in
@@ -69,7 +70,7 @@ ready-call v ready may is =
     ∙ ap (λ (o : Option Pending). option_map (λ (row : Pending). row.call) o) (next-row v next.entry may next.found)
     ∙ ap (λ (o : Option (ℕ × Pending)). option_map (λ (entry : ℕ × Pending). entry.1.call) o) (sym next.found)
 
-pub ready-there : (v : Volume) (ready : Ready) → MayTakeUp v → option_map ready_of (next_ready v) ≡ Some ready → None ≡ option_map (λ row. row.call) (row_of v.pending ready.turn) → ⊥
+pub ready-there : (v : Volume) (ready : Ready) → MayTakeUp v → option_map (ready_of v) (next_ready v) ≡ Some ready → None ≡ option_map (λ row. row.call) (row_of v.pending ready.turn) → ⊥
 ready-there v ready may is none =
     let next = ready-is v ready is in
     let impossible : None ≡ Some next.entry.1.call = none ∙ ready-call v ready may is ∙ ap (λ (o : Option (ℕ × Pending)). option_map (λ (entry : ℕ × Pending). entry.1.call) o) next.found in cc
@@ -114,7 +115,7 @@ knows-held : (v : Volume) (client number : ℕ) (what : What) → may_be_held wh
 knows-held v client number (WaitFor earlier) held = cc
 knows-held v client number _ held = tt
 
-pub may-retry : (v : Volume) (ready : Ready) (call : Call) → Serves v → MayTakeUp v → option_map ready_of (next_ready v) ≡ Some ready → ready.held ≡ true
+pub may-retry : (v : Volume) (ready : Ready) (call : Call) → Serves v → MayTakeUp v → option_map (ready_of v) (next_ready v) ≡ Some ready → ready.held ≡ true
     → option_map (λ entry. entry.1.call) (next_ready v) ≡ Some call → made v ≤ most_entries → MayTry v call
 may-retry v ready call serves may is held called few =
     let next : IsReady v ready = ready-is v ready is in
@@ -235,7 +236,7 @@ pub record Retries (v : Volume) (ready : Ready) (call : Call) (outcome : Outcome
   pub anew : HoldsAnew ready.turn outcome
   pub serves : ServesOn v (retried ready outcome)
 
-pub retries : (v : Volume) (ready : Ready) (call : Call) (outcome : Outcome) → Serves v → MayTakeUp v → option_map ready_of (next_ready v) ≡ Some ready → ready.held ≡ true
+pub retries : (v : Volume) (ready : Ready) (call : Call) (outcome : Outcome) → Serves v → MayTakeUp v → option_map (ready_of v) (next_ready v) ≡ Some ready → ready.held ≡ true
     → option_map (λ entry. entry.1.call) (next_ready v) ≡ Some call → try v call ready.turn ≡ outcome → Retries v ready call outcome
 retries v ready call outcome serves may is held called tried =
     let next : IsReady v ready = ready-is v ready is in
@@ -262,7 +263,7 @@ retries v ready call outcome serves may is held called tried =
           (tried-serves v next.entry outcome serves (next-numbered v next.entry serves next.found) comes tries keeping.may.once (takes-times v (with_tried next.entry.0 next.entry.1 outcome) next.entry [] may next.found takes));
     }
   where
-    as_retried : (entry : ℕ × Pending) (outcome : Outcome) → with_tried entry.0 entry.1 outcome ≡ retried (ready_of entry) outcome
+    as_retried : (entry : ℕ × Pending) (outcome : Outcome) → with_tried entry.0 entry.1 outcome ≡ retried (ready_of v entry) outcome
     as_retried entry (Done w reply) = refl
     as_retried entry (Stay w interim) = refl
     as_retried entry (Hold w blockers interim) = refl
@@ -272,7 +273,7 @@ retries v ready call outcome serves may is held called tried =
     few_of entry (Stay w interim) same = omega arith
     few_of entry (Hold w blockers interim) same = omega arith
 
-pub never-stays : (v w : Volume) (ready : Ready) (call : Call) (interim : Interim) → MayTakeUp v → option_map ready_of (next_ready v) ≡ Some ready → ready.held ≡ true
+pub never-stays : (v w : Volume) (ready : Ready) (call : Call) (interim : Interim) → MayTakeUp v → option_map (ready_of v) (next_ready v) ≡ Some ready → ready.held ≡ true
     → option_map (λ entry. entry.1.call) (next_ready v) ≡ Some call → try v call ready.turn ≡ Stay w interim → ⊥
 never-stays v w ready call interim may is held called tried =
     let next : IsReady v ready = ready-is v ready is in
@@ -314,32 +315,29 @@ over-serves v w client number reply entry more serves may found takes is =
       base = record { table = refl; clients = refl };
     })
 
-pub starves-step : (v : Volume) (ready : Ready) → Serves v → MayTakeUp v → option_map ready_of (next_ready v) ≡ Some ready → ready.held ≡ true
-    → Steps v (record { client = ready.client; number = ready.number } ∷ []) (with_end v ready.client ready.number (record { status = NoMemory; body = Nothing }))
-starves-step v ready serves may is held =
-    let next : IsReady v ready = ready-is v ready is in
-    let takes = TakesUp-starves v next.entry (ap (λ (r : Ready). r.held) next.is ∙ held) in
-    subst (λ (r : Ready). Steps v (record { client = r.client; number = r.number } ∷ []) (with_end v r.client r.number (record { status = NoMemory; body = Nothing }))) next.is
-    (record {
-      next = record { entry = next.entry; found = next.found; takes = takes };
-      serves = over-serves v (with_ended v next.entry.1 NoMemory) next.entry.1.call.client next.entry.1.call.number (record { status = NoMemory; body = Nothing }) next.entry (record { client = next.entry.1.call.client; number = next.entry.1.call.number } ∷ []) serves may next.found takes refl;
-    })
+-- and then the volume stays so too
+pub starved-serves : (v : Volume) (ready : Ready) → Serves v → MayTakeUp v → Starves v ready → ServesOn v (with_end v ready.client ready.number (record { status = NoMemory; body = Nothing }))
+starved-serves v ready serves may starves =
+    over-serves v (with_end v ready.client ready.number (record { status = NoMemory; body = Nothing })) ready.client ready.number (record { status = NoMemory; body = Nothing }) starves.entry
+    (record { client = ready.client; number = ready.number } ∷ []) serves may starves.found starves.takes refl
 
--- what is ready and isn't held waits for a call
-waits-for : (v : Volume) (client number clients : ℕ) (what : What) → has_come v client number what ≡ true → IsTrue (can_be_asked what) → (earlier : ℕ) × (what ≡ WaitFor earlier)
-waits-for v client number clients (WaitFor earlier) come asked = (earlier, refl)
-waits-for v client number clients (Ask (Notify handle filter whole room)) come asked = (let impossible : false ≡ true = asked in cc)
-waits-for v client number clients _ come asked = (let impossible : false ≡ true = come in cc)
+-- what is ready, isn't held and isn't reported to waits for a call
+waits-for : (v : Volume) (client number : ℕ) (what : What) → has_come v client number what ≡ true → report_to v client what ≡ None → (earlier : ℕ) × (what ≡ WaitFor earlier)
+waits-for v client number (WaitFor earlier) come none = (earlier, refl)
+waits-for v client number (Ask (Notify handle filter whole room)) come none = elim (option_cases (handle_of v client handle)) [
+  | inl gone ↦ (let impossible : false ≡ true = rw gone at come in cc)
+  | inr some ↦ (let reported : Report = record { handle = some.0; room = room } in let impossible : Some reported ≡ None = rw some.1 at none in cc)
+]
+waits-for v client number _ come none = (let impossible : false ≡ true = come in cc)
 
-pub waits-step : (v : Volume) (ready : Ready) → Serves v → MayTakeUp v → option_map ready_of (next_ready v) ≡ Some ready → ready.held ≡ false
+pub waits-step : (v : Volume) (ready : Ready) → Serves v → MayTakeUp v → option_map (ready_of v) (next_ready v) ≡ Some ready → ready.held ≡ false → ready.report ≡ None
     → Steps v [] (with_end v ready.client ready.number (record { status = Success; body = Nothing }))
-waits-step v ready serves may is held =
+waits-step v ready serves may is held none =
     let next : IsReady v ready = ready-is v ready is in
     let free : is_held next.entry.1 ≡ false = ap (λ (r : Ready). r.held) next.is ∙ held in
     let there : IsNext v next.entry = next_ready-is v next.entry next.found in
     let come : has_come v next.entry.1.call.client next.entry.1.call.number next.entry.1.call.what ≡ true = rw free at there.ready in
-    let asked = line-asked (length v.clients) next.entry.1.call (next-passes v next.entry (λ e. is_line_call (length v.clients) e.1.call) next.found serves.asked) in
-    let waited = waits-for v next.entry.1.call.client next.entry.1.call.number (length v.clients) next.entry.1.call.what come asked.can_be_asked in
+    let waited = waits-for v next.entry.1.call.client next.entry.1.call.number next.entry.1.call.what come (ap (λ (r : Ready). r.report) next.is ∙ none) in
     let takes = TakesUp-waits v next.entry waited.0 free waited.1 in
     subst (λ (r : Ready). Steps v [] (with_end v r.client r.number (record { status = Success; body = Nothing }))) next.is
     (record {
@@ -347,8 +345,61 @@ waits-step v ready serves may is held =
       serves = over-serves v (with_ended v next.entry.1 Success) next.entry.1.call.client next.entry.1.call.number (record { status = Success; body = Nothing }) next.entry [] serves may next.found takes refl;
     })
 
+-- ---- a Notify that is reported to
+
+-- what it asks, and the handle that reports
+pub record IsAsked (v : Volume) (client : ℕ) (what : What) (asked : Report) : Type 0 where
+  pub handle : ℕ
+  pub filter : ℕ
+  pub tree : Bool
+  pub is : what ≡ Ask (Notify handle filter tree asked.room)
+  pub found : handle_of v client handle ≡ Some asked.handle
+
+is-asked : (v : Volume) (client : ℕ) (what : What) (asked : Report) → report_to v client what ≡ Some asked → IsAsked v client what asked
+is-asked v client (Ask (Notify handle filter tree room)) asked reports = elim (option_cases (handle_of v client handle)) [
+  | inl none ↦ (let impossible : None ≡ Some asked = rw none at reports in cc)
+  | inr some ↦ (let both : Some (record { handle = some.0; room = room }) ≡ Some asked = rw some.1 at reports in
+      let same : record { handle = some.0; room = room } ≡ asked = some_equal (record { handle = some.0; room = room }) asked both in
+      subst (λ (a : Report). IsAsked v client (Ask (Notify handle filter tree room)) a) same (record { handle = handle; filter = filter; tree = tree; is = refl; found = some.1 }))
+]
+is-asked v client _ asked reports = (let impossible : None ≡ Some asked = reports in cc)
+
+-- a report leaves what is between tries
+Serves-seen : (v : Volume) (id : ℕ) → Serves v → Serves (with_watch_seen v id)
+Serves-seen v id serves = record {
+  points = serves.points;
+  once = serves.once;
+  asked = serves.asked;
+  numbered = serves.numbered;
+  waited = serves.waited;
+  handles = serves.handles;
+  opened = serves.opened;
+  gives = record { files = serves.gives.files; links = serves.gives.links; streams = serves.gives.streams; handles = serves.gives.handles; locks = serves.gives.locks; clock = serves.gives.clock };
+  breaks = serves.breaks;
+}
+
+pub reports-step : (v : Volume) (ready : Ready) (asked : Report) → Serves v → MayTakeUp v → option_map (ready_of v) (next_ready v) ≡ Some ready → ready.held ≡ false → ready.report ≡ Some asked
+    → Steps v [] (with_end (with_watch_seen v asked.handle) ready.client ready.number (report v asked.handle asked.room))
+reports-step v ready asked serves may is held reports =
+    let next : IsReady v ready = ready-is v ready is in
+    let free : is_held next.entry.1 ≡ false = ap (λ (r : Ready). r.held) next.is ∙ held in
+    let call : IsAsked v next.entry.1.call.client next.entry.1.call.what asked = is-asked v next.entry.1.call.client next.entry.1.call.what asked (ap (λ (r : Ready). r.report) next.is ∙ reports) in
+    let takes = TakesUp-reports v next.entry call.handle call.filter call.tree asked.room asked.handle free call.is call.found in
+    let keeping = TakesUp-keeping v (with_reported v next.entry.1 asked.handle asked.room) next.entry [] may next.found takes in
+    let same = takes-times v (with_reported v next.entry.1 asked.handle asked.room) next.entry [] may next.found takes in
+    subst (λ (r : Ready). Steps v [] (with_end (with_watch_seen v asked.handle) r.client r.number (report v asked.handle asked.room))) next.is
+    (record {
+      next = record { entry = next.entry; found = next.found; takes = takes };
+      serves = record {
+        serves = Serves-over (with_watch_seen v asked.handle) next.entry.1.call.client next.entry.1.call.number (report v asked.handle asked.room) (Serves-seen v asked.handle serves) keeping.may.once
+            (λ c n. (let equal : times c n (with_reported v next.entry.1 asked.handle asked.room) ≡ times c n v = same c n in
+            let alike : times c n (with_watch_seen v asked.handle) ≡ times c n v = refl in omega arith));
+        base = record { table = refl; clients = refl };
+      };
+    })
+
 -- some call is pending then
-pub ready-pending : (v : Volume) (ready : Ready) → option_map ready_of (next_ready v) ≡ Some ready → 1 ≤ length v.pending
+pub ready-pending : (v : Volume) (ready : Ready) → option_map (ready_of v) (next_ready v) ≡ Some ready → 1 ≤ length v.pending
 ready-pending v ready is =
     let next : IsReady v ready = ready-is v ready is in
     let there = IsNext.is_there (next_ready-is v next.entry next.found) (λ e. true) refl in

@@ -10,9 +10,8 @@ use Rattle.fsa_types.specs.declared.request.What.TheVariants.{WaitFor}
 use Rattle.fsa_model.specs.Frame.{PointsFit}
 use Rattle.fsa_model.specs.LineCalls.{IsLineCall, ticks_fit}
 use Rattle.fsa_model.specs.Lookups.{handle_of}
-use Rattle.fsa_model.specs.Once.{IsOnce, made, times}
-use Rattle.fsa_model.specs.Requests.{can_be_asked}
-use Rattle.fsa_model.specs.Settling.{unbroken}
+use Rattle.fsa_model.specs.Once.{IsOnce, how_many, made, times}
+use Rattle.fsa_model.specs.Settling.{is_held_wrongly, unbroken}
 use Rattle.fsa_model.specs.Volume.{Volume}
 use Rattle.fsa_model.specs.Waiting.{blocker_lives, has_ended, is_held, is_pending}
 
@@ -85,7 +84,7 @@ pub record MayHoldAnew (v : Volume) (turn : ℕ) (blockers : List Blocker) : Typ
 
 -- the call is one that a line can ask, of one of so many clients
 abbrev pub is_line_call : ℕ → Call → Bool
-is_line_call clients call = what_fits call.what && (can_be_asked call.what && (ticks_fit call.what && nat_lt call.client clients))
+is_line_call clients call = what_fits call.what && (ticks_fit call.what && nat_lt call.client clients)
 
 -- what a wait waits for was made
 abbrev pub awaits_made : Volume → ℕ → What → Bool
@@ -110,6 +109,10 @@ pub record ServesWithin (v : Volume) (most : ℕ) : Type 0 where
 -- no more breaks than calls were made: each call is granted one oplock at most
 abbrev pub Serves : Volume → Type 0
 Serves v = ServesWithin v (made v)
+
+-- only what breaks and locks can hold is held
+abbrev pub HoldsRightly : Volume → Type 0
+HoldsRightly v = how_many is_held_wrongly v.pending ≡ 0
 
 -- the table and the clients are as they were
 pub record SameBase (v w : Volume) : Type 0 where

@@ -17,8 +17,9 @@
 //!   `replies`): the history keeps one copy, and the caller gets the other.
 //! - Room first: an end and a name for each pending call and for the turn's own, two copies of the own
 //!   reply, and the entry. A held call takes a copy of itself and two of its reply before it is tried
-//!   again; where that finds no memory it ends `NO_MEMORY`, and is named. Calls that end besides have
-//!   replies without bytes, which take no memory.
+//!   again, and a Notify two of a report that has bytes; where that finds no memory it ends `NO_MEMORY`, and
+//!   is named, and what is due stays so. Calls that end besides have replies without bytes, which take no
+//!   memory, and so has a Notify to which more is due than it has room for.
 //! - What is true of the volume between tries is `Serves`; from it follows what each try asks (`MayTry`). It
 //!   says that each handle was opened by a call that has ended, that each pending call is one that a line
 //!   can ask and waits for no call that wasn't made, that few numbers were given, and that no more breaks
@@ -44,5 +45,5 @@ mod waiting;
 
 pub use machine::{MOST_ENTRIES, Machine};
 pub use serving::try_call;
-pub use store::{Ready, Store};
+pub use store::{Ready, Report, Store};
 pub use volume_machine::VolumeMachine;

@@ -4,7 +4,7 @@ ghost use Rattle.std.specs.Prelude.{◌≡◌, ◌≤◌, IfOk};
 ghost use Rattle.fsa_types.specs.Reply.{bytes_of_body, units_of_body};
 ghost use Rattle.fsa_types.specs.declared.request.What.TheVariants.{Ask};
 ghost use Rattle.fsa_model.specs.Frame.{FitsReply, most_reply_bytes, most_reply_units};
-ghost use Rattle.fsa_machine.specs.Step.{HasReplyRoom};
+ghost use Rattle.fsa_machine.specs.Step.{HasReplyRoom, HasReportRoom};
 
 use fsa_types::{NoMemory, Reply, ReplyRoom, Request, What};
 use std::alloc::Global;
@@ -78,6 +78,29 @@ pub fn copy_twice(reply: &Reply, what: &What, rooms: ReplyRooms) -> (Reply, Repl
     ensures given { result.1 ≡ reply.now }
 {
     let _what = what;
+    let ReplyRooms { kept, given } = rooms;
+    (reply.copy_into(kept), reply.copy_into(given))
+}
+
+/// Takes the room for two copies of a report of so many bytes.
+pub fn take_report_rooms(alloc: Global, size: usize) -> Result<ReplyRooms, NoMemory>
+    ensures { IfOk result (λ rooms. HasReportRoom size rooms) }
+{
+    Ok(ReplyRooms {
+        kept: ReplyRoom::new(alloc, size, 0)?,
+        given: ReplyRoom::new(alloc, size, 0)?,
+    })
+}
+
+/// Two copies of a report of so many bytes, in room that was taken before: one to keep, and one to give out.
+pub fn copy_report(reply: &Reply, size: usize, rooms: ReplyRooms) -> (Reply, Reply)
+    requires bytes { bytes_of_body reply.now.body ≤ size }
+    requires units { units_of_body reply.now.body ≡ 0 }
+    requires room { HasReportRoom size rooms }
+    ensures kept { result.0 ≡ reply.now }
+    ensures given { result.1 ≡ reply.now }
+{
+    let _size = size;
     let ReplyRooms { kept, given } = rooms;
     (reply.copy_into(kept), reply.copy_into(given))
 }

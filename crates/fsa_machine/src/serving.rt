@@ -16,7 +16,7 @@ use op_control::{
 };
 use op_data::{try_flush, try_lock, try_read, try_set_end, try_unlock, try_write};
 use op_delete::{try_close, try_leave, try_set_disposition};
-use op_dir::try_query_dir;
+use op_dir::{try_notify, try_query_dir};
 use op_info::{try_query_info, try_set_basic, try_set_security};
 use op_link::{try_link, try_rename};
 use op_open::try_create;
@@ -62,8 +62,7 @@ fn try_request(
         Request::DeleteReparse { .. } => try_delete_reparse(alloc, volume, call, turn),
         Request::SetQuota { .. } => try_set_quota(alloc, volume, call, turn),
         Request::QueryQuota { .. } => try_query_quota(alloc, volume, call, turn),
-        // No line can ask this so far.
-        Request::Notify { .. } => unreachable!(),
+        Request::Notify { .. } => try_notify(alloc, volume, call, turn),
     }
 }
 

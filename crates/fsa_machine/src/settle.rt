@@ -12,13 +12,14 @@ ghost use Rattle.fsa_model.specs.Settle.{settled};
 ghost use Rattle.fsa_model.specs.Settling.{MayTakeUp, Reaches, TakesNext};
 ghost use Rattle.fsa_model.specs.Turn.{ends_between};
 ghost use Rattle.fsa_model.specs.Waiting.{next_ready, waits_in_order, with_stalled};
+ghost use Rattle.fsa_model.specs.Watching.{due_size, report, with_watch_seen};
 ghost use Rattle.fsa_machine.specs.Serves.{Serves, ServesOn, most_entries};
-ghost use Rattle.fsa_machine.specs.Step.{HasReplyRoom, id_of, ready_of};
+ghost use Rattle.fsa_machine.specs.Step.{HasReplyRoom, HasReportRoom, Starves, id_of, ready_of};
 
 use crate::ends::{EndLists, tell};
-use crate::replies::{ReplyRooms, copy_twice, take_rooms};
-use crate::store::{Ready, Store};
-use fsa_types::{Body, Call, CallId, CallIdList, EndOf, Reply, Status, TryCopy};
+use crate::replies::{ReplyRooms, copy_report, copy_twice, take_report_rooms, take_rooms};
+use crate::store::{Ready, Report, Store};
+use fsa_types::{Body, Call, CallId, CallIdList, EndOf, NoMemory, Reply, Status, TryCopy};
 use std::alloc::Global;
 use volume_state::Tried;
 
@@ -53,7 +54,7 @@ fn end_so<S: Store>(store: &mut S, client: u32, number: u32, status: Status, end
 // The call that is pending under this turn, and room for its reply; `None` where there is no memory.
 fn held_call<S: Store>(alloc: Global, store: &S, ready: Ready) -> Option<(Call, ReplyRooms)>
     requires may { MayTakeUp (S.content store.now) }
-    requires next { option_map ready_of (next_ready (S.content store.now)) ≡ Some ready }
+    requires next { option_map (ready_of (S.content store.now)) (next_ready (S.content store.now)) ≡ Some ready }
     ensures call { IfSome result (λ found. option_map (λ entry. entry.1.call) (next_ready (S.content store.now)) ≡ Some found.0) }
     ensures room { IfSome result (λ found. HasReplyRoom found.0.what found.1) }
 {
@@ -81,7 +82,7 @@ fn retry<S: Store>(
 ) -> bool
     requires serves { Serves (S.content store.old) }
     requires may { MayTakeUp (S.content store.old) }
-    requires next { option_map ready_of (next_ready (S.content store.old)) ≡ Some ready }
+    requires next { option_map (ready_of (S.content store.old)) (next_ready (S.content store.old)) ≡ Some ready }
     requires held { ready.held ≡ true }
     requires call { option_map (λ entry. entry.1.call) (next_ready (S.content store.old)) ≡ Some call.now }
     requires room { HasReplyRoom call.now.what rooms }
@@ -119,7 +120,7 @@ fn retry<S: Store>(
 fn try_held<S: Store>(alloc: Global, store: &mut S, ready: Ready, ended: &mut EndLists) -> bool
     requires serves { Serves (S.content store.old) }
     requires may { MayTakeUp (S.content store.old) }
-    requires next { option_map ready_of (next_ready (S.content store.old)) ≡ Some ready }
+    requires next { option_map (ready_of (S.content store.old)) (next_ready (S.content store.old)) ≡ Some ready }
     requires held { ready.held ≡ true }
     requires few { made (S.content store.old) ≤ most_entries }
     requires ends { made (S.content store.old) ≤ S.spare_ends store.old + length (S.content store.old).ended }
@@ -127,6 +128,7 @@ fn try_held<S: Store>(alloc: Global, store: &mut S, ready: Ready, ended: &mut En
     ensures tried { result ≡ true → TakesNext (S.content store.old) [] (S.content store.new) }
     ensures serves { result ≡ true → ServesOn (S.content store.old) (S.content store.new) }
     ensures none { result ≡ false → (S.content store.new ≡ S.content store.old) × (ended.new ≡ ended.old) }
+    ensures starves { result ≡ false → Starves (S.content store.old) ready }
     ensures ends { S.spare_ends store.old + length (S.content store.old).ended ≤ S.spare_ends store.new + length (S.content store.new).ended }
     ensures told { result ≡ true → ended.new.items ≡ ended.old.items ++ ends_between (S.content store.old) (S.content store.new) }
     ensures told_room { ended.new.room ≡ ended.old.room }
@@ -137,7 +139,177 @@ fn try_held<S: Store>(alloc: Global, store: &mut S, ready: Ready, ended: &mut En
     retry(alloc, store, ready, &call, rooms, ended)
 }
 
-// The ready call of the least turn is taken up.
+// How many bytes a report takes.
+fn report_size<S: Store>(store: &S, asked: Report) -> u64
+    ensures { result ≡ due_size (S.content store.now) asked.handle }
+{
+    match store.due_size(asked.handle) {
+        None => 0,
+        Some(size) => size,
+    }
+}
+
+// A Notify to which more is due than it has room for ends so. This takes no memory.
+fn report_none<S: Store>(
+    alloc: Global,
+    store: &mut S,
+    ready: Ready,
+    asked: Report,
+    ended: &mut EndLists,
+)
+    requires exceeds { asked.room < due_size (S.content store.old) asked.handle }
+    requires room { 1 ≤ S.spare_ends store.old }
+    requires told { length ended.old.items < ended.old.room }
+    ensures content { S.content store.new ≡ with_end (with_watch_seen (S.content store.old) asked.handle) ready.client ready.number (report (S.content store.old) asked.handle asked.room) }
+    ensures left { S.spare_ends store.old ≤ S.spare_ends store.new + 1 }
+    ensures told { ended.new.items ≡ ended.old.items ++ record { client = ready.client; number = ready.number; reply = report (S.content store.old) asked.handle asked.room } ∷ [] }
+    ensures told_room { ended.new.room ≡ ended.old.room }
+{
+    let Ready { client, number, .. } = ready;
+    let Ok(_) = store.report(alloc, asked.handle, asked.room) else {
+        unreachable!()
+    };
+    end_so(store, client, number, Status::NotifyEnumDir, ended);
+}
+
+// A Notify is told all that is due, with room for two copies of that; `false` where there is no memory, and
+// nothing has changed then.
+fn report_all<S: Store>(
+    alloc: Global,
+    store: &mut S,
+    ready: Ready,
+    asked: Report,
+    size: usize,
+    rooms: ReplyRooms,
+    ended: &mut EndLists,
+) -> bool
+    requires size { size ≡ due_size (S.content store.old) asked.handle }
+    requires fits { size ≤ asked.room }
+    requires rooms { HasReportRoom size rooms }
+    requires room { 1 ≤ S.spare_ends store.old }
+    requires told { length ended.old.items < ended.old.room }
+    ensures content { result ≡ true → S.content store.new ≡ with_end (with_watch_seen (S.content store.old) asked.handle) ready.client ready.number (report (S.content store.old) asked.handle asked.room) }
+    ensures none { result ≡ false → (S.content store.new ≡ S.content store.old) × (ended.new ≡ ended.old) }
+    ensures left { result ≡ true → S.spare_ends store.old ≤ S.spare_ends store.new + 1 }
+    ensures unused { result ≡ false → S.spare_ends store.old ≤ S.spare_ends store.new }
+    ensures told { result ≡ true → ended.new.items ≡ ended.old.items ++ record { client = ready.client; number = ready.number; reply = report (S.content store.old) asked.handle asked.room } ∷ [] }
+    ensures told_room { ended.new.room ≡ ended.old.room }
+{
+    let Ready { client, number, .. } = ready;
+    match store.report(alloc, asked.handle, asked.room) {
+        Err(NoMemory) => false,
+        Ok(reply) => {
+            let (kept, given) = copy_report(&reply, size, rooms);
+            store.end(client, number, kept);
+            ended.push_end(client, number, given, reply);
+            true
+        }
+    }
+}
+
+// The watch of its handle reports to a Notify. `false` where there is no memory for a report that has bytes,
+// and nothing has changed then.
+fn report_to<S: Store>(
+    alloc: Global,
+    store: &mut S,
+    ready: Ready,
+    asked: Report,
+    ended: &mut EndLists,
+) -> bool
+    requires room { 1 ≤ S.spare_ends store.old }
+    requires told { length ended.old.items < ended.old.room }
+    ensures content { result ≡ true → S.content store.new ≡ with_end (with_watch_seen (S.content store.old) asked.handle) ready.client ready.number (report (S.content store.old) asked.handle asked.room) }
+    ensures none { result ≡ false → (S.content store.new ≡ S.content store.old) × (ended.new ≡ ended.old) }
+    ensures starves { result ≡ false → due_size (S.content store.old) asked.handle ≤ asked.room }
+    ensures left { result ≡ true → S.spare_ends store.old ≤ S.spare_ends store.new + 1 }
+    ensures unused { result ≡ false → S.spare_ends store.old ≤ S.spare_ends store.new }
+    ensures told { result ≡ true → ended.new.items ≡ ended.old.items ++ record { client = ready.client; number = ready.number; reply = report (S.content store.old) asked.handle asked.room } ∷ [] }
+    ensures told_room { ended.new.room ≡ ended.old.room }
+{
+    let size = report_size(store, asked);
+    if size > asked.room as u64 {
+        report_none(alloc, store, ready, asked, ended);
+        return true;
+    }
+    let size = size as usize;
+    let Ok(rooms) = take_report_rooms(alloc, size) else {
+        return false;
+    };
+    report_all(alloc, store, ready, asked, size, rooms, ended)
+}
+
+// A Notify that is ready is reported to; `false` where there is no memory for it, and nothing has changed then.
+fn try_report<S: Store>(
+    alloc: Global,
+    store: &mut S,
+    ready: Ready,
+    asked: Report,
+    ended: &mut EndLists,
+) -> bool
+    requires serves { Serves (S.content store.old) }
+    requires may { MayTakeUp (S.content store.old) }
+    requires next { option_map (ready_of (S.content store.old)) (next_ready (S.content store.old)) ≡ Some ready }
+    requires free { ready.held ≡ false }
+    requires report { ready.report ≡ Some asked }
+    requires ends { made (S.content store.old) ≤ S.spare_ends store.old + length (S.content store.old).ended }
+    requires told { length ended.old.items + length (S.content store.old).pending ≤ ended.old.room }
+    ensures tried { result ≡ true → TakesNext (S.content store.old) [] (S.content store.new) }
+    ensures serves { result ≡ true → ServesOn (S.content store.old) (S.content store.new) }
+    ensures none { result ≡ false → (S.content store.new ≡ S.content store.old) × (ended.new ≡ ended.old) }
+    ensures starves { result ≡ false → Starves (S.content store.old) ready }
+    ensures ends { S.spare_ends store.old + length (S.content store.old).ended ≤ S.spare_ends store.new + length (S.content store.new).ended }
+    ensures told { result ≡ true → ended.new.items ≡ ended.old.items ++ ends_between (S.content store.old) (S.content store.new) }
+    ensures told_room { ended.new.room ≡ ended.old.room }
+{
+    report_to(alloc, store, ready, asked, ended)
+}
+
+// A wait that is over ends.
+fn end_wait<S: Store>(store: &mut S, ready: Ready, ended: &mut EndLists)
+    requires serves { Serves (S.content store.old) }
+    requires may { MayTakeUp (S.content store.old) }
+    requires next { option_map (ready_of (S.content store.old)) (next_ready (S.content store.old)) ≡ Some ready }
+    requires free { ready.held ≡ false }
+    requires no_report { ready.report ≡ None }
+    requires ends { made (S.content store.old) ≤ S.spare_ends store.old + length (S.content store.old).ended }
+    requires told { length ended.old.items + length (S.content store.old).pending ≤ ended.old.room }
+    ensures tried { TakesNext (S.content store.old) [] (S.content store.new) }
+    ensures serves { ServesOn (S.content store.old) (S.content store.new) }
+    ensures ends { S.spare_ends store.old + length (S.content store.old).ended ≤ S.spare_ends store.new + length (S.content store.new).ended }
+    ensures told { ended.new.items ≡ ended.old.items ++ ends_between (S.content store.old) (S.content store.new) }
+    ensures told_room { ended.new.room ≡ ended.old.room }
+{
+    let Ready { client, number, .. } = ready;
+    end_so(store, client, number, Status::Success, ended);
+}
+
+// The ready call of the least turn is taken up; `false` where it finds no memory, and nothing has changed then.
+fn try_ready<S: Store>(alloc: Global, store: &mut S, ready: Ready, ended: &mut EndLists) -> bool
+    requires serves { Serves (S.content store.old) }
+    requires may { MayTakeUp (S.content store.old) }
+    requires next { option_map (ready_of (S.content store.old)) (next_ready (S.content store.old)) ≡ Some ready }
+    requires few { made (S.content store.old) ≤ most_entries }
+    requires ends { made (S.content store.old) ≤ S.spare_ends store.old + length (S.content store.old).ended }
+    requires told { length ended.old.items + length (S.content store.old).pending ≤ ended.old.room }
+    ensures tried { result ≡ true → TakesNext (S.content store.old) [] (S.content store.new) }
+    ensures serves { result ≡ true → ServesOn (S.content store.old) (S.content store.new) }
+    ensures none { result ≡ false → (S.content store.new ≡ S.content store.old) × (ended.new ≡ ended.old) }
+    ensures starves { result ≡ false → Starves (S.content store.old) ready }
+    ensures ends { S.spare_ends store.old + length (S.content store.old).ended ≤ S.spare_ends store.new + length (S.content store.new).ended }
+    ensures told { result ≡ true → ended.new.items ≡ ended.old.items ++ ends_between (S.content store.old) (S.content store.new) }
+    ensures told_room { ended.new.room ≡ ended.old.room }
+{
+    if ready.held {
+        return try_held(alloc, store, ready, ended);
+    }
+    let Some(asked) = ready.report else {
+        end_wait(store, ready, ended);
+        return true;
+    };
+    try_report(alloc, store, ready, asked, ended)
+}
+
+// The ready call of the least turn is taken up; where it finds no memory it ends so, and is named.
 fn take_up<S: Store>(
     alloc: Global,
     store: &mut S,
@@ -147,7 +319,7 @@ fn take_up<S: Store>(
 )
     requires serves { Serves (S.content store.old) }
     requires may { MayTakeUp (S.content store.old) }
-    requires next { option_map ready_of (next_ready (S.content store.old)) ≡ Some ready }
+    requires next { option_map (ready_of (S.content store.old)) (next_ready (S.content store.old)) ≡ Some ready }
     requires few { made (S.content store.old) ≤ most_entries }
     requires ends { made (S.content store.old) ≤ S.spare_ends store.old + length (S.content store.old).ended }
     requires told { length ended.old.items + length (S.content store.old).pending ≤ ended.old.room }
@@ -159,14 +331,10 @@ fn take_up<S: Store>(
     ensures told_room { ended.new.room ≡ ended.old.room }
     ensures named_room { starved.new.room ≡ starved.old.room }
 {
+    if try_ready(alloc, store, ready, ended) {
+        return;
+    }
     let Ready { client, number, .. } = ready;
-    if !ready.held {
-        end_so(store, client, number, Status::Success, ended);
-        return;
-    }
-    if try_held(alloc, store, ready, ended) {
-        return;
-    }
     end_so(store, client, number, Status::NoMemory, ended);
     starved.push(CallId { client, number });
 }

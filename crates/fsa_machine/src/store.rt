@@ -1,13 +1,14 @@
 //! What a turn asks of the volume.
 
-ghost use Rattle.std.specs.Prelude.{◌≡◌, ◌≤◌, ◌+◌, ℕ, [], length, map, slice_get, option_map, OnOk};
+ghost use Rattle.std.specs.Prelude.{◌≡◌, ◌≤◌, ◌+◌, ℕ, [], length, map, slice_get, is_some, option_map, IfOk, IfSome, OnErr, OnOk};
 ghost use Rattle.std.specs.Option.{option_copied};
 ghost use Rattle.fsa_types.specs.Rows.{row_of};
 ghost use Rattle.fsa_model.specs.Edits.{with_blockers, with_end, with_pending};
 ghost use Rattle.fsa_model.specs.Try.{try};
 ghost use Rattle.fsa_model.specs.Volume.{Volume};
 ghost use Rattle.fsa_model.specs.Waiting.{all_wait, next_ready, waits, waits_in_order};
-ghost use Rattle.fsa_machine.specs.Serves.{MayHoldAnew, MayPend, MayTry, Serves};
+ghost use Rattle.fsa_model.specs.Watching.{due_size, is_something_due, report, with_watch_seen};
+ghost use Rattle.fsa_machine.specs.Serves.{HoldsRightly, MayHoldAnew, MayPend, MayTry, Serves};
 ghost use Rattle.fsa_machine.specs.Step.{id_of, ready_of};
 ghost use Rattle.fsa_machine.specs.Tried.{HasPendRoom};
 ghost use Rattle.volume_state.specs.Tried.{Gives};
@@ -15,6 +16,15 @@ ghost use Rattle.volume_state.specs.Tried.{Gives};
 use fsa_types::{BlockerList, Call, CallIdList, EndOf, NoMemory, Reply};
 use std::alloc::Global;
 use volume_state::Tried;
+
+/// What is reported to a Notify.
+#[derive(Clone, Copy, Debug, PartialEq, Eq)]
+pub struct Report {
+    /// The handle whose watch reports, by its number in the volume.
+    pub handle: u64,
+    /// The most bytes that the Notify takes.
+    pub room: u32,
+}
 
 /// A pending call that is ready to be taken up.
 #[derive(Clone, Copy, Debug, PartialEq, Eq)]
@@ -25,8 +35,10 @@ pub struct Ready {
     pub client: u32,
     /// Its number.
     pub number: u32,
-    /// Whether it waits for blockers; else it waits for a call.
+    /// Whether it was held; else it is a Notify, or waits for a call.
     pub held: bool,
+    /// What is reported to it, where it is a Notify.
+    pub report: Option<Report>,
 }
 
 /// A volume, as a turn sees it.
@@ -88,10 +100,26 @@ pub trait Store {
         ensures content { content self.new ≡ with_blockers (content self.old) turn blockers.items }
         ensures ends { spare_ends self.old ≤ spare_ends self.new };
 
-    /// The ready call of the least turn.
+    /// The ready call of the least turn. No call may be held but what breaks and locks can hold.
     fn next_ready(&self) -> Option<Ready>
         requires serves { Serves (content self.now) }
-        ensures { result ≡ option_map ready_of (next_ready (content self.now)) };
+        requires rightly { HoldsRightly (content self.now) }
+        ensures { result ≡ option_map (ready_of (content self.now)) (next_ready (content self.now)) };
+
+    /// How many bytes a report of what is due to a handle takes; `None` exactly where nothing is due. It takes
+    /// no memory.
+    fn due_size(&self, handle: u64) -> Option<u64>
+        ensures some { is_some result ≡ is_something_due (content self.now) handle }
+        ensures size { IfSome result (λ size. size ≡ due_size (content self.now) handle) };
+
+    /// The watch of a handle reports what is due to it, in at most `room` bytes, and is due from now on.
+    /// `NoMemory` changes nothing, and comes only where the report would have bytes.
+    fn report(&mut self, alloc: Global, handle: u64, room: u32) -> Result<Reply, NoMemory>
+        ensures reply { IfOk result (λ reply. reply ≡ report (content self.old) handle room) }
+        ensures seen { OnOk result (content self.new ≡ with_watch_seen (content self.old) handle) }
+        ensures unchanged { OnErr result (content self.new ≡ content self.old) }
+        ensures within { OnErr result (due_size (content self.old) handle ≤ room) }
+        ensures ends { spare_ends self.old ≤ spare_ends self.new };
 
     /// The call that is pending under this turn.
     fn pending(&self, turn: u64) -> Option<&Call>

@@ -32,3 +32,6 @@ turns-preserved g c =
       told_room = c.take_up.ensures.told_room ∙ c.turns.invariant.told_room;
       named = omega (arith, on.named, c.turns.invariant.named, c.take_up.ensures.named_room);
     }
+
+pub next_ready-requires : goal.next_ready-requires
+next_ready-requires g c = record { serves = c.turns.invariant.serves.serves; rightly = c.turns.invariant.reaches.on.may.held }
