@@ -43,7 +43,7 @@ leaves_from lines first clients = map (λ numbered. leave_after lines numbered.0
 AreLineCalls-leaves : (lines : List Call) (all place : ℕ) (clients : List Client) → place + length clients ≤ all → AreLineCalls all (leaves_from lines place clients)
 AreLineCalls-leaves lines all place [] within = tt
 AreLineCalls-leaves lines all place (client ∷ clients) within =
-    (record { fits = refl; can_be_asked = refl; ticks = refl; client = omega arith }, AreLineCalls-leaves lines all (place + 1) clients (omega arith))
+    (record { fits = refl; ticks = refl; client = omega arith }, AreLineCalls-leaves lines all (place + 1) clients (omega arith))
 
 -- the leavings are such calls too
 pub AreLineCalls-all : (script : Script) → AreLineCalls (length script.setup.clients) script.lines → AreLineCalls (length script.setup.clients) (all_calls script)
