@@ -3,6 +3,7 @@
 ghost use Rattle.std.specs.Prelude.{◌≡◌, ◌≤◌, ◌<◌, ◌+◌, ◌==◌, ◌++◌, ◌∷◌, [], ℕ, true, not, is_some, IsSome, length, map, slice_get, Some, IfOk, IfErr, OnOk, OnErr};
 ghost use Rattle.std.specs.List.{list_any};
 ghost use Rattle.std.specs.Vec.{vec_capacity, vec_len};
+ghost use Rattle.fsa_model.specs.Coherence.{CachingIsCoherent};
 ghost use Rattle.fsa_model.specs.Engine.{EndsOnce, NoneReady, TakesReleased, is_entry_of};
 ghost use Rattle.fsa_model.specs.History.{Run, run};
 ghost use Rattle.fsa_model.specs.LineCalls.{IsLineCall};
@@ -137,6 +138,7 @@ impl<S: Store> Machine<S> {
         ensures none_is_ready { (r : Run) → run self.new.setup self.new.entries ≡ Some r → NoneReady r.volume }
         ensures each_call_ends_once { (r : Run) → run self.new.setup self.new.entries ≡ Some r → EndsOnce self.new.entries r }
         ensures a_held_call_is_tried_in_the_turn_that_lets_it_go { IfOk result (λ out. (r : Run) → run self.old.setup self.old.entries ≡ Some r → TakesReleased r.volume call out.starved.items) }
+        ensures caching_is_coherent { CachingIsCoherent self.new.setup self.new.entries }
         ensures full { is_full result ≡ (length self.old.entries == most_entries) }
         ensures err { IfErr result (λ back. (self.new ≡ self.old) × (back.0 ≡ call)) }
     {

@@ -1,6 +1,7 @@
 -- What a run reads and writes: the bytes of a script, and the text of a history that is scheduled for it,
 -- which no other such history has.
 use Rattle.std.specs.Prelude.{◌≡◌, ℕ, false, List, [], ◌∷◌, ◌++◌, Option, Some, None, Ok, Err, codes, decimal}
+use Rattle.fsa_model.specs.Coherence.{CachingIsCoherent}
 use Rattle.fsa_model.specs.Fault.{Fault}
 use Rattle.fsa_model.specs.Setup.{Script}
 use Rattle.fsa_model.specs.History.{HistoryEntry}
@@ -14,21 +15,23 @@ use Rattle.fsa_top.specs.Limits.{PassesLimit, limit_of}
 use Rattle.fsa_top.specs.Words.{Says, limit_line}
 
 -- the one history of a script on one thread: each turn's call was the next one, it has all calls, no other
--- such history has its text, and where no line of its text shows NO_MEMORY no call found no memory
+-- such history has its text, caching by oplocks is coherent over it, and where no line of its text shows
+-- NO_MEMORY no call found no memory
 pub record IsHistory (script : Script) (history : List HistoryEntry) : Type 0 where
   pub scheduled : Scheduled script history
   pub whole : HasAllCalls script history
   pub only : (other : List HistoryEntry) → Scheduled script other → HasAllCalls script other → text script other ≡ text script history → other ≡ history
+  pub caching_is_coherent : CachingIsCoherent script.setup history
   pub plainly : shows_no_memory (text script history) ≡ false → history ≡ plain script
 
 -- the line that names the least faulty line
 abbrev pub bad_line : ℕ → List ℕ
 bad_line line = codes "bad line " ++ decimal line ++ 10 ∷ []
 
--- a part of the text of a scheduled history that has all calls of the script was written
+-- a part of the text of a scheduled history that has all calls of the script was written; over it too caching is coherent
 abbrev pub WritesPart : Script → Written → Written → Type 0
 WritesPart script written written_now =
-    (history : List HistoryEntry) × Scheduled script history × HasAllCalls script history × AppendsPart written written_now (text script history)
+    (history : List HistoryEntry) × Scheduled script history × HasAllCalls script history × CachingIsCoherent script.setup history × AppendsPart written written_now (text script history)
 
 -- the text of the script's history was written
 abbrev pub WritesText : Script → Written → Written → Type 0

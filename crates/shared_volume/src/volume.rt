@@ -6,6 +6,7 @@ ghost use Rattle.history_lock.specs.Lock.{known};
 ghost use Rattle.history_lock.specs.Passes.{Refreshed, Waited};
 ghost use Rattle.history_lock.specs.Turns.{Sees, beaten};
 ghost use Rattle.shared_volume.specs.Answers.{IfBusy, IfDid, IfDone, IfRefused, OnBusy, OnNoMemory, OnPending};
+ghost use Rattle.fsa_model.specs.Coherence.{CachingIsCoherent};
 ghost use Rattle.shared_volume.specs.Histories.{IsHistory, MayRefuse};
 ghost use Rattle.shared_volume.specs.Shared.{CanSubmit, EndedWithList, HasEnded, IsPass, OnlySees, Pends, Submits, WaitsFor, call_of, client_of, setup_at};
 
@@ -209,6 +210,7 @@ impl SharedVolume {
         ensures history { IsHistory result.setup result.entries }
         ensures each { (i : ℕ) (p : _) → slice_get passes.items i ≡ Some p → Sees call_of client_of result.entries (known p).own }
         ensures no_others { All (λ entry. entry.call.client < length (setup_at self).clients) result.entries }
+        ensures caching_is_coherent { CachingIsCoherent result.setup result.entries }
     {
         let SharedVolume { lock } = self;
         let (engine, _) = lock.close(passes);

@@ -1,3 +1,4 @@
+use Rattle.fsa_model.proofs.CoherenceRuns.{run-coherent}
 use Rattle.fsa_machine.proofs.StandLaws.{Stands-none_ready, Stands-ends_once, released-turn}
 use Rattle.fsa_machine.proofs.machine.Machine.turn.Goals as goal
 
@@ -10,3 +11,6 @@ returns-clause-each_call_ends_once g c = λ r runs. Stands-ends_once _ _ _ _ r c
 pub returns-clause-a_held_call_is_tried_in_the_turn_that_lets_it_go : goal.returns-clause-a_held_call_is_tried_in_the_turn_that_lets_it_go
 returns-clause-a_held_call_is_tried_in_the_turn_that_lets_it_go g c =
     rw (← c.self.view_is) (released-turn _ _ _ _ _ _ c.turn_of.result c.args.call c.turn_of.ensures.stands c.turn_of.ensures.setup c.turn_of.ensures.entries)
+
+pub returns-clause-caching_is_coherent : goal.returns-clause-caching_is_coherent
+returns-clause-caching_is_coherent g c = run-coherent _ _
