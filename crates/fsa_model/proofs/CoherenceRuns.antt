@@ -171,7 +171,7 @@ Goes-turn v call starved =
 
 -- ---- the tries of a run
 
-turn_on-settled : (r : Run) (entry : HistoryEntry) (next : Run) → turn_on r entry ≡ Some next → next.volume ≡ (settlement r.volume entry.call entry.starved).volume
+pub turn_on-settled : (r : Run) (entry : HistoryEntry) (next : Run) → turn_on r entry ≡ Some next → next.volume ≡ (settlement r.volume entry.call entry.starved).volume
 turn_on-settled r entry next is = elim (option_cases (turn r.volume entry.call entry.starved)) [
   | inl none ↦ (let impossible : None ≡ Some next = rw none at is in cc)
   | inr some ↦ (let so : Some (with_turn r some.0) ≡ Some next = rw some.1 at is in

@@ -49,6 +49,8 @@ pub mod LoopLaws
 pub mod MoveLaws
 pub mod NamingExamples
 pub mod NamingTable
+pub mod NoticeLaws
+pub mod NoticeRuns
 pub mod ObeyControl
 pub mod ObeyData
 pub mod ObeyInformation
@@ -68,6 +70,7 @@ pub mod PackedExamples
 pub mod PackedLaws
 pub mod PendLaws
 pub mod PlainLaws
+pub mod QuietLaws
 pub mod ReplacementLaws
 pub mod ReportLaws
 pub mod RowLaws
@@ -87,6 +90,7 @@ pub mod TakenLaws
 pub mod TryFrame
 pub mod TryLaws
 pub mod TryObeys
+pub mod TryQuiet
 pub mod TurnLaws
 pub mod WaitEnds
 pub mod WaitExamples

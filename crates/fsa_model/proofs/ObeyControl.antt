@@ -21,7 +21,7 @@ use Rattle.fsa_model.specs.Sound.{PointFits}
 use Rattle.fsa_model.specs.Volume.{File, Handle, Volume}
 use Rattle.fsa_model.specs.Walk.{point_of}
 use Rattle.fsa_model.proofs.FrameLaws.{AddsNothing-files, AddsNothing-noted, EndsPending-equal, KeepsFrame-before}
-use Rattle.fsa_model.proofs.ObeyLaws.{Calm, Calm-files, Calm-next, Calm-noted, Calm-tree, Obeys, Obeys-ends, Obeys-framed, Obeys-if, Obeys-option, Obeys-refused, Obeys-replies}
+use Rattle.fsa_model.proofs.ObeyLaws.{Calm, Calm-files, Calm-next, Calm-noted, Calm-tree, Obeys, Obeys-ends, Obeys-framed, Obeys-if, Obeys-option, Obeys-refused, Obeys-replies, watches-noted}
 use Rattle.fsa_model.proofs.RowLaws.{change_at}
 use Rattle.fsa_model.proofs.TryLaws.{Untouched, Untouched-next, Untouched-noted, Watches-equal}
 use Rattle.std.specs.Int.{w16, w32, from_le_bytes}
@@ -77,7 +77,7 @@ set_point-obeys v client number handle bytes link file point short =
     (λ no. Obeys-if (is_link_of_parent v link) _ _ (λ is. Obeys-refused call v DirectoryNotEmpty refl)
     (λ no. Obeys-if (has_other_tag v file point.0) _ _ (λ is. Obeys-refused call v IoReparseTagMismatch refl)
     (λ no. Obeys-framed call v (with_point_noted v link file (Some (point.0, point.1))) _
-    (Untouched-next (Untouched-point v file (Some (point.0, point.1))) (Untouched-noted _ link _ _ None))
+    (Untouched-next (Untouched-point v file (Some (point.0, point.1))) (Untouched-noted _ link _ _ None)) (watches-noted _ link _ _ None)
     (KeepsFrame-before (KeepsFrame-point v client number handle bytes file (point.0, point.1) short) (AddsNothing-noted _ link _ _ None))
     (record { bytes = omega arith; units = omega arith }) refl)))
 

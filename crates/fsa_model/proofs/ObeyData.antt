@@ -293,6 +293,7 @@ Gains-lock call v handle at count exclusive locks = record {
   few = record { files = omega arith; links = omega arith; streams = omega arith; handles = omega arith; locks = omega arith };
   keeps = KeepsFrame-lock call v handle at count exclusive locks;
   ended = refl;
+  watches = refl;
 }
 
 lock_free-obeys : (call : Call) (v : Volume) (handle stream at count : ℕ) (exclusive wait : Bool) → CanBeHeld call → is_lock call.what ≡ true → Obeys call v (lock_free v handle stream at count exclusive wait)

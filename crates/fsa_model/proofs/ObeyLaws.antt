@@ -1,9 +1,9 @@
 -- What every try is shown to keep, in one record: a law for each way in which a definition goes on, and one for
 -- each kind of edit. A request's definition is followed once, by these.
-use Rattle.std.proofs.Common.{◌≡◌, ℕ, Bool, true, false, List, refl, sym, subst, arith, Option, Some, None, ◌∙◌}
+use Rattle.std.proofs.Common.{◌≡◌, ℕ, Bool, true, false, List, refl, sym, subst, arith, Option, Some, None, ◌∙◌, inl, inr}
 use Rattle.std.specs.Option.{option_map_or}
 use Rattle.std.specs.Prelude.{if◌then◌else◌}
-use Rattle.fsa_types.specs.Rows.{with_row_changed}
+use Rattle.fsa_types.specs.Rows.{row_of, with_row_changed}
 use Rattle.fsa_types.specs.declared.oplock.Class.{Class}
 use Rattle.fsa_types.specs.declared.oplock.HandleSet.{HandleSet}
 use Rattle.fsa_types.specs.declared.reply.Blocker.{Blocker}
@@ -19,11 +19,14 @@ use Rattle.fsa_model.specs.Edits.{with_basic}
 use Rattle.fsa_model.specs.Frame.{is_failure, FitsReply, KeepsFrame, InFrame, PointsFit}
 use Rattle.fsa_model.specs.Outcome.{Outcome, Done, Stay, Hold, ends_with, refused}
 use Rattle.fsa_model.specs.Starving.{is_no_memory, TriesPlain}
+use Rattle.fsa_model.specs.Turn.{volume_after}
 use Rattle.fsa_model.specs.Volume.{File, Volume}
 use Rattle.fsa_model.specs.Waits.{waits_for, held_by}
 pub use Rattle.fsa_model.specs.Settling.{may_be_held}
 use Rattle.fsa_model.proofs.FrameLaws.{AddsNothing, AddsNothing-alike, AddsNothing-breaks, AddsNothing-file, AddsNothing-next, AddsNothing-noted, AddsNothing-same, InFrame-after_breaks, InFrame-done, InFrame-held, InFrame-held_by, InFrame-refused, InFrame-replies, KeepsFrame-adds_nothing, NeverStays, OnlyBreaks-none, KeepsFrame-after, KeepsFrame-before}
 use Rattle.fsa_model.proofs.PlainLaws.{EndsPlain-same, TriesPlain-after_breaks, TriesPlain-done, TriesPlain-held_by, TriesPlain-refused, TriesPlain-replies}
+use Rattle.fsa_model.proofs.QuietLaws.{Onward, Onward-breaks, Onward-leaves, Onward-next, Onward-same, Onward-untouched}
+use Rattle.fsa_model.proofs.RowLaws.{option_cases}
 use Rattle.fsa_model.proofs.TryLaws.{AreLiving, FewNumbers, FewNumbers-same, HasOneOplockEach-kept, Leaves, Leaves-breaks, Leaves-same, Leaves-untouched, SameNumbers, SameNumbers-breaks, SameNumbers-same, Tries, Tries-after, Tries-done, Tries-held, Tries-held_by, Tries-refused, Untouched, Untouched-next, Untouched-noted, Untouched-same, Watches-equal, SameNumbers-next, Leaves-next, FewNumbers-after, FewNumbers-before}
 use Rattle.fsa_model.proofs.WaitLaws.{HasOneOplockEach}
 
@@ -33,12 +36,13 @@ use Rattle.fsa_model.proofs.WaitLaws.{HasOneOplockEach}
 pub record Calm (v w : Volume) : Type 0 where
   pub untouched : Untouched v w
   pub nothing : AddsNothing v w
+  pub watches : w.watches ≡ v.watches
 
 pub Calm-same : (v : Volume) → Calm v v
-Calm-same v = record { untouched = Untouched-same v; nothing = AddsNothing-same v }
+Calm-same v = record { untouched = Untouched-same v; nothing = AddsNothing-same v; watches = refl }
 
 pub Calm-next : {u v w : Volume} → Calm u v → Calm v w → Calm u w
-Calm-next first second = record { untouched = Untouched-next first.untouched second.untouched; nothing = AddsNothing-next first.nothing second.nothing }
+Calm-next first second = record { untouched = Untouched-next first.untouched second.untouched; nothing = AddsNothing-next first.nothing second.nothing; watches = second.watches ∙ first.watches }
 
 pub Calm-if : {v : Volume} (test : Bool) (one other : Volume) → Calm v one → Calm v other → Calm v (if test then one else other)
 Calm-if true one other holds fails = holds
@@ -57,6 +61,7 @@ pub Calm-tree : (v w : Volume) → w ≡ with_tree_of v w → Calm v w
 Calm-tree v w same = subst (λ (u : Volume). Calm v u) (sym same) (record {
   untouched = record { oplocks = refl; locks = refl; pending = refl; ended = refl; last_break = refl; seen = Watches-equal refl refl; opens = refl; numbers = record { files = refl; links = refl; streams = refl; handles = refl; locks = refl } };
   nothing = AddsNothing-alike v (with_tree_of v w) refl;
+  watches = refl;
 })
 
 -- other files, whose reparse points fit a reply
@@ -64,6 +69,7 @@ pub Calm-files : (v : Volume) (files : List (ℕ × File)) → AddsNothing v (re
 Calm-files v files nothing = record {
   untouched = record { oplocks = refl; locks = refl; pending = refl; ended = refl; last_break = refl; seen = Watches-equal refl refl; opens = refl; numbers = record { files = refl; links = refl; streams = refl; handles = refl; locks = refl } };
   nothing = nothing;
+  watches = refl;
 }
 
 -- a file changed, but not its reparse point
@@ -76,8 +82,11 @@ Calm-basic v file creation access write change attributes =
     Calm-file v (λ row. record row { creation = creation; access = access; write = write; change = change; attributes = attributes }) file (λ row. refl)
 
 -- a change noted
+pub watches-noted : (v : Volume) (link action bits : ℕ) (stream : Option ℕ) → (with_change_noted v link action bits stream).watches ≡ v.watches
+watches-noted v link action bits stream = elim (option_cases (row_of v.links link)) [ inl none ↦ rw none refl | inr some ↦ rw some.1 refl ]
+
 pub Calm-noted : (v : Volume) (link action bits : ℕ) (stream : Option ℕ) → Calm v (with_change_noted v link action bits stream)
-Calm-noted v link action bits stream = record { untouched = Untouched-noted v link action bits stream; nothing = AddsNothing-noted v link action bits stream }
+Calm-noted v link action bits stream = record { untouched = Untouched-noted v link action bits stream; nothing = AddsNothing-noted v link action bits stream; watches = watches-noted v link action bits stream }
 
 -- ---- edits that give numbers
 
@@ -87,6 +96,7 @@ pub record Gains (call : Call) (v w : Volume) : Type 0 where
   pub few : FewNumbers v w
   pub keeps : KeepsFrame call v w
   pub ended : w.ended ≡ v.ended
+  pub watches : w.watches ≡ v.watches
 
 pub Gains-next : {call : Call} {u v w : Volume} → Gains call u v → Calm v w → Gains call u w
 Gains-next {v = v} {w = w} gains calm = record {
@@ -94,6 +104,7 @@ Gains-next {v = v} {w = w} gains calm = record {
   few = FewNumbers-before gains.few calm.untouched.numbers;
   keeps = KeepsFrame-before gains.keeps calm.nothing;
   ended = calm.untouched.ended ∙ gains.ended;
+  watches = calm.watches ∙ gains.watches;
 }
 
 pub Gains-after : {call : Call} {u v w : Volume} → Calm u v → Gains call v w → Gains call u w
@@ -102,6 +113,7 @@ Gains-after {u = u} {v = v} calm gains = record {
   few = FewNumbers-after calm.untouched.numbers gains.few;
   keeps = KeepsFrame-after calm.nothing gains.keeps;
   ended = gains.ended ∙ calm.untouched.ended;
+  watches = gains.watches ∙ calm.watches;
 }
 
 -- ---- a try
@@ -113,12 +125,13 @@ SparesTo what v (Stay w interim) = ⊥
 SparesTo what v (Hold w blockers interim) = may_be_held what ≡ true
 
 -- a try of this call, from this volume, that comes to this outcome keeps what every such try has to keep: of what
--- is waited for, of numbers, of its frame, and of calls that find no memory
+-- is waited for, of numbers, of its frame, of calls that find no memory, and of watches
 pub record Obeys (call : Call) (v : Volume) (outcome : Outcome) : Type 0 where
   pub tries : HasOneOplockEach v → Tries Leaves v outcome
   pub spares : SparesTo call.what v outcome
   pub frame : PointsFit v → InFrame call v outcome
   pub plain : TriesPlain v outcome
+  pub onward : Onward v (volume_after outcome)
 
 -- the call is one that can be held, and none that may stay without a blocker
 pub record CanBeHeld (call : Call) : Type 0 where
@@ -136,6 +149,7 @@ Obeys-refused call v status plain = record {
   spares = λ never. SameNumbers-same v;
   frame = λ fit. InFrame-refused call v status;
   plain = TriesPlain-refused v status plain;
+  onward = Onward-same v;
 }
 
 -- it changes nothing and replies
@@ -145,6 +159,7 @@ Obeys-replies call v reply fits plain = record {
   spares = λ never. SameNumbers-same v;
   frame = λ fit. InFrame-replies call v reply fits;
   plain = TriesPlain-replies v reply plain;
+  onward = Onward-same v;
 }
 
 -- where the reply depends on the files
@@ -154,6 +169,7 @@ Obeys-replies_fit call v reply fits plain = record {
   spares = λ never. SameNumbers-same v;
   frame = λ fit. InFrame-replies call v reply (fits fit);
   plain = TriesPlain-replies v reply plain;
+  onward = Onward-same v;
 }
 
 -- it succeeds, and nobody waits for what it changes
@@ -163,15 +179,17 @@ Obeys-calm call v w reply calm fits success = record {
   spares = λ never. calm.untouched.numbers;
   frame = λ fit. InFrame-done call v w reply (KeepsFrame-adds_nothing calm.nothing) fits success;
   plain = TriesPlain-done v w reply (EndsPlain-same calm.untouched.ended) (plain_success reply.status success);
+  onward = Onward-untouched v w calm.untouched calm.watches;
 }
 
 -- it succeeds, and touches nothing that is waited for, within its frame
-pub Obeys-framed : (call : Call) (v w : Volume) (reply : Reply) → Untouched v w → KeepsFrame call v w → FitsReply call.what reply → is_failure reply.status ≡ false → Obeys call v (Done w reply)
-Obeys-framed call v w reply untouched keeps fits success = record {
+pub Obeys-framed : (call : Call) (v w : Volume) (reply : Reply) → Untouched v w → w.watches ≡ v.watches → KeepsFrame call v w → FitsReply call.what reply → is_failure reply.status ≡ false → Obeys call v (Done w reply)
+Obeys-framed call v w reply untouched watches keeps fits success = record {
   tries = λ one. Tries-done w reply (Leaves-untouched v w untouched) (FewNumbers-same untouched.numbers);
   spares = λ never. untouched.numbers;
   frame = λ fit. InFrame-done call v w reply keeps fits success;
   plain = TriesPlain-done v w reply (EndsPlain-same untouched.ended) (plain_success reply.status success);
+  onward = Onward-untouched v w untouched watches;
 }
 
 -- with neither bytes nor units
@@ -185,6 +203,7 @@ Obeys-gains call v w reply can gains fits success = record {
   spares = λ never. (let impossible : true ≡ false = sym can.held ∙ never in cc);
   frame = λ fit. InFrame-done call v w reply gains.keeps fits success;
   plain = TriesPlain-done v w reply (EndsPlain-same gains.ended) (plain_success reply.status success);
+  onward = Onward-leaves v w gains.leaves gains.ended gains.watches;
 }
 
 pub Obeys-if : {call : Call} {v : Volume} (test : Bool) (one other : Outcome) → (test ≡ true → Obeys call v one) → (test ≡ false → Obeys call v other) → Obeys call v (if test then one else other)
@@ -203,6 +222,7 @@ Obeys-held call v blockers interim can living = record {
   spares = can.held;
   frame = λ fit. InFrame-held call v v blockers interim (OnlyBreaks-none v);
   plain = record { so = EndsPlain-same refl };
+  onward = Onward-same v;
 }
 
 -- it is held by breaks
@@ -213,6 +233,7 @@ Obeys-held_by call v on kind acting key can waits = record {
   spares = can.held;
   frame = λ fit. InFrame-held_by call v on kind acting key;
   plain = TriesPlain-held_by v on kind acting key;
+  onward = Onward-breaks v on kind acting key;
 }
 
 spares-after : (what : What) (u v : Volume) (outcome : Outcome) → SameNumbers u v → SparesTo what v outcome → SparesTo what u outcome
@@ -230,6 +251,7 @@ Obeys-after_breaks call v on kind acting key outcome can goes = record {
   spares = spares-after call.what v (with_breaks v on kind acting key) outcome (SameNumbers-breaks v on kind acting key) goes.spares;
   frame = λ fit. InFrame-after_breaks call v on kind acting key outcome can.never (goes.frame (AddsNothing.points (AddsNothing-breaks v on kind acting key) fit));
   plain = TriesPlain-after_breaks v on kind acting key outcome goes.plain;
+  onward = Onward-next (Onward-breaks v on kind acting key) goes.onward;
 }
 
 -- it is held by breaks or goes on after them

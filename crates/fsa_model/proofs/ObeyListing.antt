@@ -27,6 +27,7 @@ use Rattle.fsa_model.proofs.ObeyLaws.{Obeys, Obeys-if, Obeys-option, Obeys-refus
 use Rattle.fsa_model.proofs.PendLaws.{HandlesStay}
 use Rattle.fsa_model.proofs.PlainLaws.{EndsPlain-same, TriesPlain-done}
 use Rattle.fsa_model.proofs.RowLaws.{IsNumbered-change, change_at, change_at-number, change_at-same, find-map, find-same, option_cases}
+use Rattle.fsa_model.proofs.QuietLaws.{Onward-leaves}
 use Rattle.fsa_model.proofs.TryLaws.{FewNumbers-same, Leaves, Leaves-same_waits, SameNumbers, Tries-done, Watches-equal}
 
 -- a query of a directory
@@ -105,6 +106,7 @@ list_entries-obeys v client number handle kind asked_kind asked restart id expre
         );
       };
       plain = TriesPlain-done v (with_cursor v id expression (after room)) _ (EndsPlain-same refl) refl;
+      onward = Onward-leaves v (with_cursor v id expression (after room)) (Leaves-cursor v id expression (after room)) refl refl;
     }))
   where
     call : Call
@@ -119,6 +121,7 @@ list_entries-obeys v client number handle kind asked_kind asked restart id expre
       spares = λ never. SameNumbers-cursor v id expression cursor;
       frame = λ points. record { so = (KeepsFrame-cursor call v id expression cursor (λ other. refl), (record { bytes = omega arith; units = omega arith }, λ is. FailsTo-cursor call.what v id expression cursor refl)) };
       plain = TriesPlain-done v (with_cursor v id expression cursor) _ (EndsPlain-same refl) plain;
+      onward = Onward-leaves v (with_cursor v id expression cursor) (Leaves-cursor v id expression cursor) refl refl;
     }
 
 query_dir_by-obeys : (v : Volume) (client number handle : ℕ) (kind : DirKind) (expression : List ℕ) (restart : Bool) (id : ℕ) (row : Handle) (room : ℕ)

@@ -179,6 +179,7 @@ Gains-link call v dir name file = record {
     points = λ fits fit. fit;
   };
   ended = refl;
+  watches = refl;
 }
 
 Gains-linked : (call : Call) (v : Volume) (naming : Naming) (dir : ℕ) (replaced : Option ℕ) → Gains call v (with_linked v naming dir replaced)

@@ -152,6 +152,7 @@ Gains-made v w asked link stream makes = record {
   few = record { files = makes.files; links = makes.links; streams = makes.streams; handles = (let same = makes.last_handle in omega arith); locks = (let same = makes.last_lock in omega arith) };
   keeps = KeepsFrame-handle v w asked _ refl refl makes;
   ended = makes.ended;
+  watches = makes.watches;
 }
 
 opens-obeys : (v : Volume) (asked : Asked) (w : Volume) (why : Status) (done : Action) → Gains (call_of asked) v w → is_failure why ≡ false → Obeys (call_of asked) v (opens w why done)

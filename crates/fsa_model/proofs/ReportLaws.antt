@@ -43,7 +43,7 @@ use Rattle.fsa_model.proofs.WaitLaws.{find-passes}
 begun-handle : (id place : ℕ) (watch : Watch) → (begun_at id place watch).handle ≡ watch.handle
 begun-handle id place watch = elim (cases_Bool (watch.handle == id)) [ inl is ↦ rw is refl | inr isnt ↦ rw isnt refl ]
 
-watch_of-seen : (v : Volume) (id other : ℕ) → watch_of (with_watch_seen v id) other ≡ option_map (begun_at id (length v.changes)) (watch_of v other)
+pub watch_of-seen : (v : Volume) (id other : ℕ) → watch_of (with_watch_seen v id) other ≡ option_map (begun_at id (length v.changes)) (watch_of v other)
 watch_of-seen v id other =
     find-map (λ (watch : Watch). watch.handle == other) (begun_at id (length v.changes)) v.watches
     ∙ ap (λ (found : Option Watch). option_map (begun_at id (length v.changes)) found)
@@ -267,7 +267,7 @@ pub noted-since_report : (v w : Volume) (id : ℕ) (between : Unreported (with_w
 noted-since_report v w id between = ap (λ (changes : List Change). drop (length v.changes) changes) between.changes ∙ drop-append_seam v.changes between.more
 
 -- before the first report, those noted since the Notify that began the watch
-find-push : (id : ℕ) (watches : List Watch) (last : Watch) → find (λ watch. watch.handle == id) watches ≡ None → (last.handle == id) ≡ true → find (λ watch. watch.handle == id) (watches ++ last ∷ []) ≡ Some last
+pub find-push : (id : ℕ) (watches : List Watch) (last : Watch) → find (λ watch. watch.handle == id) watches ≡ None → (last.handle == id) ≡ true → find (λ watch. watch.handle == id) (watches ++ last ∷ []) ≡ Some last
 find-push id [] last none own = rw own refl
 find-push id (watch ∷ watches) last none own = elim (cases_Bool (watch.handle == id)) [
   | inl is ↦ (let impossible : Some watch ≡ None = rw is at none in cc)

@@ -379,7 +379,7 @@ Keeps-changed v change at last same grants = record {
   seen = Watches-equal refl refl;
 }
 
-Keeps-effect : (v : Volume) (oplock : Oplock) (done : Effect) → Keeps v (with_effect v oplock done)
+pub Keeps-effect : (v : Volume) (oplock : Oplock) (done : Effect) → Keeps v (with_effect v oplock done)
 Keeps-effect v oplock Stays = Keeps-same v
 Keeps-effect v oplock Ends = Keeps-next {v = without_oplock v oplock.handle} (record {
   granted = λ turn. how_many-filter_le (is_granted_under turn) (λ (o : Oplock). not (o.handle == oplock.handle)) v.oplocks;

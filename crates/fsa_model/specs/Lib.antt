@@ -69,6 +69,7 @@ pub mod WaitLines
 pub mod Waiting
 pub mod Waits
 pub mod Walk
+pub mod Watched
 pub mod Watching
 pub mod Words
 pub mod Write

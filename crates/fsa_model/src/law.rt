@@ -26,6 +26,7 @@ ghost use Rattle.fsa_model.specs.Sound.{IsSound};
 ghost use Rattle.fsa_model.specs.Turn.{try};
 ghost use Rattle.fsa_model.specs.Volume.{Handle, Pending, Volume};
 ghost use Rattle.fsa_model.specs.Waiting.{next_ready};
+ghost use Rattle.fsa_model.specs.Watched.{WatchesReport};
 ghost use Rattle.fsa_model.specs.Watching.{try_notify, with_watch_begun};
 
 /// In the history of a script on one thread no call is made twice, as the laws below ask.
@@ -88,6 +89,14 @@ pub fn watches_report_what_is_due()
         → TakesReport (settling_after r.volume entry.call entry.starved steps) pending.1 handle room (settling_after r.volume entry.call entry.starved (suc steps)) }
     ensures asked { (v : Volume) (client handle filter : ℕ) (tree : Bool) (room id : ℕ) (row : Handle) → handle_of v client handle ≡ Some id → row_of v.handles id ≡ Some row → PassesChecks v row filter
         → TriesNotify (with_watch_begun v id filter tree) id room (try_notify v client handle filter tree room) }
+{}
+
+/// Over each history each watch reports exactly the matching changes since its last report or, before its first one,
+/// since the Notify that fixed it: those of its handle's directory, or below that where the whole tree counts, under
+/// its filter, packed, or NOTIFY_ENUM_DIR without bytes where they exceed the room. The list of changes is only ever
+/// added to.
+pub fn watches_report_exactly()
+    ensures exactly { (setup : Setup) (history : List HistoryEntry) → WatchesReport setup history }
 {}
 
 /// What is read as a script is written so: the bytes are the lines of that script, in order, each spelled.

@@ -1,0 +1,5 @@
+use Rattle.fsa_model.proofs.NoticeRuns.{run-watches_report}
+use Rattle.fsa_model.proofs.law.watches_report_exactly.Goals as goal
+
+pub returns : goal.returns
+returns c = record { exactly = run-watches_report }
