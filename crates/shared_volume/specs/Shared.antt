@@ -13,7 +13,6 @@ use Rattle.fsa_types.specs.declared.status.Status.{Status}
 use Rattle.fsa_model.specs.History.{HistoryEntry, Run, run}
 use Rattle.fsa_model.specs.LineCalls.{ticks_fit}
 use Rattle.fsa_model.specs.Outcome.{TurnOut}
-use Rattle.fsa_model.specs.Requests.{can_be_asked}
 use Rattle.fsa_model.specs.Setup.{Setup}
 use Rattle.fsa_model.specs.Waiting.{is_pending}
 use Rattle.fsa_machine.specs.Stands.{GaveOut, ended_with_list, reply_in}
@@ -49,7 +48,6 @@ client_of call = call.client
 -- a line can ask this
 pub record CanSubmit (what : What) : Type 0 where
   pub fits : IsTrue (what_fits what)
-  pub can_be_asked : IsTrue (can_be_asked what)
   pub ticks : IsTrue (ticks_fit what)
 
 -- the turn that the last entry stands for answered its own call so
