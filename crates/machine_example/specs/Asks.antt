@@ -8,14 +8,12 @@ use Rattle.fsa_types.specs.declared.request.Call.{Call}
 use Rattle.fsa_types.specs.declared.request.What.{What}
 use Rattle.fsa_model.specs.History.{HistoryEntry}
 use Rattle.fsa_model.specs.LineCalls.{ticks_fit}
-use Rattle.fsa_model.specs.Requests.{can_be_asked}
 use Rattle.fsa_model.specs.Schedule.{calls_of}
 use Rattle.fsa_machine.specs.Stands.{calls_in}
 
--- within the bounds of requests, and what a line of a script can say, or leaving
+-- within the bounds of requests
 pub record CanBeMade (what : What) : Type 0 where
   pub fits : IsTrue (what_fits what)
-  pub can_be_asked : IsTrue (can_be_asked what)
   pub ticks : IsTrue (ticks_fit what)
 
 -- the client's next call after these turns
