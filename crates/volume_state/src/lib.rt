@@ -20,7 +20,8 @@
 //! `handle_of`, `next_handle_of`, `next_pending`, `pending_calls`, `pending_room`, `root`, `is_directory`,
 //! `dir_link`, `has_child`, `links_of`, `is_at_or_below`, `handles_on`, `clashes`, `locks_of`, `bytes_of`,
 //! `clock`, `has_left`, `table`, `sids`,
-//! `oplocks`); waits for calls (`waits`, `all_wait`, `next_over`, `list_waits`); the space that streams
+//! `oplocks`); waits for calls (`waits`, `all_wait`, `next_over`, `next_due`,
+//! `list_waits`); the space that streams
 //! take, and what an owner is charged for it and may be (`clusters`, `charge`, `charge_of_file`, `limit`); the
 //! reparse point of a file (`point`); the room that a note takes (`note_room`, `note_room_in`);
 //! changes of one table (`add_..`, `move_link`, `drop_..`, `mark_..`, `put_bytes`, `set_..`, `end`, `leave`,
@@ -46,12 +47,14 @@
 //! A call that is held waits for breaks and locks; whatever ends one of these tells the queue of held calls,
 //! in time linear in what they wait for, and `next_held` asks nothing but the queue. `next_over` looks through
 //! the pending calls for each wait among them, and never through the calls that have ended; `list_waits` puts
-//! each wait in its place among the others.
+//! each wait in its place among the others. `next_due` looks through them once too, and for each Notify through
+//! what was noted since its watch began or last reported.
 #![tactic(auto)]
 
 mod children;
 mod control;
 mod cursors;
+mod due;
 mod files;
 mod growth;
 mod handles;
