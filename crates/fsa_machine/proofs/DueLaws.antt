@@ -1,26 +1,23 @@
 -- The first Notify to which something is due is ready: it is the earliest of its handle.
-use Rattle.std.proofs.Common.{◌≡◌, ℕ, zero, suc, ◌≤◌, Bool, true, false, not, min, List, [], ◌∷◌, refl, ap, sym, subst, ◌∙◌, arith, inl, inr, Option, Some, None, All}
+use Rattle.std.proofs.Common.{◌≡◌, ℕ, zero, suc, ◌≤◌, Bool, true, false, not, min, List, [], ◌∷◌, refl, ap, sym, ◌∙◌, arith, inl, inr, Option, Some, None, All}
 use Rattle.std.specs.List.{list_any}
 use Rattle.std.specs.Option.{option_map_or}
-use Rattle.std.specs.Prelude.{◌==◌, ◌&&◌, ◌||◌, IfNone, find, nat_lt, option_map, if◌then◌else◌}
-use Rattle.std.proofs.lemmas.Bool.{and_from, and_parts, cases_Bool, eq-eqb, eqb-false, eqb-true, le-ltb, lt-ltb, ltb-false, not-true, or_parts}
+use Rattle.std.specs.Prelude.{◌==◌, ◌&&◌, ◌||◌, nat_lt, if◌then◌else◌}
+use Rattle.std.proofs.lemmas.Bool.{and_from, and_parts, cases_Bool, eq-eqb, eqb-false, eqb-true, le-ltb, ltb-false, or_parts}
 use Rattle.std.proofs.lemmas.List.Elements.{All-head, All-tail}
 use Rattle.fsa_types.specs.Rows.{row_of}
-use Rattle.fsa_types.specs.declared.request.Call.{Call}
 use Rattle.fsa_types.specs.declared.request.Request.TheVariants.{Notify}
 use Rattle.fsa_types.specs.declared.request.What.{What}
 use Rattle.fsa_types.specs.declared.request.What.TheVariants.{Ask}
-use Rattle.fsa_model.specs.Lookups.{next_pending}
 use Rattle.fsa_model.specs.Settling.{is_held_wrongly}
 use Rattle.fsa_model.specs.Volume.{Pending, Volume}
 use Rattle.fsa_model.specs.Waiting.{has_due, is_first_notify, is_held, is_notify_of, is_notify_on}
 use Rattle.fsa_model.proofs.CountLaws.{none-how_many}
 use Rattle.fsa_model.proofs.RowLaws.{option_cases}
-use Rattle.fsa_model.proofs.WaitLaws.{Found, find-passes, some_item}
-use Rattle.volume_state.specs.Waits.{first_row, first_turn, lesser}
+use Rattle.fsa_model.proofs.WaitLaws.{some_item}
+use Rattle.volume_state.specs.Waits.{asks_for_due, first_row, first_turn, is_due, lesser}
 use Rattle.volume_state.proofs.WaitLaws.{AreApart, HasRow, IsRow, first_row-is, first_turn-is, first_turn-more}
 use Rattle.fsa_machine.specs.Serves.{HoldsRightly}
-use Rattle.fsa_machine.specs.Step.{asks_for_due, is_due}
 
 some_same : {X : Type 0} (a b : X) → Some a ≡ Some b → a ≡ b
 some_same a b is = cc
@@ -255,78 +252,3 @@ first-reported v apart rightly = elim (option_cases (first_turn (is_due v) v.pen
         not_none : (n : ℕ) (first : Option ℕ) → lesser (Some n) first ≡ None → ⊥
         not_none n None is = cc
         not_none n (Some k) is = cc
-
--- ---- looking for it
-
--- the call that is read under a turn is asked for it
-pub due-under : (v : Volume) (turn : ℕ) (found : Option Call) → AreApart v.pending → found ≡ option_map (λ row. row.call) (row_of v.pending turn)
-    → option_map_or (λ call. asks_for_due v call.client call.what) found false ≡ list_any (is_at (is_due v) turn) v.pending
-due-under v turn found apart is =
-    ap (λ (call : Option Call). option_map_or (λ call. asks_for_due v call.client call.what) call false) is ∙ both (row_of v.pending turn) ∙ row-passes (is_due v) turn v.pending apart
-  where
-    both : (row : Option Pending) → option_map_or (λ call. asks_for_due v call.client call.what) (option_map (λ row. row.call) row) false ≡ option_map_or (λ row. is_due v row) row false
-    both None = refl
-    both (Some row) = refl
-
--- the turns below the next one, or all of them
-abbrev pub comes_before : Option ℕ → ℕ → Bool
-comes_before None turn = true
-comes_before (Some next) turn = nat_lt turn next
-
--- no row of those turns passes
-abbrev pub NonePassed : (Pending → Bool) → List (ℕ × Pending) → Option ℕ → Type 0
-NonePassed test rows next = list_any (λ entry. comes_before next entry.0 && test entry.1) rows ≡ false
-
-pub NonePassed-begins : (test : Pending → Bool) (rows : List (ℕ × Pending)) → NonePassed test rows (Some 0)
-NonePassed-begins test [] = refl
-NonePassed-begins test (x ∷ rows) = rw (le-ltb x.0 0 (omega arith)) (NonePassed-begins test rows)
-
--- a row above a turn, with none between
-abbrev pub is_next_above : Volume → ℕ → ℕ × Pending → Bool
-is_next_above v after entry = nat_lt after entry.0 && not (list_any (λ other. nat_lt after other.0 && nat_lt other.0 entry.0) v.pending)
-
-between : (v : Volume) (after turn : ℕ) → next_pending v after ≡ Some turn → list_any (λ other. nat_lt after other.0 && nat_lt other.0 turn) v.pending ≡ false
-between v after turn found = elim (option_cases (find (is_next_above v after) v.pending)) [
-  | inl none ↦ (let impossible : None ≡ Some turn = rw none at found in cc)
-  | inr some ↦ (let here : some.0.0 ≡ turn = some_same some.0.0 turn (rw some.1 at found) in
-      let passes : is_next_above v after some.0 ≡ true = find-passes (is_next_above v after) v.pending some.0 some.1 in
-      let parts = and_parts (nat_lt after some.0.0) (not (list_any (λ other. nat_lt after other.0 && nat_lt other.0 some.0.0) v.pending)) passes in
-      subst (λ (t : ℕ). list_any (λ other. nat_lt after other.0 && nat_lt other.0 t) v.pending ≡ false) here
-      (not-true (list_any (λ other. nat_lt after other.0 && nat_lt other.0 some.0.0) v.pending) parts.1))
-]
-
--- where none of a turn passes either, the look goes on
-pub NonePassed-step : (v : Volume) (test : Pending → Bool) (turn : ℕ) (next : Option ℕ) → NonePassed test v.pending (Some turn) → list_any (is_at test turn) v.pending ≡ false → next ≡ next_pending v turn
-    → IfNone next (list_any (λ entry. nat_lt turn entry.0) v.pending ≡ false) → NonePassed test v.pending next
-NonePassed-step v test turn next passed none is last = elim (cases_Bool (list_any (λ entry. comes_before next entry.0 && test entry.1) v.pending)) [
-  | inr isnt ↦ isnt
-  | inl some ↦ absurd (no_item (some_item (λ (entry : ℕ × Pending). comes_before next entry.0 && test entry.1) v.pending some))
-]
-  where
-    above : (entry : ℕ × Pending) → nat_lt turn entry.0 ≡ true → ((other : ℕ × Pending → Bool) → other entry ≡ true → list_any other v.pending ≡ true) → (after : Option ℕ) → after ≡ next_pending v turn
-        → IfNone after (list_any (λ entry. nat_lt turn entry.0) v.pending ≡ false) → comes_before after entry.0 ≡ true → ⊥
-    above entry later there None same none_above before = none-item (λ other. nat_lt turn other.0) v.pending none_above (there (λ other. nat_lt turn other.0) later)
-    above entry later there (Some after) same none_above before =
-        none-item (λ other. nat_lt turn other.0 && nat_lt other.0 after) v.pending (between v turn after (sym same))
-        (there (λ other. nat_lt turn other.0 && nat_lt other.0 after) (and_from (nat_lt turn entry.0) (nat_lt entry.0 after) later before))
-
-    no_item : Found (λ (entry : ℕ × Pending). comes_before next entry.0 && test entry.1) v.pending → ⊥
-    no_item found =
-        let parts = and_parts (comes_before next found.item.0) (test found.item.1) found.passes in
-        elim (cases_Bool (nat_lt found.item.0 turn)) [
-          | inl less ↦ none-item (λ entry. nat_lt entry.0 turn && test entry.1) v.pending passed (found.is_there (λ entry. nat_lt entry.0 turn && test entry.1) (and_from (nat_lt found.item.0 turn) (test found.item.1) less parts.1))
-          | inr no_less ↦ elim (cases_Bool (found.item.0 == turn)) [
-            | inl own ↦ none-item (is_at test turn) v.pending none (found.is_there (is_at test turn) (and_from (found.item.0 == turn) (test found.item.1) own parts.1))
-            | inr other ↦ (let apart : found.item.0 ≡ turn → ⊥ = eqb-false found.item.0 turn other in
-                let most = ltb-false found.item.0 turn no_less in
-                above found.item (lt-ltb turn found.item.0 (omega (arith, apart))) found.is_there next is last parts.0)
-          ]
-        ]
-
--- it is found
-pub NonePassed-found : (test : Pending → Bool) (rows : List (ℕ × Pending)) (turn : ℕ) → NonePassed test rows (Some turn) → list_any (is_at test turn) rows ≡ true → first_turn test rows ≡ Some turn
-NonePassed-found test rows turn passed some = first_turn-least test turn rows passed some
-
--- or there is none
-pub NonePassed-all : (test : Pending → Bool) (rows : List (ℕ × Pending)) → NonePassed test rows None → first_turn test rows ≡ None
-NonePassed-all test rows passed = first_turn-none test rows passed

@@ -16,10 +16,10 @@ use Rattle.fsa_model.specs.Volume.{Pending, Volume}
 use Rattle.fsa_model.specs.Waiting.{blocker_lives, has_come, has_ended, is_blocked, is_held, is_pending, is_ready, next_ready}
 use Rattle.fsa_model.proofs.CountLaws.{how_many-none, how_many-some, none-how_many, some-how_many}
 use Rattle.fsa_model.proofs.RowLaws.{option_cases, option_map-none}
-use Rattle.volume_state.specs.Waits.{first_turn, is_over, lesser, waits_no_more}
+use Rattle.volume_state.specs.Waits.{first_turn, is_due, is_over, lesser, waits_no_more}
 use Rattle.volume_state.proofs.WaitLaws.{AreApart, IsRow, HasRow, first_row-is, first_turn-either, first_turn-is}
 use Rattle.fsa_machine.specs.Serves.{HoldsRightly, Serves, awaits_made}
-use Rattle.fsa_machine.specs.Step.{is_due, ready_of, report_to}
+use Rattle.fsa_machine.specs.Step.{ready_of, report_to}
 use Rattle.fsa_machine.specs.declared.store.Ready.{Ready}
 use Rattle.fsa_machine.proofs.DueLaws.{first-reported, is_reported, reports_now}
 

@@ -1,5 +1,5 @@
 -- What the code sees of a pending call, the room that it takes for copies of a reply, and ends that hold nothing.
-use Rattle.std.specs.Prelude.{ℕ, ◌≤◌, Bool, false, List, [], ◌∷◌, All, Option, None, option_map}
+use Rattle.std.specs.Prelude.{ℕ, ◌≤◌, List, [], ◌∷◌, All, Option, None, option_map}
 use Rattle.fsa_types.specs.declared.reply.Body.TheVariants.{Nothing}
 use Rattle.fsa_types.specs.declared.reply.EndOf.{EndOf}
 use Rattle.fsa_types.specs.declared.request.Request.TheVariants.{Notify}
@@ -12,7 +12,7 @@ use Rattle.fsa_model.specs.Edits.{with_end}
 use Rattle.fsa_model.specs.Lookups.{handle_of}
 use Rattle.fsa_model.specs.Settling.{TakesNext}
 use Rattle.fsa_model.specs.Volume.{Pending, Volume}
-use Rattle.fsa_model.specs.Waiting.{has_due, is_held}
+use Rattle.fsa_model.specs.Waiting.{is_held}
 use Rattle.fsa_machine.specs.declared.replies.ReplyRooms.{ReplyRooms}
 use Rattle.fsa_machine.specs.declared.store.Ready.{Ready}
 use Rattle.fsa_machine.specs.declared.store.Report.{Report}
@@ -31,14 +31,6 @@ ready_of v entry = record {
   held = is_held entry.1;
   report = report_to v entry.1.call.client entry.1.call.what;
 }
-
--- a Notify is asked, and something is due to its handle
-abbrev pub asks_for_due : Volume → ℕ → What → Bool
-asks_for_due v client (Ask (Notify handle filter tree room)) = has_due v client handle
-asks_for_due v client _ = false
-
-abbrev pub is_due : Volume → Pending → Bool
-is_due v pending = asks_for_due v pending.call.client pending.call.what
 
 -- a call by its client and number
 abbrev pub id_of : ℕ × Pending → CallId

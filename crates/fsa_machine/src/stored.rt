@@ -1,19 +1,17 @@
 //! The volume, as a turn sees it.
 
-ghost use Rattle.std.specs.List.{list_any};
-ghost use Rattle.std.specs.Prelude.{◌≡◌, ◌≤◌, ◌+◌, ◌==◌, ◌&&◌, ℕ, [], Option, IfOk, IfSome, OnErr, OnOk, false, is_some, length, map, option_map, slice_get};
+ghost use Rattle.std.specs.Prelude.{◌≡◌, ◌≤◌, ◌+◌, ◌==◌, ℕ, [], Option, IfOk, IfSome, OnErr, OnOk, false, is_some, length, map, option_map, slice_get};
 ghost use Rattle.std.specs.Option.{option_copied, option_map_or};
 ghost use Rattle.fsa_types.specs.Rows.{row_of};
 ghost use Rattle.fsa_machine.specs.Serves.{HoldsRightly, MayHoldAnew, MayPend, MayTry, Serves};
-ghost use Rattle.fsa_machine.specs.Step.{asks_for_due, id_of, is_due, ready_of, report_to};
+ghost use Rattle.fsa_machine.specs.Step.{id_of, ready_of, report_to};
 ghost use Rattle.fsa_machine.specs.Tried.{HasPendRoom};
 ghost use Rattle.fsa_model.specs.Edits.{with_blockers, with_end, with_pending};
-ghost use Rattle.fsa_model.specs.Sound.{ArePending};
 ghost use Rattle.fsa_model.specs.Try.{try};
-ghost use Rattle.fsa_model.specs.Waiting.{all_wait, has_due, next_ready, waits, waits_in_order};
+ghost use Rattle.fsa_model.specs.Waiting.{all_wait, next_ready, waits, waits_in_order};
 ghost use Rattle.fsa_model.specs.Watching.{due_size, is_something_due, report, with_watch_seen};
 ghost use Rattle.volume_state.specs.Tried.{Gives};
-ghost use Rattle.volume_state.specs.Waits.{first_turn, lesser};
+ghost use Rattle.volume_state.specs.Waits.{lesser};
 
 use crate::serving;
 use crate::store::{Ready, Report, Store};
@@ -59,53 +57,6 @@ fn report_to(volume: &Volume, client: u32, what: &What) -> Option<Report>
     }
 }
 
-// Whether something is due to a handle of a client.
-fn has_due(volume: &Volume, client: u32, handle: u32) -> bool
-    ensures { result ≡ has_due volume.now.content client handle }
-{
-    match volume.handle_of(client, handle) {
-        None => false,
-        Some(id) => volume.due_size(id).is_some(),
-    }
-}
-
-// Whether a Notify is asked, and something is due to its handle.
-fn asks_for_due(volume: &Volume, client: u32, what: &What) -> bool
-    ensures { result ≡ asks_for_due volume.now.content client what.now }
-{
-    match what {
-        What::Ask(Request::Notify { handle, .. }) => has_due(volume, client, *handle),
-        _ => false,
-    }
-}
-
-// Whether a Notify to which something is due is pending under this turn.
-fn is_due_under(volume: &Volume, turn: u64) -> bool
-    requires sound { ArePending volume.now.content.clients volume.now.content.pending }
-    ensures { result ≡ list_any (λ entry. entry.0 == turn && is_due volume.now.content entry.1) volume.now.content.pending }
-{
-    match volume.pending(turn) {
-        None => false,
-        Some(call) => asks_for_due(volume, call.client, &call.what),
-    }
-}
-
-// The least turn of a Notify to which something is due. It is the earliest of its handle, since as much is due
-// to each of them.
-fn next_due(volume: &Volume) -> Option<u64>
-    requires sound { ArePending volume.now.content.clients volume.now.content.pending }
-    ensures { result ≡ first_turn (is_due volume.now.content) volume.now.content.pending }
-{
-    let mut turn = 0;
-    'turns: while !is_due_under(volume, turn) {
-        let Some(next) = volume.next_pending(turn) else {
-            return None;
-        };
-        turn = next;
-    }
-    Some(turn)
-}
-
 // The ready call of the least turn: the held one that is let go first, the first wait that is over, or the first
 // Notify to which something is due.
 fn next_ready(volume: &Volume) -> Option<Ready>
@@ -115,7 +66,7 @@ fn next_ready(volume: &Volume) -> Option<Ready>
 {
     let let_go = volume.next_held();
     let over = volume.next_over();
-    let due = next_due(volume);
+    let due = volume.next_due();
     let unheld = lesser(over, due);
     let Some(turn) = lesser(let_go, unheld) else {
         return None;

@@ -58,7 +58,7 @@ impl Volume {
     /// The least turn of a pending Notify to which something is due; `None` exactly where there is none. As
     /// much is due to each Notify of a handle, so it is the earliest of its handle. Takes no memory.
     pub fn next_due(&self) -> Option<u64>
-        ensures found { result ≡ first_turn (is_due self.now.content) self.now.content.pending }
+        ensures { result ≡ first_turn (is_due self.now.content) self.now.content.pending }
     {
         next_due(self, self.pending.as_slice())
     }
