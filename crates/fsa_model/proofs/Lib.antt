@@ -49,8 +49,10 @@ pub mod LoopLaws
 pub mod MoveLaws
 pub mod NamingExamples
 pub mod NamingTable
+pub mod NoticeEnds
 pub mod NoticeLaws
 pub mod NoticeRuns
+pub mod NoticeTries
 pub mod ObeyControl
 pub mod ObeyData
 pub mod ObeyInformation

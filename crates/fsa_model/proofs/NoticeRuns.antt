@@ -15,7 +15,7 @@ use Rattle.fsa_types.specs.declared.request.What.TheVariants.{Ask}
 use Rattle.fsa_types.specs.declared.status.Status.TheVariants.{InvalidHandle, Stalled}
 use Rattle.fsa_model.specs.Edits.{with_watch}
 use Rattle.fsa_model.specs.Engine.{own_tried}
-use Rattle.fsa_model.specs.History.{HistoryEntry, Run, begun, steps, turn_on}
+use Rattle.fsa_model.specs.History.{HistoryEntry, Run, begun, run, steps, turn_on}
 use Rattle.fsa_model.specs.Lookups.{handle_of, has_left, is_link_marked}
 use Rattle.fsa_model.specs.Outcome.{Outcome, Done, Stay, Hold, refused}
 use Rattle.fsa_model.specs.Settle.{Settling, come_over, repeated, reported, settle_step, starves, taken_up, taken_up_all, wait_over, with_tried}
@@ -24,7 +24,7 @@ use Rattle.fsa_model.specs.Try.{try, try_what}
 use Rattle.fsa_model.specs.Turn.{answered, settlement, turn_number, volume_after}
 use Rattle.fsa_model.specs.Volume.{Handle, Pending, Volume, Watch}
 use Rattle.fsa_model.specs.Waiting.{all_wait, has_come, has_due, is_first_notify, is_held, is_ready, next_ready, waits_in_order, with_stalled}
-use Rattle.fsa_model.specs.Watched.{EachReports, Notice, WatchesReport, is_report_status, notices_asked, notices_by, notices_come, notices_from, notices_in, notices_of_steps, notices_of_turn, notices_reported}
+use Rattle.fsa_model.specs.Watched.{AddAlong, EachReports, Notice, is_report_status, notices_asked, notices_by, notices_come, notices_from, notices_in, notices_of, notices_of_steps, notices_of_turn, notices_reported}
 use Rattle.fsa_model.specs.Watching.{dir_of, due_size, is_notify_filter, is_something_due, notify_at, notify_by, notify_due, report, try_notify, watch_of, with_watch_begun, with_watch_seen}
 use Rattle.fsa_model.proofs.CoherenceRuns.{turn_on-settled}
 use Rattle.fsa_model.proofs.CountLaws.{and_left}
@@ -44,7 +44,7 @@ fixed-none_due v id filter whole none =
     let found : find (λ (watch : Watch). watch.handle == id) (v.watches ++ new ∷ []) ≡ Some new = find-push id v.watches new none (eq-eqb id id refl) in
     rw found (elim (option_cases (dir_of v id)) [ inl missing ↦ rw missing refl | inr dir ↦ rw (dir.1, drop-length v.changes) refl ])
 
-reports-status : (v : Volume) (id room : ℕ) → is_report_status (report v id room).status ≡ true
+pub reports-status : (v : Volume) (id room : ℕ) → is_report_status (report v id room).status ≡ true
 reports-status v id room = elim (cases_Bool (nat_le (due_size v id) room)) [ inl within ↦ rw within refl | inr more ↦ rw more refl ]
 
 leads-by : (v : Volume) (call : Call) (id : ℕ) (handle : Handle) (filter : ℕ) (whole : Bool) (room : ℕ)
@@ -176,7 +176,6 @@ Leads-steps (suc more) s = elim (option_cases (next_ready s.volume)) [
 -- ---- a turn, and a run
 
 Leads-turn : (v : Volume) (call : Call) (starved : List CallId) → Leads (notices_of_turn v call starved) v (settlement v call starved).volume
-unfolding notices_of_turn
 Leads-turn v call starved =
     let own : Volume = own_tried v call in
     let start : Settling = record { volume = own; starved = starved; taken = [] } in
@@ -221,8 +220,8 @@ reports-from (entry ∷ more) r known knows =
           (subst (λ (w : Volume). Knows (known ++ notices_of_turn r.volume entry.call entry.starved) w) (sym (turn_on-settled r entry some.0 some.1)) (here.knows known knows)))
     ])
 
-pub run-watches_report : (setup : Setup) (history : List HistoryEntry) → WatchesReport setup history
-run-watches_report setup history = record {
-  reports = reports-from history (begun setup) [] (λ id watch is. (let impossible : None ≡ Some watch = is in cc));
-  adds = λ r is. Leads.adds (Leads-from history (begun setup) r is);
-}
+pub run-reports_since : (setup : Setup) (history : List HistoryEntry) → EachReports [] (notices_of setup history)
+run-reports_since setup history = reports-from history (begun setup) [] (λ id watch is. (let impossible : None ≡ Some watch = is in cc))
+
+pub run-adds : (setup : Setup) (history : List HistoryEntry) (r : Run) → run setup history ≡ Some r → AddAlong (notices_of setup history) (begun setup).volume r.volume
+run-adds setup history r is = Leads.adds (Leads-from history (begun setup) r is)

@@ -97,7 +97,7 @@ try-oplock_ends v call turn handle level is = rw is (go (has_left v call.client)
     go true = EndsNone-refused v InvalidHandle
     go false = try_oplock-ends v call.client handle level turn
 
-try-kept : (v : Volume) (call : Call) (turn : ℕ) → HasOneOplockEach v → may_be_held call.what ≡ false → may_be_granted call.what ≡ false → Kept v (try v call turn)
+pub try-kept : (v : Volume) (call : Call) (turn : ℕ) → HasOneOplockEach v → may_be_held call.what ≡ false → may_be_granted call.what ≡ false → Kept v (try v call turn)
 try-kept v call turn one isnt no_grant = Kept-if (has_left v call.client) _ _ (λ is. Kept-refused v _) (λ no. of_what call.what isnt no_grant)
   where
     of_own : (request : Request) → has_own_laws request ≡ true → may_be_granted (Ask request) ≡ false → Kept v (try_request v turn call.client call.number request)

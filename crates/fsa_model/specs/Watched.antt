@@ -1,9 +1,11 @@
 -- What watches report over a history: each time that a Notify fixes a watch or has it report, in order; and what each
 -- report says, after [MS-FSA] 'Server Requests Change Notifications for a Directory' and 'Algorithm for Reporting
 -- a Change'.
+use Rattle.std.specs.List.{list_any}
 use Rattle.std.specs.Option.{option_map_or}
 use Rattle.std.specs.Prelude.{◌≡◌, ◌==◌, ◌&&◌, not, nat_le, ℕ, Bool, true, false, zero, suc, List, [], ◌∷◌, ◌++◌, drop, filter, map, length, Option, Some, None, is_some, if◌then◌else◌}
 use Rattle.fsa_types.specs.declared.reply.Body.TheVariants.{Nothing, Packed}
+use Rattle.fsa_types.specs.declared.reply.EndOf.{EndOf}
 use Rattle.fsa_types.specs.declared.reply.PackKind.TheVariants.{Changes}
 use Rattle.fsa_types.specs.declared.reply.Reply.{Reply}
 use Rattle.fsa_types.specs.declared.request.Call.{Call}
@@ -13,11 +15,12 @@ use Rattle.fsa_types.specs.declared.request.What.{What}
 use Rattle.fsa_types.specs.declared.request.What.TheVariants.{Ask}
 use Rattle.fsa_types.specs.declared.status.Status.{Status}
 use Rattle.fsa_types.specs.declared.status.Status.TheVariants.{Success, NotifyEnumDir}
-use Rattle.fsa_model.specs.Engine.{own_tried}
+use Rattle.fsa_model.specs.Engine.{CallsDiffer, is_entry_of, own_tried}
 use Rattle.fsa_model.specs.History.{HistoryEntry, Run, begun, run, turn_on}
 use Rattle.fsa_model.specs.Lookups.{handle_of}
 use Rattle.fsa_model.specs.Outcome.{Outcome, Done, Stay, Hold}
 use Rattle.fsa_model.specs.Settle.{Settling, starves, taken_up}
+use Rattle.fsa_model.specs.Settling.{asks_report}
 use Rattle.fsa_model.specs.Setup.{Setup}
 use Rattle.fsa_model.specs.Try.{try}
 use Rattle.fsa_model.specs.Turn.{turn_number}
@@ -84,7 +87,7 @@ notices_of_steps zero s = []
 notices_of_steps (suc more) s = option_map_or (λ entry. notices_in s entry ++ notices_of_steps more (taken_up s entry)) (next_ready s.volume) []
 
 -- those of the turn of this call, in which these calls found no memory
-unfoldable pub notices_of_turn : Volume → Call → List CallId → List Notice
+abbrev pub notices_of_turn : Volume → Call → List CallId → List Notice
 notices_of_turn v call starved =
     notices_asked v call call.what (try v call (turn_number v))
     ++ notices_of_steps (length (own_tried v call).pending) (record { volume = own_tried v call; starved = starved; taken = [] })
@@ -149,6 +152,22 @@ EachReports earlier [] = Unit {0}
 EachReports earlier (notice ∷ more) =
     ((reply : Reply) → notice.reply ≡ Some reply → IsReport earlier notice reply) × EachReports (earlier ++ notice ∷ []) more
 
+-- ---- the ends of Notifies
+
+-- the client's call of this number is a Notify of this history
+abbrev pub is_notify_in : List HistoryEntry → ℕ → ℕ → Bool
+is_notify_in history client number = list_any (λ entry. is_entry_of client number entry && asks_report entry.call.what) history
+
+-- the end of a Notify with one of the two statuses
+abbrev pub is_end_in_report : (ℕ → ℕ → Bool) → EndOf → Bool
+is_end_in_report is_notify end = is_report_status end.reply.status && is_notify end.client end.number
+
+-- the ends of the calls to which watches have reported, in order
+abbrev pub ends_in : List Notice → List EndOf
+ends_in [] = []
+ends_in (notice ∷ more) =
+    option_map_or (λ reply. record { client = notice.call.client; number = notice.call.number; reply = reply } ∷ ends_in more) notice.reply (ends_in more)
+
 -- ---- the list of changes
 
 -- changes were only added
@@ -167,3 +186,5 @@ AddAlong (notice ∷ more) v w = Adds v notice.before × AddAlong more notice.be
 pub record WatchesReport (setup : Setup) (history : List HistoryEntry) : Type 0 where
   pub reports : EachReports [] (notices_of setup history)
   pub adds : (r : Run) → run setup history ≡ Some r → AddAlong (notices_of setup history) (begun setup).volume r.volume
+  -- and a Notify ends SUCCESS or NOTIFY_ENUM_DIR just where a watch reports to it
+  pub ends : (r : Run) → CallsDiffer history → run setup history ≡ Some r → filter (is_end_in_report (is_notify_in history)) r.volume.ended ≡ ends_in (notices_of setup history)

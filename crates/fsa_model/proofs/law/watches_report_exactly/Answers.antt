@@ -1,4 +1,4 @@
-use Rattle.fsa_model.proofs.NoticeRuns.{run-watches_report}
+use Rattle.fsa_model.proofs.NoticeEnds.{run-watches_report}
 use Rattle.fsa_model.proofs.law.watches_report_exactly.Goals as goal
 
 pub returns : goal.returns
