@@ -1,6 +1,6 @@
--- Watches, worked by hand from the rules and shown by computation: what is due, what a report says, and which
--- Notify reports.
-use Rattle.std.specs.Prelude.{◌≡◌, ℕ, true, false, List, [], ◌∷◌, Option, Some, None, map, option_map, codes, refl}
+-- Watches, worked by hand from the rules and shown by computation: what is due, what a report says, which Notify
+-- reports, and what is recorded of a history.
+use Rattle.std.specs.Prelude.{◌≡◌, ℕ, true, false, List, [], ◌∷◌, Option, Some, None, length, map, option_map, codes, refl}
 use Rattle.fsa_types.specs.CaseTable.{ascii_pairs}
 use Rattle.fsa_types.specs.LittleEndian.{zeros}
 use Rattle.fsa_types.specs.Packing.{head, name_of, entry_bytes}
@@ -24,6 +24,7 @@ use Rattle.fsa_model.specs.History.{HistoryEntry, run}
 use Rattle.fsa_model.specs.Open.{try_create, create_at, create_walked, create_named, create_by_link, create_found, create_there, create_in_file, create_stream, create_on_stream, open_stream, open_directory, open_granted, overwrite_existing, open_existing, clashed, create_missing, make_file, make_directory, stopped}
 use Rattle.fsa_model.specs.Setup.{Setup}
 use Rattle.fsa_model.specs.Waiting.{try_cancel}
+use Rattle.fsa_model.specs.Watched.{Notice, ends_in, matching, noted_between, notices_of, watch_fixed}
 use Rattle.fsa_model.specs.Watching.{packed_changes, try_notify, notify_at}
 use Rattle.fsa_model.specs.Write.{try_write, write_at, write_by, write_stream, write_at_place, write_range, write_unlocked, write_grown, write_bytes}
 
@@ -202,3 +203,53 @@ pub refusals :
     ≡ Some (made [] ∷ opened ∷ opened ∷ done InvalidParameter [] ∷ done AccessDenied [] ∷ done InvalidParameter [] ∷ done InvalidParameter [] ∷ [])
 unfolding try_create create_at create_walked create_named create_by_link create_found create_there create_in_file create_stream create_on_stream open_stream open_directory open_granted overwrite_existing open_existing clashed create_missing make_file make_directory stopped try_write write_at write_by write_stream write_at_place write_range write_unlocked write_grown write_bytes try_close close_at with_closed try_notify notify_at try_cancel head name_of entry_bytes zeros
 refusals = refl
+
+-- ---- what is recorded of a history
+
+-- a report, an overflow, a Notify that starves, and a report at once
+abbrev told_twice : List HistoryEntry
+told_twice =
+    asks 1 (opens (codes "\\") 0x1) []
+    ∷ asks 2 (request.Notify 1 0x1 false 14) []
+    ∷ asks 3 (makes (codes "\\n")) []
+    ∷ asks 4 (request.Notify 1 0x1 false 13) []
+    ∷ asks 5 (makes (codes "\\m")) []
+    ∷ asks 6 (request.Notify 1 0x1 false 14) []
+    ∷ asks 7 (makes (codes "\\k")) (record { client = 0; number = 6 } ∷ [])
+    ∷ asks 8 (request.Notify 1 0x1 false 14) []
+    ∷ []
+
+-- of each notice the call, how many changes had been noted, and the reply
+abbrev shown : Notice → ℕ × ℕ × Option Reply
+shown notice = (notice.call.number, length notice.before.changes, notice.reply)
+
+-- the second call fixes the watch before any change; the fourth is told nothing of the change that exceeds its room;
+-- the sixth makes no report, so that the eighth says what it would have said
+pub notices_of_told_twice :
+    map shown (notices_of setup told_twice)
+    ≡ (2, 0, None)
+    ∷ (2, 1, Some (says ((1, codes "n") ∷ [])))
+    ∷ (4, 2, Some (record { status = NotifyEnumDir; body = Nothing }))
+    ∷ (8, 3, Some (says ((1, codes "k") ∷ [])))
+    ∷ []
+unfolding try_create create_at create_walked create_named create_by_link create_found create_there create_in_file create_stream create_on_stream open_stream open_directory open_granted overwrite_existing open_existing clashed create_missing make_file make_directory stopped try_write write_at write_by write_stream write_at_place write_range write_unlocked write_grown write_bytes try_close close_at with_closed try_notify notify_at try_cancel head name_of entry_bytes zeros
+notices_of_told_twice = refl
+
+-- what there is to say of the changes noted from each notice to the next
+abbrev matching_since : Notice → List Notice → List (List (ℕ × List ℕ))
+matching_since last [] = []
+matching_since last (notice ∷ more) = matching (watch_fixed 1 last last) 1 (noted_between last notice) ∷ matching_since notice more
+
+abbrev all_matching : List Notice → List (List (ℕ × List ℕ))
+all_matching [] = []
+all_matching (notice ∷ more) = matching_since notice more
+
+pub noted_in_told_twice : all_matching (notices_of setup told_twice) ≡ ((1, codes "n") ∷ []) ∷ ((1, codes "m") ∷ []) ∷ ((1, codes "k") ∷ []) ∷ []
+unfolding try_create create_at create_walked create_named create_by_link create_found create_there create_in_file create_stream create_on_stream open_stream open_directory open_granted overwrite_existing open_existing clashed create_missing make_file make_directory stopped try_write write_at write_by write_stream write_at_place write_range write_unlocked write_grown write_bytes try_close close_at with_closed try_notify notify_at try_cancel head name_of entry_bytes zeros
+noted_in_told_twice = refl
+
+-- the ends of the three calls to which it reported
+pub ends_in_told_twice :
+    ends_in (notices_of setup told_twice) ≡ told 2 ((1, codes "n") ∷ []) ∷ ends 4 NotifyEnumDir ∷ told 8 ((1, codes "k") ∷ []) ∷ []
+unfolding try_create create_at create_walked create_named create_by_link create_found create_there create_in_file create_stream create_on_stream open_stream open_directory open_granted overwrite_existing open_existing clashed create_missing make_file make_directory stopped try_write write_at write_by write_stream write_at_place write_range write_unlocked write_grown write_bytes try_close close_at with_closed try_notify notify_at try_cancel head name_of entry_bytes zeros
+ends_in_told_twice = refl

@@ -94,7 +94,8 @@ pub fn watches_report_what_is_due()
 /// Over each history each watch reports exactly the matching changes since its last report or, before its first one,
 /// since the Notify that fixed it: those of its handle's directory, or below that where the whole tree counts, under
 /// its filter, packed, or NOTIFY_ENUM_DIR without bytes where they exceed the room. The list of changes is only ever
-/// added to.
+/// added to. A Notify ends SUCCESS or NOTIFY_ENUM_DIR just where a watch reports to it: pending and first of its
+/// handle, or in its own try, and never by a close, a cancellation, a leaving or another call's try.
 pub fn watches_report_exactly()
     ensures exactly { (setup : Setup) (history : List HistoryEntry) → WatchesReport setup history }
 {}
