@@ -39,7 +39,7 @@ use Rattle.fsa_model.proofs.RowLaws.{option_cases}
 use Rattle.fsa_model.proofs.SettleLaws.{IsNext, Steps, Steps-taken_up, next_ready-is, next-may_be_held, some_equal, try-tries}
 use Rattle.fsa_model.proofs.TryLaws.{Tries, TriesTo, Leaves}
 use Rattle.fsa_model.proofs.TryQuiet.{Onward-calls_ended}
-use Rattle.fsa_model.proofs.TurnLaws.{Adds-answered, TriedTo, Turns, own_end, may_be_granted, try-keeps, try-kept, turn-turns}
+use Rattle.fsa_model.proofs.TurnLaws.{Adds-answered, TriedTo, Turns, answered-ended, may_be_granted, own_end, try-keeps, try-kept, turn-turns}
 use Rattle.fsa_model.proofs.WatchLaws.{comes_over}
 
 -- ---- one after another
@@ -177,11 +177,6 @@ settled-next : (is_notify : ℕ → ℕ → Bool) (first second : List Notice) (
 settled-next is_notify first second u v w one two = record { says = says-next is_notify first second u.ended v.ended w.ended one.says two.says; tells = two.tells }
 
 -- ---- the turn's own call
-
-answered-ended : (call : Call) (turn : ℕ) (outcome : Outcome) → (answered call turn outcome).ended ≡ (volume_after outcome).ended ++ own_end call outcome
-answered-ended call turn (Done v reply) = refl
-answered-ended call turn (Stay v interim) = sym (append-nil v.ended)
-answered-ended call turn (Hold v blockers interim) = sym (append-nil v.ended)
 
 agrees-same : (b : Bool) → agrees b b ≡ true
 agrees-same true = refl

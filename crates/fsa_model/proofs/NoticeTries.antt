@@ -44,9 +44,6 @@ pub record Tells (is_notify : ℕ → ℕ → Bool) (v : Volume) : Type 0 where
   pub known : how_many (is_mistaken is_notify) v.pending ≡ 0
   pub none : (turn : ℕ) → 1 ≤ how_many (is_granted_under turn) v.oplocks → how_many (λ e. is_under turn e && asks_report e.1.call.what) v.pending ≡ 0
 
-agrees-true : (a b : Bool) → a ≡ true → b ≡ false → agrees a b ≡ false
-agrees-true a b is isnt = rw (is, isnt) refl
-
 pub agrees-equal : (a b : Bool) → agrees a b ≡ true → a ≡ b
 agrees-equal true true is = refl
 agrees-equal true false is = sym is

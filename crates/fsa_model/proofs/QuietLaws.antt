@@ -2,7 +2,7 @@
 -- changes are only added, and a call that ends in it ends in no report, unless an oplock was granted to it.
 use Rattle.std.proofs.Common.{◌≡◌, ℕ, ◌+◌, ◌≤◌, Bool, true, false, List, [], ◌∷◌, ◌++◌, append-nil, append_assoc, get_or, refl, ap, sym, ◌∙◌, arith, inl, inr, ◌⊎◌, Option, Some, None}
 use Rattle.std.specs.List.{All, find}
-use Rattle.std.specs.Prelude.{◌==◌, ◌&&◌, if◌then◌else◌, filter}
+use Rattle.std.specs.Prelude.{◌==◌, ◌&&◌, filter}
 use Rattle.std.proofs.lemmas.Bool.{eq-eqb}
 use Rattle.std.proofs.lemmas.List.Elements.{All-append, All-cons, All-nil}
 use Rattle.fsa_types.specs.Oplocks.{Effect, Stays, Ends, Begins, Lowers, effect}
@@ -195,9 +195,3 @@ Onward-breaks v on kind acting key =
       granted = keeps.granted;
       pending = keeps.pending;
     }
-
--- ---- how a try goes on
-
-pub Onward-if : {v : Volume} (test : Bool) (one other : Volume) → Onward v one → Onward v other → Onward v (if test then one else other)
-Onward-if true one other holds fails = holds
-Onward-if false one other holds fails = fails

@@ -15,7 +15,7 @@ use Rattle.fsa_types.specs.declared.request.What.TheVariants.{Ask}
 use Rattle.fsa_types.specs.declared.request.Call.{Call}
 use Rattle.fsa_types.specs.declared.request.CallId.{CallId}
 use Rattle.fsa_types.specs.declared.status.Status.{Status}
-use Rattle.fsa_types.specs.declared.status.Status.TheVariants.{Success, NotifyEnumDir, InvalidParameter, AccessDenied, DeletePending}
+use Rattle.fsa_types.specs.declared.status.Status.TheVariants.{InvalidParameter, AccessDenied, DeletePending}
 use Rattle.fsa_model.specs.Engine.{CallsDiffer, is_entry_of}
 use Rattle.fsa_model.specs.Changes.{seen_from, stream_suffix, with_change_noted}
 use Rattle.fsa_model.specs.Edits.{with_end, with_watch}
@@ -29,6 +29,7 @@ use Rattle.fsa_model.specs.Setup.{Setup}
 use Rattle.fsa_model.specs.Turn.{try, answered, turn_number}
 use Rattle.fsa_model.specs.Volume.{Change, Handle, Watch, Pending, Volume, fresh}
 use Rattle.fsa_model.specs.Waiting.{is_held, is_ready, has_come, has_due, next_ready}
+use Rattle.fsa_model.specs.Watched.{is_report_status}
 use Rattle.fsa_model.specs.Watching.{is_asked_by, told_from, due_to, watch_of, dir_of, due, is_something_due, due_size, report, begun_at, with_watch_seen, notify_due, with_watch_begun, is_notify_filter, notify_by, notify_at, try_notify}
 use Rattle.fsa_model.proofs.CountLaws.{and_left, and_right}
 use Rattle.fsa_model.proofs.EngineLaws.{run-before, new-before}
@@ -177,11 +178,6 @@ abbrev pub status_of : Outcome → Option Status
 status_of (Done v reply) = Some reply.status
 status_of (Stay v interim) = None
 status_of (Hold v blockers interim) = None
-
-abbrev pub is_report_status : Status → Bool
-is_report_status Success = true
-is_report_status NotifyEnumDir = true
-is_report_status _ = false
 
 pub record ReportsOnly (v : Volume) (id : ℕ) (handle : Handle) (filter : ℕ) (tree : Bool) : Type 0 where
   pub passes : PassesChecks v handle filter

@@ -522,7 +522,7 @@ tried-begins v turn what (Done w reply) tried = tried.0.keeps.ended
 tried-begins v turn what (Stay w interim) tried = tried.ended
 tried-begins v turn what (Hold w blockers interim) tried = tried.0.keeps.ended
 
-answered-ended : (call : Call) (turn : ℕ) (outcome : Outcome) → (answered call turn outcome).ended ≡ (volume_after outcome).ended ++ own_end call outcome
+pub answered-ended : (call : Call) (turn : ℕ) (outcome : Outcome) → (answered call turn outcome).ended ≡ (volume_after outcome).ended ++ own_end call outcome
 answered-ended call turn (Done w reply) = refl
 answered-ended call turn (Stay w interim) = sym (append-nil w.ended)
 answered-ended call turn (Hold w blockers interim) = sym (append-nil w.ended)
