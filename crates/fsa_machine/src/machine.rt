@@ -14,6 +14,7 @@ ghost use Rattle.fsa_model.specs.Settling.{MayTurn};
 ghost use Rattle.fsa_model.specs.Turn.{turn};
 ghost use Rattle.fsa_model.specs.Volume.{fresh};
 ghost use Rattle.fsa_model.specs.Waiting.{is_pending, waits};
+ghost use Rattle.fsa_model.specs.Watched.{WatchesReport};
 ghost use Rattle.fsa_machine.specs.Kept.{entry_of, out_kept};
 ghost use Rattle.fsa_machine.specs.Serves.{MayTry, Serves, ServesOn, most_entries};
 ghost use Rattle.fsa_machine.specs.Stands.{GaveOut, Stands, calls_in, ended_with_list, is_full, reply_in, setup_in};
@@ -129,6 +130,9 @@ impl<S: Store> Machine<S> {
     /// exactly where there are 1,000,000 entries, before any memory is asked for; `NoMemory` where there
     /// is none for the call. A pending call that finds no memory ends so, and is named in what is given
     /// out.
+    ///
+    /// Over the whole history so far caching by oplocks is coherent, and each watch reports exactly the
+    /// matching changes since its last report.
     pub fn turn(&mut self, alloc: Global, call: Call) -> Result<Out, (Call, Why)>
         requires asked { IsLineCall (length self.old.setup.clients) call }
         requires number { call.number ≡ calls_of call.client (calls_in self.old.entries) + 1 }
@@ -139,6 +143,7 @@ impl<S: Store> Machine<S> {
         ensures each_call_ends_once { (r : Run) → run self.new.setup self.new.entries ≡ Some r → EndsOnce self.new.entries r }
         ensures a_held_call_is_tried_in_the_turn_that_lets_it_go { IfOk result (λ out. (r : Run) → run self.old.setup self.old.entries ≡ Some r → TakesReleased r.volume call out.starved.items) }
         ensures caching_is_coherent { CachingIsCoherent self.new.setup self.new.entries }
+        ensures watches_report_exactly { WatchesReport self.new.setup self.new.entries }
         ensures full { is_full result ≡ (length self.old.entries == most_entries) }
         ensures err { IfErr result (λ back. (self.new ≡ self.old) × (back.0 ≡ call)) }
     {

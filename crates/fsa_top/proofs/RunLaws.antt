@@ -16,6 +16,7 @@ use Rattle.fsa_model.specs.Waiting.{waits}
 use Rattle.fsa_model.proofs.CoherenceRuns.{run-coherent}
 use Rattle.fsa_model.proofs.CountLaws.{how_many-length}
 use Rattle.fsa_model.proofs.HistoryLaws.{shown_turns-push, steps-push}
+use Rattle.fsa_model.proofs.NoticeEnds.{run-watches_report}
 use Rattle.fsa_model.proofs.RowLaws.{option_cases}
 use Rattle.fsa_model.proofs.ScheduleLaws.{Scheduled-none, Scheduled-push}
 use Rattle.fsa_model.proofs.ScriptLaws.{all_calls-numbered}
@@ -210,7 +211,7 @@ text_split script whole shown rest is = ap (λ (lines : List ℕ). lines ++ last
 whole_part : (script : Script) (history whole : List HistoryEntry) (first now : Written) → (goes : GoesOnTo script history whole)
     → AppendsPart first now (shown_turns script history ++ (goes.shows.0 ++ last_line (length whole))) → WritesPart script first now
 whole_part script history whole first now goes part =
-    (whole, goes.scheduled, goes.all, run-coherent script.setup whole, subst (AppendsPart first now) (sym (text_split script whole (shown_turns script history) goes.shows.0 goes.shows.1)) part)
+    (whole, goes.scheduled, goes.all, run-coherent script.setup whole, run-watches_report script.setup whole, subst (AppendsPart first now) (sym (text_split script whole (shown_turns script history) goes.shows.0 goes.shows.1)) part)
 
 pub Shows-part : (script : Script) (history : List HistoryEntry) (first now : Written) → IsRead script → Shows script history first now → WritesPart script first now
 Shows-part script history first now is_read shows =
@@ -241,7 +242,7 @@ last_none old now turns same = subst (λ (w : Written). AppendsPart old w (last_
 
 -- a part of the last line was written behind the lines of all turns
 pub Shows-last_part : (script : Script) (history : List HistoryEntry) (first mid now : Written) → HasAllCalls script history → Shows script history first mid → AppendsPart mid now (last_line (length history)) → WritesPart script first now
-Shows-last_part script history first mid now all shows last = (history, shows.scheduled, all, run-coherent script.setup history, AppendsPart-append first mid now _ _ shows.wrote last)
+Shows-last_part script history first mid now all shows last = (history, shows.scheduled, all, run-coherent script.setup history, run-watches_report script.setup history, AppendsPart-append first mid now _ _ shows.wrote last)
 
 -- a schedule that has all calls is the one history with its text
 pub history-one : (script : Script) (history : List HistoryEntry) → IsRead script → Scheduled script history → HasAllCalls script history → IsHistory script history
@@ -250,6 +251,7 @@ history-one script history is_read scheduled all = record {
   whole = all;
   only = λ other others whole same. same_text script history other is_read scheduled all others whole same;
   caching_is_coherent = run-coherent script.setup history;
+  watches_report_exactly = run-watches_report script.setup history;
   plainly = λ none. text-plain script history is_read scheduled all none;
 }
 

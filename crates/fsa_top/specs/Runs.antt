@@ -8,6 +8,7 @@ use Rattle.fsa_model.specs.History.{HistoryEntry}
 use Rattle.fsa_model.specs.Schedule.{HasAllCalls, Scheduled, plain}
 use Rattle.fsa_model.specs.Script.{script_of}
 use Rattle.fsa_model.specs.Text.{shows_no_memory, text}
+use Rattle.fsa_model.specs.Watched.{WatchesReport}
 use Rattle.wire_io.specs.Source.{ReadsWhole}
 use Rattle.wire_io.specs.Sink.{Written, Appends, AppendsPart}
 use Rattle.fsa_top.specs.declared.limits.Limit.{Limit}
@@ -15,23 +16,25 @@ use Rattle.fsa_top.specs.Limits.{PassesLimit, limit_of}
 use Rattle.fsa_top.specs.Words.{Says, limit_line}
 
 -- the one history of a script on one thread: each turn's call was the next one, it has all calls, no other
--- such history has its text, caching by oplocks is coherent over it, and where no line of its text shows
--- NO_MEMORY no call found no memory
+-- such history has its text, caching by oplocks is coherent over it, each watch reports exactly the matching
+-- changes since its last report, and where no line of its text shows NO_MEMORY no call found no memory
 pub record IsHistory (script : Script) (history : List HistoryEntry) : Type 0 where
   pub scheduled : Scheduled script history
   pub whole : HasAllCalls script history
   pub only : (other : List HistoryEntry) → Scheduled script other → HasAllCalls script other → text script other ≡ text script history → other ≡ history
   pub caching_is_coherent : CachingIsCoherent script.setup history
+  pub watches_report_exactly : WatchesReport script.setup history
   pub plainly : shows_no_memory (text script history) ≡ false → history ≡ plain script
 
 -- the line that names the least faulty line
 abbrev pub bad_line : ℕ → List ℕ
 bad_line line = codes "bad line " ++ decimal line ++ 10 ∷ []
 
--- a part of the text of a scheduled history that has all calls of the script was written; over it too caching is coherent
+-- a part of the text of a scheduled history that has all calls of the script was written; over it too caching is
+-- coherent, and watches report so
 abbrev pub WritesPart : Script → Written → Written → Type 0
 WritesPart script written written_now =
-    (history : List HistoryEntry) × Scheduled script history × HasAllCalls script history × CachingIsCoherent script.setup history × AppendsPart written written_now (text script history)
+    (history : List HistoryEntry) × Scheduled script history × HasAllCalls script history × CachingIsCoherent script.setup history × WatchesReport script.setup history × AppendsPart written written_now (text script history)
 
 -- the text of the script's history was written
 abbrev pub WritesText : Script → Written → Written → Type 0

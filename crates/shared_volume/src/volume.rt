@@ -1,12 +1,13 @@
 //! The calls of a volume's clients.
 ghost use Rattle.std.specs.Prelude.{◌≡◌, ℕ, ◌+◌, ◌<◌, ◌≤◌, ◌^◌, [], ◌∷◌, All, length, slice_get, Some, IfOk, IfErr, vec_len};
 ghost use Rattle.fsa_types.specs.declared.reply.Reply.{Reply};
+ghost use Rattle.fsa_model.specs.Coherence.{CachingIsCoherent};
 ghost use Rattle.fsa_model.specs.Setup.{setup_of};
+ghost use Rattle.fsa_model.specs.Watched.{WatchesReport};
 ghost use Rattle.history_lock.specs.Lock.{known};
 ghost use Rattle.history_lock.specs.Passes.{Refreshed, Waited};
 ghost use Rattle.history_lock.specs.Turns.{Sees, beaten};
 ghost use Rattle.shared_volume.specs.Answers.{IfBusy, IfDid, IfDone, IfRefused, OnBusy, OnNoMemory, OnPending};
-ghost use Rattle.fsa_model.specs.Coherence.{CachingIsCoherent};
 ghost use Rattle.shared_volume.specs.Histories.{IsHistory, MayRefuse};
 ghost use Rattle.shared_volume.specs.Shared.{CanSubmit, EndedWithList, HasEnded, IsPass, OnlySees, Pends, Submits, WaitsFor, call_of, client_of, setup_at};
 
@@ -202,7 +203,8 @@ impl SharedVolume {
     /// Gives the machine back. It takes the passes of all clients, in order, and can't be refused.
     ///
     /// In the machine's history the calls of each client are just those that its pass had made, each once
-    /// and in order, and there are no others.
+    /// and in order, and there are no others. Over it caching by oplocks is coherent, and each watch reports
+    /// exactly the matching changes since its last report.
     pub fn close(self, passes: Vec<Pass>) -> VolumeMachine
         requires one_each { vec_len passes ≡ length (setup_at self).clients }
         requires passes { (i : ℕ) (p : _) → slice_get passes.items i ≡ Some p → IsPass self p × ((known p).own.client ≡ i) }
@@ -211,6 +213,7 @@ impl SharedVolume {
         ensures each { (i : ℕ) (p : _) → slice_get passes.items i ≡ Some p → Sees call_of client_of result.entries (known p).own }
         ensures no_others { All (λ entry. entry.call.client < length (setup_at self).clients) result.entries }
         ensures caching_is_coherent { CachingIsCoherent result.setup result.entries }
+        ensures watches_report_exactly { WatchesReport result.setup result.entries }
     {
         let SharedVolume { lock } = self;
         let (engine, _) = lock.close(passes);

@@ -1,4 +1,5 @@
 use Rattle.fsa_model.proofs.CoherenceRuns.{run-coherent}
+use Rattle.fsa_model.proofs.NoticeEnds.{run-watches_report}
 use Rattle.fsa_machine.proofs.StandLaws.{Stands-none_ready, Stands-ends_once, released-turn}
 use Rattle.fsa_machine.proofs.machine.Machine.turn.Goals as goal
 
@@ -14,3 +15,6 @@ returns-clause-a_held_call_is_tried_in_the_turn_that_lets_it_go g c =
 
 pub returns-clause-caching_is_coherent : goal.returns-clause-caching_is_coherent
 returns-clause-caching_is_coherent g c = run-coherent _ _
+
+pub returns-clause-watches_report_exactly : goal.returns-clause-watches_report_exactly
+returns-clause-watches_report_exactly g c = run-watches_report _ _
