@@ -1,3 +1,4 @@
 pub mod Breaks
 pub mod Calls
+pub mod Marks
 pub mod Oplocks

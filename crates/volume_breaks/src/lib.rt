@@ -14,8 +14,9 @@
 //!
 //! The parts: which oplocks a break breaks, and in what order (`choosing`, over a `Tree` of a volume's
 //! tables); what it does to each, and which calls it tells (`breaking`); for which breaks the request
-//! waits (`awaiting`); when no oplock is granted, and which a grant switches (`granting`); the list of the
-//! oplocks with what a break or a grant puts by (`Oplocks`); the pending calls with
+//! waits (`awaiting`); when no oplock is granted, and which a grant switches (`granting`); which of one stream's
+//! oplocks both take up, by their handles alone (`marking`); the list of the oplocks with what a break or a
+//! grant puts by (`Oplocks`); the pending calls with
 //! the queue of those that are held (`PendingCalls`), which is told what ends where a handle goes
 //! (`releasing`); and a list whose room stays as items go (`SpareList`).
 //!
@@ -31,6 +32,7 @@ mod awaiting;
 mod breaking;
 mod choosing;
 mod granting;
+mod marking;
 mod oplock_list;
 mod pending_calls;
 mod releasing;

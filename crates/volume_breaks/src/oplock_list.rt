@@ -1,19 +1,21 @@
 //! The oplocks of a volume, with room for what a break of them sets aside.
 
-ghost use Rattle.std.specs.Prelude.{ℕ, ◌≡◌, ◌≤◌, ◌<◌, ◌+◌, ◌++◌, ◌∷◌, ◌^◌, ◌==◌, not, false, All, [], List, Some, None, length, map, filter, OnOk, if◌then◌else◌, slice_index_or};
+ghost use Rattle.std.specs.Prelude.{ℕ, ◌≡◌, ◌≤◌, ◌<◌, ◌+◌, ◌++◌, ◌∷◌, ◌^◌, ◌==◌, ◌-◌, not, true, false, All, [], List, Some, None, length, map, filter, OnOk, if◌then◌else◌, slice_index_or};
 ghost use Rattle.fsa_types.specs.Sorting.{in_order};
 ghost use Rattle.fsa_types.specs.OplockGrants.{after_answer, as_answered, as_granted, switched_among};
-ghost use Rattle.fsa_types.specs.OplockLists.{awaited_among, begun, lowered, without_oplock_of, CanBegin, CanGoOn};
+ghost use Rattle.fsa_types.specs.OplockLists.{awaited_among, begun, lowered, without_oplock_of, CanBegin, CanGoOn, IsCopy, IsOplock};
 ghost use Rattle.fsa_model.specs.Breaks.{is_broken_before, is_chosen};
 ghost use Rattle.fsa_model.specs.Grant.{is_oplock_on};
 ghost use Rattle.fsa_model.specs.Volume.{Oplock};
 ghost use Rattle.fsa_model.specs.Waiting.{is_granted_under};
+ghost use Rattle.volume_breaks.specs.Marks.{is_marked, is_opened_before};
 ghost use Rattle.volume_breaks.specs.Oplocks.{Held};
 ghost use Rattle.std.specs.Vec.{vec_capacity};
 
 use crate::awaiting::await_breaks;
 use crate::choosing::{Tree, choose};
 use crate::granting::{Opened, choose_switched};
+use crate::marking::{choose_marked, choose_of_key};
 use fsa_types::{Class, HandleSet, Level, NoMemory};
 use std::alloc::Global;
 use std::marker::Model;
@@ -119,6 +121,32 @@ impl Oplocks {
         ensures { self.new ≡ record self.old { chosen = switched_among (is_oplock_on tree.now opened.stream) opened.handle opened.key self.old.rows } }
     {
         choose_switched(tree, opened, &self.rows, &mut self.chosen);
+    }
+
+    /// Sets aside copies of those of marked handles, and of another key than the acting handle's, in the order in
+    /// which their handles were opened.
+    pub fn choose_marked(&mut self, marked: &[u64], acting: Option<u64>, key: u64)
+        ensures chosen { self.new ≡ record self.old { chosen = in_order is_opened_before (filter (is_marked marked.now acting key) self.old.rows) } }
+        ensures few { length self.new.chosen ≤ length self.old.rows }
+        ensures sound { All IsOplock self.new.chosen }
+        ensures copies { All (IsCopy self.old.rows) self.new.chosen }
+    {
+        choose_marked(marked, acting, key, &self.rows, &mut self.chosen);
+    }
+
+    /// Sets aside copies of those of this handle, or of one with its key, in order.
+    pub fn choose_of_key(&mut self, handle: u64, key: u64)
+        ensures { self.new ≡ record self.old { chosen = switched_among (λ _. true) handle key self.old.rows } }
+    {
+        choose_of_key(handle, key, &self.rows, &mut self.chosen);
+    }
+
+    /// The next break that begins has this number, which is above all that were given so far.
+    pub fn number_from(&mut self, first: u64)
+        requires rising { self.old.last < first }
+        ensures { self.new ≡ record self.old { last = first - 1 } }
+    {
+        self.last = first - 1;
     }
 
     /// How many are chosen.

@@ -1,0 +1,34 @@
+//! The oplocks of one stream or directory, after [MS-FSA] 'Algorithm to Check for an Oplock Break', 'Server
+//! Requests an Oplock' and 'Server Acknowledges an Oplock Break'. It knows no handle and no stream: its caller
+//! says which handles a break takes up, and what a grant has to know of the stream.
+//!
+//! ```text
+//! oplocks.reserve(1)?;                                  // may be refused
+//! oplocks.grant(handle, key, level, turn, false, false) // takes no memory; Granted or Refused
+//! oplocks.choose(handle);                               // for the next break
+//! oplocks.begin(Class::ReadOpen, key, None, first);     // breaks are numbered from `first`
+//! for place in 0..oplocks.told_len() {
+//!     oplocks.told(place);                              // the handle, the level that may stay, and whether to answer
+//! }
+//! oplocks.waits(0);                                     // the number of a break that the request waits for
+//! oplocks.ack(handle, level, turn);                     // what stays, and the break that has ended
+//! oplocks.drop_handle(handle);                          // the break that has ended with the handle
+//! ```
+//!
+//! Contracts see the oplocks in the order in which they were granted, the handles that are chosen, and what
+//! the last break or grant put by: the oplocks that it took up, whom it told, and for which breaks it waits.
+//!
+//! - A break goes over the oplocks of chosen handles of another key than the acting one's, in the order in which
+//!   the handles were opened. It, a grant, an answer and a handle that goes leave no handle chosen.
+//! - Only `reserve` takes memory. A grant takes room for one oplock, and with it for all that a break of it puts
+//!   by; room stays as oplocks go.
+//! - It asks that numbers rise: `first` is above all numbers of breaks that were given here.
+//! - Each call takes time linear in the oplocks, and `begin` time square in those that it breaks.
+#![tactic(auto)]
+
+mod refusing;
+mod stream_oplocks;
+mod telling;
+
+pub use stream_oplocks::{Grant, StreamOplocks};
+pub use telling::Told;

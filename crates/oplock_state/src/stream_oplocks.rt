@@ -1,0 +1,272 @@
+//! The oplocks of one stream or directory.
+
+ghost use Rattle.std.specs.Prelude.{ℕ, ◌≡◌, ◌≤◌, ◌<◌, ◌+◌, ◌-◌, ◌^◌, ◌++◌, ◌∷◌, ◌==◌, ◌&&◌, not, [], length, option_map, slice_index_or, OnOk, if◌then◌else◌};
+ghost use Rattle.std.specs.Option.{option_map_or};
+ghost use Rattle.std.specs.List.{list_any};
+ghost use Rattle.std.specs.Vec.{vec_capacity};
+ghost use Rattle.fsa_types.specs.OplockGrants.{after_answer, target_among};
+ghost use Rattle.fsa_types.specs.OplockLists.{after_breaks, awaited_among, number_of_break, without_oplock_of};
+ghost use Rattle.fsa_types.specs.Oplocks.{in_both};
+ghost use Rattle.oplock_state.specs.State.{Grants, has_oplock, taken_up};
+ghost use Rattle.oplock_state.specs.Told.{told_all};
+
+use crate::refusing::is_refused;
+use crate::telling::{Told, break_chosen, drop_chosen};
+use fsa_types::{Class, Level, NoMemory};
+use std::alloc::Global;
+use std::marker::Model;
+use volume_breaks::Oplocks;
+use volume_rows::{OplockRow, find_break, find_target, in_both, is_oplock_of};
+
+/// Whether an oplock was granted.
+#[derive(Clone, Copy, Debug, PartialEq, Eq)]
+pub enum Grant {
+    /// It was; those of its key that it switched are those that were taken up last.
+    Granted,
+    /// It wasn't, and nothing has changed.
+    Refused,
+}
+
+/// The oplocks of one stream or directory, in the order in which they were granted; the handles that are chosen
+/// for the next break; and what the last break or grant put by.
+#[derive(Drop)]
+pub struct StreamOplocks {
+    list: Oplocks,
+    // The handles that are chosen, each once, and each with an oplock.
+    marked: Vec<u64>,
+    told: Vec<Told>,
+}
+
+impl Model for StreamOplocks {
+    ghost use Rattle.std.specs.Prelude.{◌-◌, ◌≤◌, length, min};
+    ghost use Rattle.std.specs.Vec.{vec_capacity};
+    ghost use Rattle.oplock_state.specs.State.{AreMarks, State};
+
+    ghost Value = { State };
+
+    ghost view = { λ o. record {
+      rows = o.list.rows;
+      last = o.list.last;
+      room = min o.list.room (min (vec_capacity o.marked - length o.list.rows) (vec_capacity o.told - length o.list.rows));
+      marked = o.marked.items;
+      taken = o.list.chosen;
+      told = o.told.items;
+      waited = o.list.waited;
+    } };
+
+    ghost invariant = { λ o. (length o.list.rows ≤ vec_capacity o.marked) × (length o.list.rows ≤ vec_capacity o.told) × AreMarks o.marked.items o.list.rows };
+}
+
+impl StreamOplocks {
+    /// None. It takes no memory.
+    pub fn new(alloc: Global) -> StreamOplocks
+        ensures rows { result.rows ≡ [] }
+        ensures marked { result.marked ≡ [] }
+        ensures last { result.last ≡ 0 }
+    {
+        StreamOplocks {
+            list: Oplocks::new(alloc),
+            marked: Vec::new(alloc),
+            told: Vec::new(alloc),
+        }
+    }
+
+    /// Takes room for `more` oplocks beside those that are there, and for what breaks of them put by. `NoMemory`
+    /// where there is none, or where there would be 2^32 or more in all.
+    pub fn reserve(&mut self, more: u32) -> Result<(), NoMemory>
+        ensures state { self.new ≡ record self.old { room = self.new.room } }
+        ensures room { OnOk result (more ≤ self.new.room) }
+        ensures kept { self.old.room ≤ self.new.room }
+    {
+        self.list.reserve(more)?;
+        let in_all = self.list.len() as usize + more as usize;
+        reserve_for(&mut self.marked, in_all)?;
+        reserve_for(&mut self.told, in_all)
+    }
+
+    /// All oplocks, in the order in which they were granted.
+    pub fn as_slice(&self) -> &[OplockRow]
+        ensures { result.now ≡ self.now.rows }
+    {
+        self.list.as_slice()
+    }
+
+    /// Grants an oplock of this level to a handle with this key, unless it is refused; the call that is pending
+    /// under this turn, or will be, is its own. `others` says that a handle of another key is open on the
+    /// stream, and `locked` that a range of it is locked. Oplocks of this key end. Room has to be reserved.
+    pub fn grant(
+        &mut self,
+        handle: u64,
+        key: u64,
+        level: Level,
+        turn: u64,
+        others: bool,
+        locked: bool,
+    ) -> Grant
+        requires room { 1 ≤ self.old.room }
+        ensures grants { Grants self.old handle key level turn others locked self.new result }
+        ensures left { self.old.room ≤ self.new.room + 1 }
+        ensures last { self.new.last ≡ self.old.last }
+    {
+        if is_refused(handle, key, level, others, locked, self.list.as_slice()) {
+            return Grant::Refused;
+        }
+        self.marked.clear();
+        self.list.choose_of_key(handle, key);
+        drop_chosen(&mut self.list);
+        self.list.grant(handle, key, level, turn);
+        Grant::Granted
+    }
+
+    /// Chooses the oplock of a handle for the next break; where there is none, or it is chosen, nothing changes.
+    pub fn choose(&mut self, handle: u64)
+        ensures chosen { self.new ≡ record self.old { marked = if has_oplock handle self.old.rows && not (list_any (λ other. other == handle) self.old.marked) then self.old.marked ++ handle ∷ [] else self.old.marked; room = self.new.room } }
+        ensures room { self.old.room ≤ self.new.room }
+    {
+        if !self.can_be_chosen(handle) {
+            return;
+        }
+        mark(&mut self.marked, handle);
+    }
+
+    // Whether a handle has an oplock, and isn't chosen yet.
+    fn can_be_chosen(&self, handle: u64) -> bool
+        ensures { result ≡ (has_oplock handle self.now.rows && not (list_any (λ other. other == handle) self.now.marked)) }
+    {
+        self.has(handle) && !is_among(&self.marked, handle)
+    }
+
+    // Whether a handle has an oplock.
+    fn has(&self, handle: u64) -> bool
+        ensures { result ≡ has_oplock handle self.now.rows }
+    {
+        self.list
+            .as_slice()
+            .iter()
+            .any(|oplock| is_oplock_of(oplock, handle))
+    }
+
+    /// Breaks the oplocks that are chosen, as a request of this class does: those of other keys than the acting
+    /// handle's, which a Create doesn't have yet, in the order in which their handles were opened. Breaks that
+    /// begin are numbered from `first`, which is above all numbers given here. None is chosen then.
+    pub fn begin(&mut self, class: Class, key: u64, acting: Option<u64>, first: u64)
+        requires rising { self.old.last < first }
+        requires numbers { first + length self.old.rows < 2 ^ 64 }
+        ensures rows { self.new.rows ≡ (after_breaks class (record { oplocks = self.old.rows; last_break = first - 1 }) (taken_up self.old acting key)).oplocks }
+        ensures last { self.new.last ≡ (after_breaks class (record { oplocks = self.old.rows; last_break = first - 1 }) (taken_up self.old acting key)).last_break }
+        ensures marked { self.new.marked ≡ [] }
+        ensures taken { self.new.taken ≡ taken_up self.old acting key }
+        ensures told { self.new.told ≡ told_all class (taken_up self.old acting key) }
+        ensures waited { self.new.waited ≡ awaited_among class (taken_up self.old acting key) self.new.rows }
+        ensures room { self.old.room ≤ self.new.room }
+    {
+        self.list.number_from(first);
+        self.list.choose_marked(&self.marked, acting, key);
+        self.marked.clear();
+        self.told.clear();
+        break_chosen(&mut self.list, &mut self.told, class);
+        self.list.await_breaks(class);
+    }
+
+    /// How many holders the last break told.
+    pub fn told_len(&self) -> usize
+        ensures { result ≡ length self.now.told }
+    {
+        self.told.len()
+    }
+
+    /// Whom the last break told at this place, and what.
+    pub fn told(&self, place: usize) -> Told
+        requires { place < length self.now.told }
+        ensures { result ≡ slice_index_or self.now.told place result }
+    {
+        self.told[place]
+    }
+
+    /// For how many breaks the last break waits.
+    pub fn waits_len(&self) -> usize
+        ensures { result ≡ length self.now.waited }
+    {
+        self.list.waited().len()
+    }
+
+    /// The number of the break for which the last break waits, at this place.
+    pub fn waits(&self, place: usize) -> u64
+        requires { place < length self.now.waited }
+        ensures { result ≡ slice_index_or self.now.waited place result }
+    {
+        self.list.waited()[place]
+    }
+
+    /// Answers the break in progress on a handle: what is in this level and in the one that it was told stays,
+    /// and the call that is pending under this turn, or will be, is its own then; where nothing stays the oplock
+    /// ends. Gives what stays, and the number of the break, which has ended. `None` exactly where no break of it
+    /// is in progress, and then nothing changes but that no handle is chosen.
+    pub fn ack(&mut self, handle: u64, level: Level, turn: u64) -> Option<(Level, u64)>
+        ensures kept { result ≡ option_map (λ target. (in_both level target, number_of_break self.old.rows handle)) (target_among handle self.old.rows) }
+        ensures rows { self.new.rows ≡ option_map_or (λ target. after_answer handle (in_both level target) turn self.old.rows) (target_among handle self.old.rows) self.old.rows }
+        ensures others { self.new ≡ record self.old { rows = self.new.rows; marked = []; room = self.new.room } }
+        ensures room { self.old.room ≤ self.new.room }
+    {
+        self.marked.clear();
+        let target = find_target(self.list.as_slice(), handle)?;
+        let number = find_break(self.list.as_slice(), handle).unwrap_or(0);
+        let kept = in_both(level, target);
+        self.list.answer(handle, kept, turn);
+        Some((kept, number))
+    }
+
+    /// Takes the oplock of a handle out. Gives the number of its break, which has ended; `None` exactly where no
+    /// break of it is in progress. No handle is chosen then.
+    pub fn drop_handle(&mut self, handle: u64) -> Option<u64>
+        ensures ended { result ≡ option_map (λ _. number_of_break self.old.rows handle) (target_among handle self.old.rows) }
+        ensures state { self.new ≡ record self.old { rows = without_oplock_of handle self.old.rows; marked = []; room = self.new.room } }
+        ensures room { self.old.room ≤ self.new.room }
+    {
+        self.marked.clear();
+        let ended = ended_break(self.list.as_slice(), handle);
+        self.list.drop_of(handle);
+        ended
+    }
+}
+
+// The number of the break in progress on this handle.
+fn ended_break(oplocks: &[OplockRow], handle: u64) -> Option<u64>
+    ensures { result ≡ option_map (λ _. number_of_break oplocks.now handle) (target_among handle oplocks.now) }
+{
+    match find_target(oplocks, handle) {
+        None => None,
+        Some(_) => Some(find_break(oplocks, handle).unwrap_or(0)),
+    }
+}
+
+// Whether a handle is among these.
+fn is_among(marked: &[u64], handle: u64) -> bool
+    ensures { result ≡ list_any (λ other. other == handle) marked.now }
+{
+    marked.iter().any(|other| *other == handle)
+}
+
+// Puts a handle behind those that are chosen.
+fn mark(marked: &mut Vec<u64>, handle: u64)
+    requires room { length marked.old.items < vec_capacity marked.old }
+    ensures marked { marked.new.items ≡ marked.old.items ++ handle ∷ [] }
+    ensures room { vec_capacity marked.old ≤ vec_capacity marked.new }
+{
+    let Ok(()) = marked.push(handle) else {
+        unreachable!()
+    };
+}
+
+// Takes room for so many items in all. `NoMemory` where there is none.
+fn reserve_for<T: Drop>(items: &mut Vec<T>, in_all: usize) -> Result<(), NoMemory>
+    ensures items { items.new.items ≡ items.old.items }
+    ensures room { OnOk result (in_all ≤ vec_capacity items.new) }
+    ensures kept { vec_capacity items.old ≤ vec_capacity items.new }
+{
+    let length = items.len();
+    if length < in_all {
+        items.reserve(in_all - length)?;
+    }
+    Ok(())
+}
