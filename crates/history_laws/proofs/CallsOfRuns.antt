@@ -38,7 +38,7 @@ AreOurCalls-append : (clients : ℕ) (front back : List Call) → AreOurCalls cl
 AreOurCalls-append clients [] back first second = second
 AreOurCalls-append clients (call ∷ front) back first second = (first.0, AreOurCalls-append clients front back first.1 second)
 
-calls_of-few : (client : ℕ) (calls : List Call) → calls_of client calls ≤ length calls
+pub calls_of-few : (client : ℕ) (calls : List Call) → calls_of client calls ≤ length calls
 calls_of-few client [] = omega arith
 calls_of-few client (call ∷ calls) = (let rest = calls_of-few client calls in elim (cases_Bool (call.client == client)) [ inl is ↦ rw is (omega arith) | inr isnt ↦ rw isnt (omega arith) ])
 
@@ -78,7 +78,7 @@ next-ours script history call read is = elim (option_cases (run script.setup his
 -- ---- the calls of a history
 
 -- where some entry passes a test, one does
-some-entry : (test : HistoryEntry → Bool) (history : List HistoryEntry) → 1 ≤ how_many test history → (place : ℕ) × ((entry : HistoryEntry) × ((slice_get history place ≡ Some entry) × (test entry ≡ true)))
+pub some-entry : (test : HistoryEntry → Bool) (history : List HistoryEntry) → 1 ≤ how_many test history → (place : ℕ) × ((entry : HistoryEntry) × ((slice_get history place ≡ Some entry) × (test entry ≡ true)))
 some-entry test [] some = absurd (omega arith)
 some-entry test (entry ∷ history) some = elim (cases_Bool (test entry)) [
   | inl passes ↦ (0, (entry, (refl, passes)))
@@ -95,7 +95,7 @@ made-ours script history client number read scheduled some =
     let same_number : entry.1.0.call.number ≡ number = eqb-true entry.1.0.call.number number (and_right (entry.1.0.call.client == client) (entry.1.0.call.number == number) entry.1.1.1) in
     (subst (λ (c : ℕ). c < length script.setup.clients) same_client ours.0, subst (λ (n : ℕ). n < 2 ^ 64) same_number ours.1)
 
-counted-ours : (clients : List Client) (ends : List EndOf) → ((client number : ℕ) → 1 ≤ how_many (is_end client number) ends → (client < length clients) × (number < 2 ^ 64)) → AreOurs clients ends
+pub counted-ours : (clients : List Client) (ends : List EndOf) → ((client number : ℕ) → 1 ≤ how_many (is_end client number) ends → (client < length clients) × (number < 2 ^ 64)) → AreOurs clients ends
 counted-ours clients [] ours = tt
 counted-ours clients (end ∷ ends) ours = (
   ours end.client end.number (rw (eq-eqb end.client end.client refl, eq-eqb end.number end.number refl) (omega arith)),
@@ -129,7 +129,7 @@ steps-append {S} {E} step s (item ∷ front) back =
     ]
 
 -- where the run of more entries is there, so is the next turn
-turned-there : (setup : Setup) (history : List HistoryEntry) (entry : HistoryEntry) (rest : List HistoryEntry) (r : Run) → run setup history ≡ Some r → IsSome (run setup (history ++ entry ∷ rest))
+pub turned-there : (setup : Setup) (history : List HistoryEntry) (entry : HistoryEntry) (rest : List HistoryEntry) (r : Run) → run setup history ≡ Some r → IsSome (run setup (history ++ entry ∷ rest))
     → (turned : Turned) × (turn r.volume entry.call entry.starved ≡ Some turned)
 turned-there setup history entry rest r is runs = elim (option_cases (turn r.volume entry.call entry.starved)) [
   | inr some ↦ some

@@ -55,7 +55,7 @@ name-starts_turn : (clients : List Client) (client : ℕ) → AreNamed clients �
 name-starts_turn clients client named = Free-name starts_turn clients client (λ byte is. name_byte-apart byte 62 is refl) named
 
 -- a client's name tells which client it is
-same_client : (clients : List Client) (client other : ℕ) → AreNamed clients → client < length clients → other < length clients → name_of clients client ≡ name_of clients other → client ≡ other
+pub same_client : (clients : List Client) (client other : ℕ) → AreNamed clients → client < length clients → other < length clients → name_of clients client ≡ name_of clients other → client ≡ other
 same_client clients client other named within also alike =
     let nobody : Client = record { name = []; sids = [] } in
     let first : slice_get clients client ≡ Some (get_or clients client nobody) = slice_get-get_or clients client nobody within in

@@ -10,6 +10,7 @@ pub mod PlainText
 pub mod PlainTries
 pub mod ReadBack
 pub mod ReadNames
+pub mod SameRace
 pub mod SameText
 pub mod SettlePlain
 pub mod WholeLaws

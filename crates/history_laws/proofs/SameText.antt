@@ -87,7 +87,7 @@ follows script history r (entry ∷ rest) turns on = inl (_, turn_lines script.s
 
 -- ---- two histories
 
-same_entry : (one other : HistoryEntry) → one.call ≡ other.call → one.starved ≡ other.starved → one ≡ other
+pub same_entry : (one other : HistoryEntry) → one.call ≡ other.call → one.starved ≡ other.starved → one ≡ other
 same_entry one other calls starved = subst (λ (made : HistoryEntry). one ≡ made) (ap (λ (call : Call). record { call = call; starved = one.starved }) calls ∙ ap (λ (ids : List CallId). record { call = other.call; starved = ids }) starved) refl
 
 -- the first entries of both are the same

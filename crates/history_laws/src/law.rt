@@ -12,6 +12,7 @@ ghost use Rattle.fsa_model.specs.Text.{shows_no_memory, text};
 ghost use Rattle.fsa_model.specs.Turn.{Turned, try, turn};
 ghost use Rattle.fsa_model.specs.Volume.{Volume};
 ghost use Rattle.history_laws.specs.Named.{IsRead};
+ghost use Rattle.history_laws.specs.Races.{Whole};
 ghost use Rattle.fsa_model.specs.Starving.{TriesPlain, starved_of};
 
 /// No try ends a call, its own or another, with the status NoMemory: only a settlement does.
@@ -42,4 +43,11 @@ pub fn two_histories_with_one_text_are_one()
 pub fn text_without_no_memory_is_plain()
     ensures plain { (script : Script) (history : List HistoryEntry) → IsRead script → Scheduled script history → HasAllCalls script history
         → shows_no_memory (text script history) ≡ false → history ≡ plain script }
+{}
+
+/// Two whole histories of one script, whose clients ran side by side, are the same where their texts are: the first
+/// line of a turn tells its call, and the lines of the calls that ended in it which of them found no memory.
+pub fn two_whole_histories_with_one_text_are_one()
+    ensures only { (script : Script) (history other : List HistoryEntry) → IsRead script → Whole script history → Whole script other
+        → text script other ≡ text script history → other ≡ history }
 {}

@@ -8,6 +8,7 @@ mod order;
 pub use law::{
     scripts_are_read, starved_calls_end_without_memory, text_without_no_memory_is_plain,
     tries_end_for_no_want_of_memory, two_histories_with_one_text_are_one,
+    two_whole_histories_with_one_text_are_one,
 };
 pub use order::{
     calls_are_made_in_order, each_schedule_goes_on_to_its_end,

@@ -1,0 +1,4 @@
+pub mod Ordering
+pub mod RunLaws
+pub mod ServeLaws
+pub mod WaitLaws

@@ -1,0 +1,5 @@
+pub mod Answers
+pub mod Calls
+pub mod Desks
+pub mod Serving
+pub mod Shown
