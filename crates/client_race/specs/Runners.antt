@@ -1,0 +1,31 @@
+-- What a client's runner is: the calls that its pass has made, and those that it has still to make.
+use Rattle.std.specs.Prelude.{◌≡◌, ℕ, List, None}
+use Rattle.fsa_types.specs.declared.request.Call.{Call}
+use Rattle.history_lock.specs.Lock.{known}
+use Rattle.shared_volume.specs.declared.shared.SharedVolume.{SharedVolume}
+use Rattle.shared_volume.specs.Shared.{IsPass}
+use Rattle.client_run.specs.Serving.{Serves, planned, todo_in}
+use Rattle.client_race.specs.declared.runner.Runner.{Runner}
+use Rattle.client_race.specs.Passes.{view_of}
+
+abbrev pub todo_of : Runner → List Call
+todo_of runner = todo_in runner.run
+
+-- all calls of the run, those made first
+abbrev pub plan_of : Runner → List Call
+plan_of runner = planned (known runner.pass).own.mine runner.run
+
+abbrev pub client_of : Runner → ℕ
+client_of runner = (known runner.pass).own.client
+
+-- it waits for no call, and has its pass's client
+abbrev pub IsFresh : Runner → Type 0
+IsFresh runner = (runner.run.waits ≡ None) × (runner.run.client ≡ client_of runner)
+
+-- its pass is one of this volume, and its run is that pass's
+abbrev pub IsReady : SharedVolume → Runner → Type 0
+IsReady volume runner = IsPass volume runner.pass × Serves (view_of volume runner.pass) runner.run
+
+-- the second runner is the first one, later
+abbrev pub Follows : SharedVolume → Runner → Runner → Type 0
+Follows volume v w = IsReady volume w × (client_of w ≡ client_of v) × (plan_of w ≡ plan_of v)
