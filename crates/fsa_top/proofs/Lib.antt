@@ -1,4 +1,5 @@
 pub mod LimitLaws
 pub mod OrderLaws
 pub mod RunLaws
+pub mod ShownLaws
 pub mod SummaryLaws

@@ -9,6 +9,7 @@ use Rattle.fsa_model.specs.Schedule.{HasAllCalls, Scheduled, plain}
 use Rattle.fsa_model.specs.Script.{script_of}
 use Rattle.fsa_model.specs.Text.{shows_no_memory, text}
 use Rattle.fsa_model.specs.Watched.{WatchesReport}
+use Rattle.history_laws.specs.Races.{Whole}
 use Rattle.wire_io.specs.Source.{ReadsWhole}
 use Rattle.wire_io.specs.Sink.{Written, Appends, AppendsPart}
 use Rattle.fsa_top.specs.declared.limits.Limit.{Limit}
@@ -40,13 +41,22 @@ WritesPart script written written_now =
 abbrev pub WritesText : Script → Written → Written → Type 0
 WritesText script written written_now = (history : List HistoryEntry) × IsHistory script history × Appends written written_now (text script history)
 
--- the bytes are a script, and the text of its history was written
-abbrev pub RunsText : List ℕ → Written → Written → Type 0
-RunsText bytes written written_now = (script : Script) × (script_of bytes ≡ Ok script) × WritesText script written written_now
+-- a history of the script whose clients ran side by side: it is whole for the script, no other that is has its
+-- text, caching by oplocks is coherent over it, and each watch reports exactly the matching changes since its
+-- last report
+pub record IsRaced (script : Script) (history : List HistoryEntry) : Type 0 where
+  pub whole : Whole script history
+  pub only : (other : List HistoryEntry) → Whole script other → text script other ≡ text script history → other ≡ history
+  pub caching_is_coherent : CachingIsCoherent script.setup history
+  pub watches_report_exactly : WatchesReport script.setup history
 
--- the bytes are a script, and a part of the text of a scheduled history that has all its calls was written
-abbrev pub RunsPart : List ℕ → Written → Written → Type 0
-RunsPart bytes written written_now = (script : Script) × (script_of bytes ≡ Ok script) × WritesPart script written written_now
+-- the text of such a history was written
+abbrev pub WritesWhole : Script → Written → Written → Type 0
+WritesWhole script written written_now = (history : List HistoryEntry) × IsRaced script history × Appends written written_now (text script history)
+
+-- a part of the text of a history that is whole for the script was written
+abbrev pub WritesWholePart : Script → Written → Written → Type 0
+WritesWholePart script written written_now = (history : List HistoryEntry) × Whole script history × AppendsPart written written_now (text script history)
 
 -- the bytes are no script, and the line that names the least faulty line was written, or a part of it where the sink failed
 abbrev pub NamesFault : List ℕ → Written → Written → ℕ → ℕ → Type 0
@@ -62,14 +72,13 @@ NamesLimit bytes written written_now faults faults_now =
 abbrev pub ReadsWithin : Option (List ℕ) → Option (List ℕ) → List ℕ → Type 0
 ReadsWithin left left_now bytes = ReadsWhole left left_now bytes × (limit_of bytes ≡ None)
 
--- the source was read to its end within the limits, its bytes are a script, and the text of its history was written
-abbrev pub Ran : Option (List ℕ) → Option (List ℕ) → Written → Written → Type 0
-Ran left left_now written written_now = (bytes : List ℕ) × ReadsWithin left left_now bytes × RunsText bytes written written_now
+-- the source was read to its end within the limits, and its bytes are this script
+abbrev pub ReadsScript : Option (List ℕ) → Option (List ℕ) → Script → Type 0
+ReadsScript left left_now script = (bytes : List ℕ) × ReadsWithin left left_now bytes × (script_of bytes ≡ Ok script)
 
--- the source was read to its end within the limits, its bytes are a script, and a part of the text of a
--- scheduled history that has all its calls was written
-abbrev pub RanInPart : Option (List ℕ) → Option (List ℕ) → Written → Written → Type 0
-RanInPart left left_now written written_now = (bytes : List ℕ) × ReadsWithin left left_now bytes × RunsPart bytes written written_now
+-- the source was read to its end within the limits, its bytes are a script, and this was written of it
+abbrev pub Ran : (Script → Written → Written → Type 0) → Option (List ℕ) → Option (List ℕ) → Written → Written → Type 0
+Ran writes left left_now written written_now = (script : Script) × ReadsScript left left_now script × writes script written written_now
 
 -- the source was read to its end within the limits, its bytes are no script, and the line that names the least faulty line was written
 abbrev pub FoundBad : Option (List ℕ) → Option (List ℕ) → Written → Written → ℕ → ℕ → Type 0
@@ -80,6 +89,10 @@ FoundBad left left_now written written_now faults faults_now =
 abbrev pub FoundLimit : Option (List ℕ) → Written → Written → ℕ → ℕ → Type 0
 FoundLimit left written written_now faults faults_now =
     (limit : Limit) × PassesLimit limit left × Says (limit_line limit) written written_now faults faults_now
+
+-- this script was read from bytes that pass no limit
+abbrev pub IsOfBytes : Script → Type 0
+IsOfBytes script = (bytes : List ℕ) × (limit_of bytes ≡ None) × (script_of bytes ≡ Ok script)
 
 -- the bytes are a script
 abbrev pub IsScript : List ℕ → Type 0

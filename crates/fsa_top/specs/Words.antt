@@ -14,6 +14,12 @@ is_run [] = false
 is_run (word ∷ []) = pointwise nat_eq (string_bytes word) (codes "run")
 is_run (word ∷ second ∷ more) = false
 
+-- the one word `race`
+abbrev pub is_race : List (String Global) → Bool
+is_race [] = false
+is_race (word ∷ []) = pointwise nat_eq (string_bytes word) (codes "race")
+is_race (word ∷ second ∷ more) = false
+
 -- the seed that these bytes write: a decimal number below 2 ^ 64 without a leading zero
 abbrev pub seed_written : List ℕ → Option ℕ
 seed_written bytes = written_number 10 18446744073709551615 bytes

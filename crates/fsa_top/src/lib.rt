@@ -16,10 +16,12 @@ mod limits;
 mod lines;
 mod nowhere;
 mod order;
+mod race_text;
 mod run;
 mod seed;
 mod summary;
 mod top;
 
 pub use limits::{MOST_CLIENT_LINES, MOST_LINE_FEEDS, MOST_SCRIPT_BYTES};
+pub use lines::is_race;
 pub use top::{fsa_main, fsa_single};

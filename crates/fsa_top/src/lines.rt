@@ -4,7 +4,7 @@ ghost use Rattle.std.specs.Prelude.{◌≡◌, ◌≤◌, ◌++◌, OnOk, OnErr,
 ghost use Rattle.wire_io.specs.Faults.{FailsLast, HasCause, Rose, StopsAtFault};
 ghost use Rattle.wire_io.specs.Sink.{Appends, AppendsPart};
 ghost use Rattle.fsa_top.specs.Runs.{bad_line};
-ghost use Rattle.fsa_top.specs.Words.{Says, is_run, limit_line, usage_line};
+ghost use Rattle.fsa_top.specs.Words.{Says, is_race, is_run, limit_line, usage_line};
 
 use crate::limits::Limit;
 use itoa::Buffer;
@@ -16,6 +16,16 @@ pub fn is_run(words: &[String]) -> bool
 {
     match words {
         [word] => word.as_bytes() == b"run".as_slice(),
+        _ => false,
+    }
+}
+
+/// Whether the words are the list `race`.
+pub fn is_race(words: &[String]) -> bool
+    ensures { result ≡ is_race words.now }
+{
+    match words {
+        [word] => word.as_bytes() == b"race".as_slice(),
         _ => false,
     }
 }

@@ -209,9 +209,9 @@ pub fn begin(alloc: Global, script: &Script) -> Result<VolumeMachine, fsa_types:
     VolumeMachine::new(alloc, Setup { table, clients })
 }
 
-// Writes the last line.
+/// Writes the last line: how many turns there are.
 #[tactic(auto, using(crate::proofs::RunLaws::last_none))]
-fn put_last<K: Sink>(alloc: Global, turns: u32, sink: &mut K) -> Result<(), RunFault>
+pub fn put_last<K: Sink>(alloc: Global, turns: u32, sink: &mut K) -> Result<(), RunFault>
     ensures ok { OnOk result (Appends (K.written sink.old) (K.written sink.new) (last_line turns)) }
     ensures part { OnErr result (AppendsPart (K.written sink.old) (K.written sink.new) (last_line turns)) }
     ensures failed { IsErrOf result RunFault.Failed → FailsLast (K.faults sink.old) (K.faults sink.new) (K.written sink.new).since_fault }

@@ -7,6 +7,8 @@ mod limits;
 #[cfg(test)]
 mod program;
 #[cfg(test)]
+mod races;
+#[cfg(test)]
 mod rows;
 #[cfg(test)]
 mod tests;

@@ -1,7 +1,6 @@
 //! Whole scripts, each with its status and its text.
 
-use crate::program::{repeated, run, words_of};
-use fsa_top::fsa_single;
+use crate::program::{on_one_thread, repeated, run, words_of};
 use std::test::Fail;
 use wire_io::{MemorySink, MemorySource};
 
@@ -140,7 +139,8 @@ fn other_words_are_usage(rt: HostRuntime) -> Result<(), Fail> {
         "",
         "--run",
         "run x",
-        "race",
+        "race x",
+        "Race",
         "gen",
         "gen 01",
         "gen 18446744073709551616",
@@ -152,7 +152,7 @@ fn other_words_are_usage(rt: HostRuntime) -> Result<(), Fail> {
         for (failing, written) in [(0, "usage: fsa run / race / gen N\n"), (1, "")] {
             let mut source = MemorySource::new(rt.alloc(), b"fsa 1\n", 1, &[])?;
             let mut sink = MemorySink::new(rt.alloc(), 4096, 4096, &[failing])?;
-            let found = fsa_single(rt.alloc(), words.as_slice(), &mut source, &mut sink);
+            let found = on_one_thread(rt.alloc(), words.as_slice(), &mut source, &mut sink);
             assert_eq!(rt; found, 1, "{text}");
             assert_eq!(rt; sink.bytes(), written.as_bytes(), "{text}");
         }
@@ -166,7 +166,7 @@ fn a_generated_script_gives_its_summary(rt: HostRuntime) -> Result<(), Fail> {
     let words = words_of(rt.alloc(), "gen 0")?;
     let mut source = MemorySource::new(rt.alloc(), b"", 1, &[])?;
     let mut sink = MemorySink::new(rt.alloc(), 4096, 4096, &[])?;
-    let found = fsa_single(rt.alloc(), words.as_slice(), &mut source, &mut sink);
+    let found = on_one_thread(rt.alloc(), words.as_slice(), &mut source, &mut sink);
     assert_eq!(rt; found, 0);
     assert!(rt; sink.bytes().starts_with(b"turns 4100\n"));
     assert!(rt; sink.bytes().ends_with(b"\nend\n"));

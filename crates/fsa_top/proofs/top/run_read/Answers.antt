@@ -4,10 +4,10 @@ use Rattle.fsa_top.proofs.LimitLaws.{script-read, script-within}
 use Rattle.fsa_top.proofs.top.run_read.Goals as goal
 
 pub run_script-requires-clause-is_read : goal.run_script-requires-clause-is_read
-run_script-requires-clause-is_read g c = script-read c.args.bytes.now (contents c.args.script.now) c.requires.within c.requires.script
+run_script-requires-clause-is_read g c = let read = c.requires.read in script-read read.0 (contents c.args.script.now) read.1 read.2
 
 pub run_script-requires-clause-within : goal.run_script-requires-clause-within
-run_script-requires-clause-within g c = script-within c.args.bytes.now (contents c.args.script.now) c.requires.within c.requires.script
+run_script-requires-clause-within g c = let read = c.requires.read in script-within read.0 (contents c.args.script.now) read.1 read.2
 
 pub run_script-requires-clause-sids : goal.run_script-requires-clause-sids
-run_script-requires-clause-sids g c = script_of-sids c.args.bytes.now (contents c.args.script.now) c.requires.script
+run_script-requires-clause-sids g c = let read = c.requires.read in script_of-sids read.0 (contents c.args.script.now) read.2

@@ -3,7 +3,7 @@ use Rattle.wire_io.specs.Source.{HasMoreThan}
 use Rattle.fsa_top.specs.Limits.{most_bytes}
 use Rattle.fsa_top.specs.declared.limits.Limit.TheVariants.{Bytes}
 use Rattle.fsa_top.proofs.LimitLaws.{PassesLimit-more}
-use Rattle.fsa_top.proofs.top.run_source.Goals as goal
+use Rattle.fsa_top.proofs.top.read_source.Goals as goal
 
 pub returns-in-Err-TooMany-clause-limit : goal.returns-in-Err-TooMany-clause-limit
 returns-in-Err-TooMany-clause-limit g c =

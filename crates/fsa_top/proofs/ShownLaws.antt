@@ -1,0 +1,105 @@
+-- The text of a history that is there already, written turn by turn.
+use Rattle.std.proofs.Common.{◌≡◌, ℕ, zero, suc, ◌+◌, List, [], ◌∷◌, ◌++◌, length, map, take, drop, true, false, Some, None, IsSome, refl, ap, sym, subst, ◌∙◌, append_assoc, append-nil, arith, inl, inr}
+use Rattle.std.specs.Prelude.{slice_get}
+use Rattle.fsa_types.specs.declared.request.Call.{Call}
+use Rattle.fsa_model.specs.History.{HistoryEntry, Run, run}
+use Rattle.fsa_model.specs.Outcome.{TurnOut}
+use Rattle.fsa_model.specs.Setup.{Client, Script}
+use Rattle.fsa_model.specs.Text.{last_line, text, turn_text, turns_text}
+use Rattle.fsa_model.proofs.HistoryLaws.{run-gives}
+use Rattle.fsa_model.proofs.RowLaws.{option_cases}
+use Rattle.wire_io.specs.Sink.{Written, Appends, AppendsPart}
+use Rattle.wire_io.proofs.SinkLaws.{Appends-append, Appends-none, AppendsPart-append, AppendsPart-longer, AppendsPart-none}
+use Rattle.fsa_top.specs.Shown.{ShowsFirst, ShowsTurn}
+
+text_of_none : (clients : List Client) (history : List HistoryEntry) → turns_text clients history [] ≡ []
+text_of_none clients [] = refl
+text_of_none clients (entry ∷ history) = refl
+
+-- the first turns and the others
+turns_split : (clients : List Client) (history : List HistoryEntry) (outs : List TurnOut) (turns : ℕ)
+    → turns_text clients history outs ≡ turns_text clients (take turns history) (take turns outs) ++ turns_text clients (drop turns history) (drop turns outs)
+turns_split clients history outs zero = refl
+turns_split clients [] outs (suc turns) = refl
+turns_split clients (entry ∷ history) [] (suc turns) = sym (text_of_none clients (drop turns history))
+turns_split clients (entry ∷ history) (out ∷ outs) (suc turns) =
+    ap (λ (rest : List ℕ). turn_text clients entry.call out ++ rest) (turns_split clients history outs turns)
+    ∙ sym (append_assoc (turn_text clients entry.call out) (turns_text clients (take turns history) (take turns outs)) (turns_text clients (drop turns history) (drop turns outs)))
+
+-- the first turns and one more
+turns_next : (clients : List Client) (history : List HistoryEntry) (outs : List TurnOut) (turn : ℕ) (call : Call) (out : TurnOut)
+    → slice_get (map (λ (entry : HistoryEntry). entry.call) history) turn ≡ Some call → slice_get outs turn ≡ Some out
+    → turns_text clients (take (suc turn) history) (take (suc turn) outs) ≡ turns_text clients (take turn history) (take turn outs) ++ turn_text clients call out
+turns_next clients [] outs turn call out at gave = (let impossible : None ≡ Some call = at in cc)
+turns_next clients (entry ∷ history) [] turn call out at gave = (let impossible : None ≡ Some out = gave in cc)
+turns_next clients (entry ∷ history) (first ∷ outs) zero call out at gave =
+    let same : entry.call ≡ call = (let f : Some entry.call ≡ Some call = at in cc) in
+    let given : first ≡ out = (let f : Some first ≡ Some out = gave in cc) in
+    append-nil (turn_text clients entry.call first) ∙ (λ i. turn_text clients (same i) (given i))
+turns_next clients (entry ∷ history) (first ∷ outs) (suc turn) call out at gave =
+    ap (λ (rest : List ℕ). turn_text clients entry.call first ++ rest) (turns_next clients history outs turn call out at gave)
+    ∙ sym (append_assoc (turn_text clients entry.call first) (turns_text clients (take turn history) (take turn outs)) (turn_text clients call out))
+
+pub first-begun : (script : Script) (history : List HistoryEntry) (written : Written) → ShowsFirst script history 0 written written
+first-begun script history written r runs = Appends-none written
+
+pub first-turn : (script : Script) (history : List HistoryEntry) (turn : ℕ) (first mid now : Written) → ShowsFirst script history turn first mid → ShowsTurn Appends script history turn mid now
+    → ShowsFirst script history (turn + 1) first now
+first-turn script history turn first mid now before next r runs =
+    subst (λ (n : ℕ). Appends first now (turns_text script.setup.clients (take n history) (take n r.outs))) (let same : suc turn ≡ turn + 1 = omega arith in same)
+    (subst (Appends first now) (sym (turns_next script.setup.clients history r.outs turn next.0 next.1 next.2 (next.3 r runs)))
+    (Appends-append first mid now _ _ (before r runs) next.4))
+
+-- a run that is there
+some_run : (script : Script) (history : List HistoryEntry) → IsSome (run script.setup history) → (r : Run) × (run script.setup history ≡ Some r)
+some_run script history some = elim (option_cases (run script.setup history)) [
+  | inr found ↦ found
+  | inl none ↦ (let impossible : false ≡ true = rw none at some in cc)
+]
+
+text_is : (script : Script) (history : List HistoryEntry) (r : Run) → run script.setup history ≡ Some r → text script history ≡ turns_text script.setup.clients history r.outs ++ last_line (length history)
+text_is script history r runs = rw runs refl
+
+-- a part of the lines of one turn, behind those before it
+pub first-part : (script : Script) (history : List HistoryEntry) (turn : ℕ) (first mid now : Written) → IsSome (run script.setup history) → ShowsFirst script history turn first mid → ShowsTurn AppendsPart script history turn mid now
+    → AppendsPart first now (text script history)
+first-part script history turn first mid now some before next =
+    let r = some_run script history some in
+    let clients : List Client = script.setup.clients in
+    let rest : List ℕ = turns_text clients (drop (suc turn) history) (drop (suc turn) r.0.outs) in
+    let front : List ℕ = turns_text clients (take turn history) (take turn r.0.outs) in
+    let here : AppendsPart first now (front ++ turn_text clients next.0 next.1) = AppendsPart-append first mid now front (turn_text clients next.0 next.1) (before r.0 r.1) next.4 in
+    let longer : AppendsPart first now ((front ++ turn_text clients next.0 next.1) ++ (rest ++ last_line (length history))) = AppendsPart-longer first now (front ++ turn_text clients next.0 next.1) (rest ++ last_line (length history)) here in
+    let whole : text script history ≡ (front ++ turn_text clients next.0 next.1) ++ (rest ++ last_line (length history))
+    = text_is script history r.0 r.1 ∙ (ap (λ (lines : List ℕ). lines ++ last_line (length history)) (turns_split clients history r.0.outs (suc turn)
+    ∙ ap (λ (lines : List ℕ). lines ++ rest) (turns_next clients history r.0.outs turn next.0 next.1 next.2 (next.3 r.0 r.1)))
+    ∙ append_assoc (front ++ turn_text clients next.0 next.1) rest (last_line (length history))) in
+    subst (AppendsPart first now) (sym whole) longer
+
+take_all : {X : Type 0} (xs : List X) (n : ℕ) → length xs ≡ n → take n xs ≡ xs
+take_all [] zero long = refl
+take_all [] (suc n) long = refl
+take_all (x ∷ xs) zero long = absurd (omega arith)
+take_all (x ∷ xs) (suc n) long = ap (λ (rest : List _). x ∷ rest) (take_all xs n (omega arith))
+
+-- the lines of all turns
+all_turns : (script : Script) (history : List HistoryEntry) (first mid : Written) (r : Run) → run script.setup history ≡ Some r → ShowsFirst script history (length history) first mid
+    → Appends first mid (turns_text script.setup.clients history r.outs)
+all_turns script history first mid r runs shows =
+    subst (Appends first mid) (λ i. turns_text script.setup.clients (take_all history (length history) refl i) (take_all r.outs (length history) (run-gives script.setup history r runs) i)) (shows r runs)
+
+pub first-whole : (script : Script) (history : List HistoryEntry) (first mid now : Written) → IsSome (run script.setup history) → ShowsFirst script history (length history) first mid → Appends mid now (last_line (length history))
+    → Appends first now (text script history)
+first-whole script history first mid now some shows last =
+    let r = some_run script history some in
+    subst (Appends first now) (sym (text_is script history r.0 r.1)) (Appends-append first mid now _ _ (all_turns script history first mid r.0 r.1 shows) last)
+
+pub first-last_part : (script : Script) (history : List HistoryEntry) (first mid now : Written) → IsSome (run script.setup history) → ShowsFirst script history (length history) first mid → AppendsPart mid now (last_line (length history))
+    → AppendsPart first now (text script history)
+first-last_part script history first mid now some shows last =
+    let r = some_run script history some in
+    subst (AppendsPart first now) (sym (text_is script history r.0 r.1)) (AppendsPart-append first mid now _ _ (all_turns script history first mid r.0 r.1 shows) last)
+
+-- nothing of the lines of a turn
+pub turn_none : (clients : List Client) (call : Call) (out : TurnOut) (old now : Written) → now ≡ old → AppendsPart old now (turn_text clients call out)
+turn_none clients call out old now same = subst (λ (w : Written). AppendsPart old w (turn_text clients call out)) (sym same) (AppendsPart-none old (turn_text clients call out) (omega arith))

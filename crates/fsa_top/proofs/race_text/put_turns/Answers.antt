@@ -1,0 +1,25 @@
+use Rattle.std.proofs.Common.{◌≡◌, ◌∙◌, ℕ, length, arith, subst}
+use Rattle.script_read.specs.ScriptView.{contents}
+use Rattle.fsa_top.specs.Shown.{ShowsFirst}
+use Rattle.fsa_top.specs.declared.run.RunFault.{RunFault}
+use Rattle.fsa_top.proofs.RunLaws.{OnErr-any}
+use Rattle.fsa_top.proofs.ShownLaws.{first-part, first-turn}
+use Rattle.fsa_top.proofs.race_text.put_turns.Goals as goal
+
+pub returns-in_err-put_turn-clause-part : goal.returns-in_err-put_turn-clause-part
+returns-in_err-put_turn-clause-part g c =
+    OnErr-any {T = Unit {0}} {E = RunFault} c.from_residual.result _
+    (first-part (contents c.args.script.now) c.args.machine.now.entries c.loop-turn.turn (g.K.Sink.written c.args.sink.now) (g.K.Sink.written c.loop-turn.sink) (g.K.Sink.written c.put_turn.new.sink)
+    c.requires.runs c.loop-turn.invariant.shows c.in_err-put_turn.ensures.part)
+
+pub loop-turn-preserved : goal.loop-turn-preserved
+loop-turn-preserved g c = record {
+  shows = first-turn (contents c.args.script.now) c.args.machine.now.entries c.loop-turn.turn (g.K.Sink.written c.args.sink.now) (g.K.Sink.written c.loop-turn.sink) (g.K.Sink.written c.put_turn.new.sink)
+      c.loop-turn.invariant.shows c.in_ok-put_turn.ensures.ok;
+  unfailed = c.in_ok-put_turn.ensures.unfailed ∙ c.loop-turn.invariant.unfailed;
+}
+
+pub returns-clause-ok : goal.returns-clause-ok
+returns-clause-ok g c =
+    let all : c.loop-turn.turn ≡ length c.args.machine.now.entries = omega (arith, c.loop-turn-test.false, c.loop-turn.auto.turn-end, c.len-turn-end.ensures) in
+    subst (λ (turns : ℕ). ShowsFirst (contents c.args.script.now) c.args.machine.now.entries turns (g.K.Sink.written c.args.sink.now) (g.K.Sink.written c.loop-turn.sink)) all c.loop-turn.invariant.shows

@@ -1,0 +1,19 @@
+use Rattle.std.proofs.lemmas.Result.{on_ok_weaker}
+use Rattle.fsa_model.proofs.CoherenceRuns.{run-coherent}
+use Rattle.fsa_model.proofs.NoticeEnds.{run-watches_report}
+use Rattle.history_laws.proofs.SameRace.{same_race}
+use Rattle.script_read.specs.ScriptView.{contents}
+use Rattle.fsa_top.proofs.race_text.race_script.Goals as goal
+
+pub returns-clause-ok : goal.returns-clause-ok
+returns-clause-ok g c =
+    let history = c.in_ok-machine.machine.entries in
+    let whole = c.in_ok-machine.ensures.whole in
+    on_ok_weaker c.put_text.result
+    (λ wrote. (history, record {
+        whole = whole;
+        only = λ other also same. same_race (contents c.args.script.now) history other c.requires.is_read whole also same;
+        caching_is_coherent = run-coherent _ history;
+        watches_report_exactly = run-watches_report _ history;
+      }, wrote))
+    c.put_text.ensures.ok
