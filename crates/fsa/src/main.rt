@@ -1,5 +1,5 @@
-//! The program `fsa`: it runs a script from standard input and writes its history to standard output, or runs a
-//! generated script and writes its summary.
+//! The program `fsa`: it runs a script from standard input, on one thread or each client on its own, and writes the
+//! history to standard output, or runs a generated script and writes its summary.
 #![tactic(auto)]
 
 use fsa_top::fsa_main;
