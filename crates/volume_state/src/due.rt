@@ -30,11 +30,7 @@ fn asks_for_due(volume: &Volume, client: u32, what: &What) -> bool
 }
 
 // The lesser of a turn and this one, where its call is a Notify to which something is due.
-fn with_due(
-    volume: &Volume,
-    first: Option<u64>,
-    entry: &(u64, PendingRow),
-) -> Option<u64>
+fn with_due(volume: &Volume, first: Option<u64>, entry: &(u64, PendingRow)) -> Option<u64>
     ensures { result ≡ (if is_due volume.now.content entry.now.1 then lesser first (Some entry.now.0) else first) }
 {
     if asks_for_due(volume, entry.1.call.client, &entry.1.call.what) {

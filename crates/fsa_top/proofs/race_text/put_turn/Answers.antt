@@ -17,7 +17,7 @@ returns-in-Ok-clause-ok g c = (
   c.call_at.ensures,
   λ r runs. c.out_at.ensures r (ap (λ (s : Setup). run s c.args.machine.now.entries) c.requires.setup ∙ runs),
   subst (λ (clients : List Client). Appends (g.K.Sink.written c.args.sink.now) (g.K.Sink.written c.write_turn.new.sink) (turn_text clients c.call_at.result.now (out_of c.out_at.result.now)))
-  c.clients.ensures c.in-Ok.ensures.writes,
+      c.clients.ensures c.in-Ok.ensures.writes,
 )
 
 pub returns-in-Err-Failed-clause-part : goal.returns-in-Err-Failed-clause-part
@@ -27,7 +27,7 @@ returns-in-Err-Failed-clause-part g c =
     let call = c.call_at.result.now in
     let out = out_of c.out_at.result.now in
     let wrote : Writes old now (turn_text (map client_of c.clients.result.now.items) call out) (Err Failed) =
-        subst (λ (fault : TextFault). Writes old now (turn_text (map client_of c.clients.result.now.items) call out) (Err fault)) c.in-Err-Failed.field-0-is c.in-Err-Failed.ensures.writes in (
+    subst (λ (fault : TextFault). Writes old now (turn_text (map client_of c.clients.result.now.items) call out) (Err fault)) c.in-Err-Failed.field-0-is c.in-Err-Failed.ensures.writes in (
       call,
       out,
       c.call_at.ensures,
@@ -42,7 +42,7 @@ returns-in-Err-NoMemory-clause-part g c =
     let call = c.call_at.result.now in
     let out = out_of c.out_at.result.now in
     let wrote : Writes old now (turn_text (map client_of c.clients.result.now.items) call out) (Err NoMemory) =
-        subst (λ (fault : TextFault). Writes old now (turn_text (map client_of c.clients.result.now.items) call out) (Err fault)) c.in-Err-NoMemory.field-0-is c.in-Err-NoMemory.ensures.writes in (
+    subst (λ (fault : TextFault). Writes old now (turn_text (map client_of c.clients.result.now.items) call out) (Err fault)) c.in-Err-NoMemory.field-0-is c.in-Err-NoMemory.ensures.writes in (
       call,
       out,
       c.call_at.ensures,

@@ -10,10 +10,14 @@ returns-clause-ok g c =
     let history = c.in_ok-machine.machine.entries in
     let whole = c.in_ok-machine.ensures.whole in
     on_ok_weaker c.put_text.result
-    (λ wrote. (history, record {
+    (λ wrote. (
+      history,
+      record {
         whole = whole;
         only = λ other also same. same_race (contents c.args.script.now) history other c.requires.is_read whole also same;
         caching_is_coherent = run-coherent _ history;
         watches_report_exactly = run-watches_report _ history;
-      }, wrote))
+      },
+      wrote,
+    ))
     c.put_text.ensures.ok
