@@ -58,15 +58,16 @@ def below(uses, name):
     return found
 
 
-def lines_of(name):
-    """Returns how many lines of source a crate has, by which the longest chain is found."""
-    total = 0
+def weight_of(name):
+    """Returns how many lines of code a crate has, twenty lines of its proofs as one: by this the longest chain is found."""
+    lines = {}
     for part in ("src", "proofs"):
+        lines[part] = 0
         for at, _, files in os.walk(f"{TOP}/crates/{name}/{part}"):
             for file in files:
                 with open(f"{at}/{file}", "rb") as it:
-                    total += it.read().count(b"\n")
-    return total
+                    lines[part] += it.read().count(b"\n")
+    return lines["src"] + lines["proofs"] // 20
 
 
 def is_kept(uses, name):
@@ -159,12 +160,13 @@ class Builder:
         self.begun, self.done, self.running, self.failed = time.monotonic(), [], {}, None
         self.commands = {}
         self.turn, self.lanes = threading.Condition(), lanes()
-        lines = {it: lines_of(it) for it in self.uses}
-        self.behind = dict(lines)
+        weights = {it: weight_of(it) for it in self.uses}
+        # what stands on a crate, and the crate itself
+        self.behind = dict(weights)
         # crates.txt has a crate after those that it uses
         for it in reversed(list(self.uses)):
             for under in self.uses[it]:
-                self.behind[under] = max(self.behind[under], lines[under] + self.behind[it])
+                self.behind[under] = max(self.behind[under], weights[under] + self.behind[it])
 
     def cell(self, name):
         """Makes the folder in which a crate is proved: its text and that of those below it, and their libraries."""
@@ -212,10 +214,22 @@ class Builder:
             else:
                 self.done.append(name)
                 now = time.monotonic()
-                say(f"{len(self.done)} of {len(self.libraries)}: {name} is proved ({now - began:.0f} s; {now - self.begun:.0f} s in all)")
+                say(f"{len(self.done)} of {len(self.libraries)}: {name} is proved ({now - began:.0f} s; {now - self.begun:.0f} s in all{self.rest(now)})")
             self.turn.notify_all()
 
+    def chain(self):
+        """Returns the weight of the longest chain of crates, one upon another, that are to be proved."""
+        return max((self.behind[it] for it in self.libraries if it not in self.done), default=0)
+
+    def rest(self, now):
+        """Returns a guess of how long it still takes, as the weight of the longest chain falls."""
+        gone = self.whole - self.chain()
+        if 10 * gone < self.whole or not self.chain():
+            return ""
+        return f", about {max(1, round((now - self.begun) * self.chain() / gone / 60))} min more"
+
     def all(self):
+        self.whole = self.chain()
         left = sorted(self.libraries, key=lambda it: -self.behind[it])
         with self.turn:
             while (left and not self.failed) or self.running:

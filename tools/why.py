@@ -134,8 +134,12 @@ def request(words, names, calls):
         return "a request is a client, a number, a verb and its fields"
     verb, fields = words[2], words[3:]
     if verb not in VERBS:
-        return f"there is no verb {verb!r}; the verbs are {', '.join(VERBS)}" + (" (each client leaves by itself at the end)" if verb == "leave" else "")
+        if verb == "leave":
+            return "`leave` is no line of a script: each client leaves by itself behind the last line"
+        return f"there is no verb {verb!r}; the verbs are {', '.join(VERBS)}"
     wanted = VERBS[verb]
+    if len(fields) > len(wanted) and re.match(r"#|//|;|--", fields[len(wanted)]):
+        return "what stands behind the fields looks like a comment, and a script has none"
     if len(fields) != len(wanted):
         return f"`{verb}` has the fields {', '.join(it for it, _ in wanted)}: {len(wanted)}, and here are {len(fields)}" + (". A space in a path or an expression is written %0020" if verb in ("create", "rename", "link", "querydir") and len(fields) > len(wanted) else "")
     for word, (what, form) in zip(fields, wanted):
@@ -198,6 +202,10 @@ def cause(lines, at):
     if words[0] in ("table", "up"):
         if words[0] == "table" and (at > 1 or said not in ("table default", "table pairs")):
             return "a table is `table default` or `table pairs`, right behind the first line"
+        if before[1:2] == [["table", "pairs"]] and len(words) == 3:
+            fault = mask(words[1], "source") or mask(words[2], "target")
+            if fault:
+                return fault
         return "a pair stands behind `table pairs`, as `up 0x61 0x41`: both at most 0xffff, the source neither a source nor a target before, the target not a source before and not its own source"
     if words[0] == "client":
         if asked:
