@@ -3,8 +3,9 @@
 
 A script is NAME.fsa in one of the two folders with its text NAME.txt, or in a document a block fenced as `fsa` with the next block,
 fenced as `text`, where a line `..` stands for any lines; a file that the fence names has the same. A block fenced as `why` behind these is what ./fsa says of a
-faulty line. A block fenced as `python` is run with FSA set to the program, and prints the text behind it. Every link to
-a file has to lead to one. With --try the program is not built but run by the unproved run of the toolchain.
+faulty line. A block fenced as `words` has the words with which the program prints the text behind it, and reads nothing. One
+fenced as `python` is run with FSA set to the program, and prints the text behind it. Every link to a file has to lead to
+one. With --try the program is not built but run by the unproved run of the toolchain, and `python` is left out.
 """
 import os
 import re
@@ -43,7 +44,9 @@ def cases_of(document, faults):
             faults.append(f"{document}:{line}: this isn't what {path} has")
         found.append((kind, source, line))
     for number, (kind, source, line) in enumerate(found):
-        if kind not in ("fsa", "python"):
+        if kind not in ("fsa", "python", "words"):
+            if kind not in ("text", "why"):
+                faults.append(f"{document}:{line}: a block fenced as {kind!r} isn't run; indent it instead")
             continue
         following = found[number + 1 : number + 3] + [("", "", 0)] * 2
         if following[0][0] != "text":
@@ -107,6 +110,10 @@ def main(program):
                 printed = ran.stdout.decode("utf-8", "replace")
             else:
                 printed = case.text
+        elif case.kind == "words":
+            command = ["rt", "try", "--", *case.source.split()] if by_try is not None else [os.path.abspath(program), *case.source.split()]
+            ran = subprocess.run(command, stdin=subprocess.DEVNULL, stdout=subprocess.PIPE, cwd=f"{TOP}/crates/fsa")
+            printed = ran.stdout.decode("utf-8", "replace")
         elif by_try is None:
             ran = subprocess.run([program, "run"], input=case.source.encode(), stdout=subprocess.PIPE)
             printed = ran.stdout.decode("utf-8", "replace")
