@@ -12,6 +12,7 @@ import subprocess
 import sys
 import time
 
+TOP = os.path.dirname(os.path.dirname(os.path.realpath(__file__)))
 TICK = os.sysconf("SC_CLK_TCK")
 KINDS = ("proofs", "tests", "edits")
 
@@ -58,6 +59,13 @@ def of_prover(pid):
     return words[words.index("--crate-name") + 1], "edits" if is_edit else "tests" if "--test" in words else "proofs"
 
 
+def place_of(crate):
+    """Returns where crates.txt has this crate; what it doesn't have comes last."""
+    with open(f"{TOP}/crates.txt", encoding="utf-8") as lines:
+        names = [line.partition(":")[0].split()[0] for line in lines if ":" in line.partition("#")[0]]
+    return names.index(crate) if crate in names else len(names)
+
+
 def main(*command):
     command = command or ("rt", "ci")
     began, spent, known = time.monotonic(), {}, {}
@@ -77,8 +85,8 @@ def main(*command):
         row = table.setdefault(crate, dict.fromkeys(KINDS, 0))
         row[kind] += ticks / TICK
     print("| Crate | Proofs | Tests | Edits |\n|---|---|---|---|")
-    for crate, row in table.items():
-        print(f"| `{crate}` | " + " | ".join(f"{row[it]:.0f} s" for it in KINDS) + " |")
+    for crate, row in sorted(table.items(), key=lambda it: place_of(it[0])):
+        print(f"| `{crate}` | " + " | ".join(f"{row[it]:.0f} s" if row[it] else "" for it in KINDS) + " |")
     sums = {it: sum(row[it] for row in table.values()) for it in KINDS}
     print("| all | " + " | ".join(f"{sums[it] / 60:.0f} min" for it in KINDS) + " |")
     print(f"\n{sum(sums.values()) / 60:.0f} minutes of processor time, {(time.monotonic() - began) / 60:.0f} minutes by the clock, on {len(os.sched_getaffinity(0))} processors")
