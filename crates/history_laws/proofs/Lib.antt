@@ -13,4 +13,5 @@ pub mod ReadNames
 pub mod SameRace
 pub mod SameText
 pub mod SettlePlain
+pub mod SpareLaws
 pub mod WholeLaws

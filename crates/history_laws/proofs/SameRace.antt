@@ -1,5 +1,5 @@
 -- Two whole histories of clients side by side are one where their texts are: a turn's first line tells its call.
-use Rattle.std.proofs.Common.{◌≡◌, ℕ, zero, suc, ◌+◌, ◌<◌, ◌≤◌, ◌^◌, true, All, List, [], ◌∷◌, ◌++◌, length, append_assoc, length-append, refl, ap, sym, subst, ◌∙◌, inl, inr, ◌⊎◌, arith, Some, None}
+use Rattle.std.proofs.Common.{◌≡◌, ℕ, zero, suc, ◌+◌, ◌<◌, ◌≤◌, ◌^◌, true, All, List, [], ◌∷◌, ◌++◌, length, append_assoc, append-nil, length-append, refl, ap, sym, subst, ◌∙◌, inl, inr, ◌⊎◌, arith, Some, None}
 use Rattle.std.specs.Prelude.{◌==◌, codes, decimal, filter, slice_get, nat_lt}
 use Rattle.std.proofs.lemmas.Bool.{cases_Bool, eqb-true, eq-eqb, ltb-true, ltb-false}
 use Rattle.std.proofs.lemmas.Fmt.{decimal_injective}
@@ -23,7 +23,7 @@ use Rattle.fsa_model.proofs.ScheduleLaws.{calls_of-push}
 use Rattle.fsa_model.proofs.ScriptLaws.{length-filter_calls}
 use Rattle.fsa_model.proofs.SettleLaws.{some_equal}
 use Rattle.history_laws.specs.Named.{IsRead}
-use Rattle.history_laws.specs.Races.{Whole, made_by, own_calls}
+use Rattle.history_laws.specs.Races.{Begun, Whole, made_by, own_calls}
 use Rattle.history_laws.proofs.CallsOfRuns.{calls_of-few, counted-ours, some-entry, turned-there}
 use Rattle.history_laws.proofs.EndLines.{AreOurs, FollowsTurn, name-ends_word, same_client, same_starved}
 use Rattle.history_laws.proofs.ReadBack.{Free-decimal, ends_word, same_word}
@@ -149,14 +149,35 @@ none_past clients client number (entry ∷ history) past all =
       | inr isnt ↦ rw isnt (omega arith)
     ]
 
-pub Whole-differ : (script : Script) (history : List HistoryEntry) → IsRead script → Whole script history → CallsDiffer history
-Whole-differ script history read whole client number = elim (cases_Bool (nat_lt client (length script.setup.clients))) [
-  | inr isnt ↦ (let past = ltb-false client (length script.setup.clients) isnt in let none = none_past (length script.setup.clients) client number history past whole.no_others in omega arith)
-  | inl is ↦ (let within = ltb-true client (length script.setup.clients) is in
+-- the first calls of a client are numbered as all are
+begun_at : (script : Script) (history : List HistoryEntry) (client : ℕ) (rest : List Call) → AreNumbered [] script.lines → own_calls script client ≡ made_by client history ++ rest
+    → (k : ℕ) (call : Call) → slice_get (made_by client history) k ≡ Some call → call.number ≡ k + 1
+begun_at script history client rest numbered is k call at = own_at script client numbered k call (ap (λ (calls : List Call). slice_get calls k) is ∙ first-at (made_by client history) rest k call at)
+  where
+    first-at : (front back : List Call) (k : ℕ) (call : Call) → slice_get front k ≡ Some call → slice_get (front ++ back) k ≡ Some call
+    first-at [] back k call at = (let impossible : None ≡ Some call = at in cc)
+    first-at (one ∷ front) back zero call at = at
+    first-at (one ∷ front) back (suc k) call at = first-at front back k call at
+
+pub Begun-differ : (script : Script) (history : List HistoryEntry) → AreNumbered [] script.lines → Begun script history → CallsDiffer history
+Begun-differ script history numbered begun client number = elim (cases_Bool (nat_lt client (length script.setup.clients))) [
+  | inr isnt ↦ (let past = ltb-false client (length script.setup.clients) isnt in let none = none_past (length script.setup.clients) client number history past begun.no_others in omega arith)
+  | inl is ↦ (let own = begun.in_order client (ltb-true client (length script.setup.clients) is) in
       let count = counts client number history in
-      let own : how_many (λ (call : Call). call.number == number) (made_by client history) ≡ how_many (λ (call : Call). call.number == number) (own_calls script client) = ap (how_many (λ (call : Call). call.number == number)) (whole.in_order client within) in
-      let few = one_at_most (own_calls script client) 0 number (λ k call at. (let n = own_at script client read.numbered k call at in omega arith)) in omega arith)
+      let few = one_at_most (made_by client history) 0 number (λ k call at. (let n = begun_at script history client own.0 numbered own.1 k call at in omega arith)) in omega arith)
 ]
+
+-- a whole history has come as far as any
+pub Whole-begun : (script : Script) (history : List HistoryEntry) → Whole script history → Begun script history
+Whole-begun script history whole = record {
+  runs = whole.runs;
+  in_order = λ client within. ([], sym (whole.in_order client within) ∙ sym (append-nil (made_by client history)));
+  free = whole.free;
+  no_others = whole.no_others;
+}
+
+pub Whole-differ : (script : Script) (history : List HistoryEntry) → IsRead script → Whole script history → CallsDiffer history
+Whole-differ script history read whole = Begun-differ script history read.numbered (Whole-begun script history whole)
 
 -- ---- turn by turn
 

@@ -1,18 +1,19 @@
 //! What holds of every history and of its text: laws that other crates' contracts may rest on. No function
 //! here does anything.
 
-ghost use Rattle.std.specs.Prelude.{◌≡◌, ◌<◌, ◌^◌, ℕ, List, Ok, Some, false, length};
+ghost use Rattle.std.specs.Prelude.{◌≡◌, ◌<◌, ◌^◌, ℕ, List, [], Ok, Some, false, length};
 ghost use Rattle.fsa_types.specs.declared.request.Call.{Call};
 ghost use Rattle.fsa_types.specs.declared.request.CallId.{CallId};
 ghost use Rattle.fsa_model.specs.History.{HistoryEntry};
-ghost use Rattle.fsa_model.specs.Schedule.{HasAllCalls, Scheduled, plain};
+ghost use Rattle.fsa_model.specs.Engine.{CallsDiffer};
+ghost use Rattle.fsa_model.specs.Schedule.{AreNumbered, HasAllCalls, Scheduled, plain};
 ghost use Rattle.fsa_model.specs.Script.{script_of};
 ghost use Rattle.fsa_model.specs.Setup.{Script};
 ghost use Rattle.fsa_model.specs.Text.{shows_no_memory, text};
 ghost use Rattle.fsa_model.specs.Turn.{Turned, try, turn};
 ghost use Rattle.fsa_model.specs.Volume.{Volume};
 ghost use Rattle.history_laws.specs.Named.{IsRead};
-ghost use Rattle.history_laws.specs.Races.{Whole};
+ghost use Rattle.history_laws.specs.Races.{Begun, Whole};
 ghost use Rattle.fsa_model.specs.Starving.{TriesPlain, starved_of};
 
 /// No try ends a call, its own or another, with the status NoMemory: only a settlement does.
@@ -50,4 +51,12 @@ pub fn text_without_no_memory_is_plain()
 pub fn two_whole_histories_with_one_text_are_one()
     ensures only { (script : Script) (history other : List HistoryEntry) → IsRead script → Whole script history → Whole script other
         → text script other ≡ text script history → other ≡ history }
+{}
+
+/// Clients that run side by side make no call twice, as the laws of each call's end and of held requests ask: this
+/// follows from the order and the numbers of their calls, also where they have made only their first ones. A whole
+/// history is one that has come as far as it can.
+pub fn calls_made_side_by_side_differ()
+    ensures differ { (script : Script) (history : List HistoryEntry) → AreNumbered [] script.lines → Begun script history → CallsDiffer history }
+    ensures whole { (script : Script) (history : List HistoryEntry) → Whole script history → Begun script history }
 {}

@@ -6,7 +6,7 @@ mod law;
 mod order;
 
 pub use law::{
-    scripts_are_read, starved_calls_end_without_memory, text_without_no_memory_is_plain,
+    calls_made_side_by_side_differ, scripts_are_read, starved_calls_end_without_memory, text_without_no_memory_is_plain,
     tries_end_for_no_want_of_memory, two_histories_with_one_text_are_one,
     two_whole_histories_with_one_text_are_one,
 };
