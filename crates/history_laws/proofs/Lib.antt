@@ -14,4 +14,7 @@ pub mod SameRace
 pub mod SameText
 pub mod SettlePlain
 pub mod SpareLaws
+pub mod SpareOwn
+pub mod SpareTries
+pub mod WaitRuns
 pub mod WholeLaws

@@ -9,19 +9,22 @@ use Rattle.fsa_types.specs.Oplocks.{Effect, Stays, Ends, Begins, Lowers, effect}
 use Rattle.fsa_types.specs.Rows.{row_of}
 use Rattle.fsa_types.specs.declared.oplock.Class.{Class}
 use Rattle.fsa_types.specs.declared.oplock.HandleSet.{HandleSet}
+use Rattle.fsa_types.specs.declared.reply.Blocker.{Blocker}
 use Rattle.fsa_types.specs.declared.reply.EndOf.{EndOf}
+use Rattle.fsa_types.specs.declared.reply.Interim.{Interim}
 use Rattle.fsa_types.specs.declared.reply.Reply.{Reply}
 use Rattle.fsa_types.specs.declared.request.Level.{Level}
 use Rattle.fsa_types.specs.declared.request.Level.TheVariants.{Nil}
 use Rattle.fsa_model.specs.Breaks.{with_told, with_break_begun, with_effect, with_breaks, is_broken_before, is_chosen, chosen}
 use Rattle.fsa_model.specs.Changes.{with_change_noted}
 use Rattle.fsa_model.specs.Edits.{is_call, with_end, without_oplock}
+use Rattle.fsa_model.specs.Lookups.{has_left}
 use Rattle.fsa_model.specs.Once.{how_many, is_end}
-use Rattle.fsa_model.specs.Outcome.{Outcome}
+use Rattle.fsa_model.specs.Outcome.{Outcome, Done, Stay, Hold}
 use Rattle.fsa_model.specs.Settling.{is_under}
 use Rattle.fsa_model.specs.Turn.{volume_after}
 use Rattle.fsa_model.specs.Volume.{Oplock, Pending, Volume}
-use Rattle.fsa_model.specs.Waiting.{is_granted_under}
+use Rattle.fsa_model.specs.Waiting.{is_granted_under, is_wait}
 use Rattle.fsa_model.specs.Waits.{waits_for, held_by}
 use Rattle.fsa_model.proofs.BreakLaws.{broken, with_breaks-rest}
 use Rattle.fsa_model.proofs.CountLaws.{how_many-filter_le, how_many-in_order, how_many-some}
@@ -30,19 +33,22 @@ use Rattle.fsa_model.proofs.TryLaws.{Keeps, Keeps-breaks, Keeps-effect}
 use Rattle.fsa_model.proofs.WaitLaws.{find-passes}
 
 module _ (who number : ℕ) where
-  -- no oplock is granted to the client's call of this number
-  pub record IsUngranted (v : Volume) : Type 0 where
+  -- the client's call of this number is a wait, where it is pending, and no oplock is granted to it
+  pub record IsBareWait (v : Volume) : Type 0 where
+    pub waits : how_many (λ e. is_call who number e.1 && not (is_wait e.1.call.what)) v.pending ≡ 0
     pub none : (turn : ℕ) → 1 ≤ how_many (is_granted_under turn) v.oplocks → how_many (λ e. is_under turn e && is_call who number e.1) v.pending ≡ 0
 
-  -- such a call has ended in the second volume as it had in the first, and it's still such a one; and nobody left
+  -- such a call has ended in the second volume as it had in the first, and it's still such a one; and its client has
+  -- left where it had
   pub record Spares (v w : Volume) : Type 0 where
-    pub ungranted : IsUngranted v → IsUngranted w
-    pub ended : IsUngranted v → filter (is_end who number) w.ended ≡ filter (is_end who number) v.ended
-    pub left : w.left ≡ v.left
+    pub kept : IsBareWait v → IsBareWait w
+    pub ended : IsBareWait v → filter (is_end who number) w.ended ≡ filter (is_end who number) v.ended
+    pub left : has_left w who ≡ has_left v who
 
-  pub IsUngranted-fewer : {v w : Volume} → ((turn : ℕ) → how_many (is_granted_under turn) w.oplocks ≤ how_many (is_granted_under turn) v.oplocks)
-      → ((test : ℕ × Pending → Bool) → how_many test w.pending ≤ how_many test v.pending) → IsUngranted v → IsUngranted w
-  IsUngranted-fewer granted fewer un = record {
+  pub IsBareWait-fewer : {v w : Volume} → ((turn : ℕ) → how_many (is_granted_under turn) w.oplocks ≤ how_many (is_granted_under turn) v.oplocks)
+      → ((test : ℕ × Pending → Bool) → how_many test w.pending ≤ how_many test v.pending) → IsBareWait v → IsBareWait w
+  IsBareWait-fewer granted fewer un = record {
+    waits = (let few = fewer (λ e. is_call who number e.1 && not (is_wait e.1.call.what)) in let none = un.waits in omega arith);
     none = λ turn some. (let many = granted turn in let few = fewer (λ e. is_under turn e && is_call who number e.1) in let none = un.none turn (omega arith) in omega arith);
   }
 
@@ -50,9 +56,9 @@ module _ (who number : ℕ) where
 
   pub Spares-still : {v w : Volume} → w.oplocks ≡ v.oplocks → w.pending ≡ v.pending → w.ended ≡ v.ended → w.left ≡ v.left → Spares v w
   Spares-still oplocks pending ended left = record {
-    ungranted = λ un. record { none = λ turn some. (rw pending (un.none turn (rw oplocks at some))) };
+    kept = λ un. record { waits = rw pending un.waits; none = λ turn some. (rw pending (un.none turn (rw oplocks at some))) };
     ended = λ un. rw ended refl;
-    left = left;
+    left = rw left refl;
   }
 
   pub Spares-same : (v : Volume) → Spares v v
@@ -60,8 +66,8 @@ module _ (who number : ℕ) where
 
   pub Spares-next : {u v w : Volume} → Spares u v → Spares v w → Spares u w
   Spares-next first second = record {
-    ungranted = λ un. second.ungranted (first.ungranted un);
-    ended = λ un. second.ended (first.ungranted un) ∙ first.ended un;
+    kept = λ un. second.kept (first.kept un);
+    ended = λ un. second.ended (first.kept un) ∙ first.ended un;
     left = second.left ∙ first.left;
   }
 
@@ -88,7 +94,7 @@ module _ (who number : ℕ) where
 
   pub Spares-end : (v : Volume) (client other : ℕ) (reply : Reply) → (client == who && other == number) ≡ false → Spares v (with_end v client other reply)
   Spares-end v client other reply differs = record {
-    ungranted = IsUngranted-fewer {v = v} {w = with_end v client other reply} (λ turn. omega arith) (λ test. how_many-filter_le test (λ entry. not (is_call client other entry.1)) v.pending);
+    kept = IsBareWait-fewer {v = v} {w = with_end v client other reply} (λ turn. omega arith) (λ test. how_many-filter_le test (λ entry. not (is_call client other entry.1)) v.pending);
     ended = λ un. filter-other_end v.ended client other reply differs;
     left = refl;
   }
@@ -96,7 +102,7 @@ module _ (who number : ℕ) where
   -- ---- breaks
 
   -- the call that is pending under this turn is another
-  pub other_under : (v w : Volume) (turn : ℕ) (row : Pending) → IsUngranted v → ((test : ℕ × Pending → Bool) → how_many test w.pending ≤ how_many test v.pending)
+  pub other_under : (v w : Volume) (turn : ℕ) (row : Pending) → IsBareWait v → ((test : ℕ × Pending → Bool) → how_many test w.pending ≤ how_many test v.pending)
       → 1 ≤ how_many (is_granted_under turn) v.oplocks → row_of w.pending turn ≡ Some row → is_call who number row ≡ false
   other_under v w turn row un fewer granted found = elim (cases_Bool (is_call who number row)) [
     | inr isnt ↦ isnt
@@ -112,7 +118,7 @@ module _ (who number : ℕ) where
     ]
   ]
 
-  ended-told : (v w : Volume) (turn : Option ℕ) (level : Level) (ack : Bool) → IsUngranted v → ((test : ℕ × Pending → Bool) → how_many test w.pending ≤ how_many test v.pending)
+  ended-told : (v w : Volume) (turn : Option ℕ) (level : Level) (ack : Bool) → IsBareWait v → ((test : ℕ × Pending → Bool) → how_many test w.pending ≤ how_many test v.pending)
       → ((t : ℕ) → turn ≡ Some t → 1 ≤ how_many (is_granted_under t) v.oplocks) → filter (is_end who number) (with_told w turn level ack).ended ≡ filter (is_end who number) w.ended
   ended-told v w None level ack un fewer granted = refl
   ended-told v w (Some turn) level ack un fewer granted = elim (option_cases (row_of w.pending turn)) [
@@ -120,14 +126,14 @@ module _ (who number : ℕ) where
     | inr some ↦ rw some.1 (filter-other_end w.ended some.0.call.client some.0.call.number _ (other_under v w turn some.0 un fewer (granted turn refl) some.1))
   ]
 
-  ended-effect : (v w : Volume) (oplock : Oplock) (done : Effect) → IsUngranted v → ((test : ℕ × Pending → Bool) → how_many test w.pending ≤ how_many test v.pending)
+  ended-effect : (v w : Volume) (oplock : Oplock) (done : Effect) → IsBareWait v → ((test : ℕ × Pending → Bool) → how_many test w.pending ≤ how_many test v.pending)
       → ((t : ℕ) → oplock.call ≡ Some t → 1 ≤ how_many (is_granted_under t) v.oplocks) → filter (is_end who number) (with_effect w oplock done).ended ≡ filter (is_end who number) w.ended
   ended-effect v w oplock Stays un fewer granted = refl
   ended-effect v w oplock Ends un fewer granted = ended-told v (without_oplock w oplock.handle) oplock.call Nil false un fewer granted
   ended-effect v w oplock (Begins level) un fewer granted = ended-told v (with_break_begun w oplock.handle level) oplock.call level true un fewer granted
   ended-effect v w oplock (Lowers level) un fewer granted = refl
 
-  ended-broken : (kind : Class) (v w : Volume) (oplocks : List Oplock) → IsUngranted v → ((test : ℕ × Pending → Bool) → how_many test w.pending ≤ how_many test v.pending)
+  ended-broken : (kind : Class) (v w : Volume) (oplocks : List Oplock) → IsBareWait v → ((test : ℕ × Pending → Bool) → how_many test w.pending ≤ how_many test v.pending)
       → ((test : Oplock → Bool) → how_many test oplocks ≤ how_many test v.oplocks) → filter (is_end who number) (broken kind w oplocks).ended ≡ filter (is_end who number) w.ended
   ended-broken kind v w [] un fewer among = refl
   ended-broken kind v w (o ∷ oplocks) un fewer among =
@@ -147,26 +153,38 @@ module _ (who number : ℕ) where
   Spares-breaks v on kind acting key =
       let keeps : Keeps v (with_breaks v on kind acting key) = Keeps-breaks v on kind acting key in
       record {
-        ungranted = IsUngranted-fewer keeps.granted keeps.pending;
+        kept = IsBareWait-fewer keeps.granted keeps.pending;
         ended = λ un. ended-broken kind v v (chosen v on acting key) un (λ test. omega arith) (λ test.
             let ordered = how_many-in_order test (is_broken_before v) (filter (is_chosen v on acting key) v.oplocks) in
             let kept = how_many-filter_le test (is_chosen v on acting key) v.oplocks in omega arith);
-        left = ap (λ (w : Volume). w.left) (with_breaks-rest v on kind acting key);
+        left = ap (λ (w : Volume). has_left w who) (with_breaks-rest v on kind acting key);
       }
 
   -- ---- outcomes
 
-  pub after-if : {v : Volume} (test : Bool) (one other : Outcome) → Spares v (volume_after one) → Spares v (volume_after other) → Spares v (volume_after (if test then one else other))
-  after-if true one other holds fails = holds
-  after-if false one other holds fails = fails
+  -- a try that comes to this spares such a call
+  pub record TriesSpare (v : Volume) (outcome : Outcome) : Type 0 where
+    pub so : Spares v (volume_after outcome)
 
-  pub after-option : {X : Type 0} {v : Volume} (found : Option X) (some : X → Outcome) (none : Outcome) → ((x : X) → Spares v (volume_after (some x))) → Spares v (volume_after none)
-      → Spares v (volume_after (option_map_or some found none))
-  after-option None some none with_some with_none = with_none
-  after-option (Some x) some none with_some with_none = with_some x
+  pub spare-done : {v w : Volume} {reply : Reply} → Spares v w → TriesSpare v (Done w reply)
+  spare-done spares = record { so = spares }
+
+  pub spare-held : {v : Volume} {blockers : List Blocker} {interim : Interim} → TriesSpare v (Hold v blockers interim)
+  spare-held {v} = record { so = Spares-same v }
+
+  pub spare-stays : {v w : Volume} {interim : Interim} → Spares v w → TriesSpare v (Stay w interim)
+  spare-stays spares = record { so = spares }
+
+  pub spare-if : {v : Volume} (test : Bool) (one other : Outcome) → TriesSpare v one → TriesSpare v other → TriesSpare v (if test then one else other)
+  spare-if true one other holds fails = holds
+  spare-if false one other holds fails = fails
+
+  pub spare-option : {X : Type 0} {v : Volume} (found : Option X) (some : X → Outcome) (none : Outcome) → ((x : X) → TriesSpare v (some x)) → TriesSpare v none → TriesSpare v (option_map_or some found none)
+  spare-option None some none with_some with_none = with_none
+  spare-option (Some x) some none with_some with_none = with_some x
 
   -- held by breaks, or on after them
-  pub after-breaks : (v : Volume) (on : HandleSet) (kind : Class) (acting : Option ℕ) (key : ℕ) (outcome : Outcome) → Spares (with_breaks v on kind acting key) (volume_after outcome)
-      → Spares v (volume_after (if waits_for v on kind acting key then held_by v on kind acting key else outcome))
-  after-breaks v on kind acting key outcome goes =
-      after-if (waits_for v on kind acting key) (held_by v on kind acting key) outcome (Spares-breaks v on kind acting key) (Spares-next (Spares-breaks v on kind acting key) goes)
+  pub spare-breaks : (v : Volume) (on : HandleSet) (kind : Class) (acting : Option ℕ) (key : ℕ) (outcome : Outcome) → TriesSpare (with_breaks v on kind acting key) outcome
+      → TriesSpare v (if waits_for v on kind acting key then held_by v on kind acting key else outcome)
+  spare-breaks v on kind acting key outcome goes =
+      spare-if (waits_for v on kind acting key) (held_by v on kind acting key) outcome (record { so = Spares-breaks v on kind acting key }) (record { so = Spares-next (Spares-breaks v on kind acting key) goes.so })

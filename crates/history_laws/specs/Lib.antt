@@ -1,4 +1,5 @@
 pub mod Cursors
 pub mod Named
 pub mod Races
+pub mod WaitEnds
 pub mod Whole

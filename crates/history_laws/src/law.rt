@@ -1,19 +1,21 @@
 //! What holds of every history and of its text: laws that other crates' contracts may rest on. No function
 //! here does anything.
 
-ghost use Rattle.std.specs.Prelude.{◌≡◌, ◌<◌, ◌^◌, ℕ, List, [], Ok, Some, false, length};
+ghost use Rattle.std.specs.Prelude.{◌≡◌, ◌<◌, ◌^◌, ◌++◌, ◌∷◌, ℕ, List, [], Ok, Some, false, true, length};
 ghost use Rattle.fsa_types.specs.declared.request.Call.{Call};
 ghost use Rattle.fsa_types.specs.declared.request.CallId.{CallId};
-ghost use Rattle.fsa_model.specs.History.{HistoryEntry};
+ghost use Rattle.fsa_model.specs.History.{HistoryEntry, Run, run};
 ghost use Rattle.fsa_model.specs.Engine.{CallsDiffer};
 ghost use Rattle.fsa_model.specs.Schedule.{AreNumbered, HasAllCalls, Scheduled, plain};
 ghost use Rattle.fsa_model.specs.Script.{script_of};
-ghost use Rattle.fsa_model.specs.Setup.{Script};
+ghost use Rattle.fsa_model.specs.Setup.{Script, Setup};
 ghost use Rattle.fsa_model.specs.Text.{shows_no_memory, text};
 ghost use Rattle.fsa_model.specs.Turn.{Turned, try, turn};
 ghost use Rattle.fsa_model.specs.Volume.{Volume};
+ghost use Rattle.fsa_model.specs.Waiting.{is_wait};
 ghost use Rattle.history_laws.specs.Named.{IsRead};
 ghost use Rattle.history_laws.specs.Races.{Begun, Whole};
+ghost use Rattle.history_laws.specs.WaitEnds.{cancels_in, ends_otherwise, is_wait_end, leaves_in};
 ghost use Rattle.fsa_model.specs.Starving.{TriesPlain, starved_of};
 
 /// No try ends a call, its own or another, with the status NoMemory: only a settlement does.
@@ -59,4 +61,12 @@ pub fn two_whole_histories_with_one_text_are_one()
 pub fn calls_made_side_by_side_differ()
     ensures differ { (script : Script) (history : List HistoryEntry) → AreNumbered [] script.lines → Begun script history → CallsDiffer history }
     ensures whole { (script : Script) (history : List HistoryEntry) → Whole script history → Begun script history }
+{}
+
+/// A wait for a call ends SUCCESS, STALLED or INVALID_PARAMETER; INVALID_HANDLE only where its client had left
+/// before, and CANCELLED only where its client has cancelled it or left since. It never ends NO_MEMORY, and its
+/// reply has no body.
+pub fn waits_end_in_few_ways()
+    ensures ends { (setup : Setup) (front later : List HistoryEntry) (entry : HistoryEntry) (r : Run) → CallsDiffer (front ++ entry ∷ later) → run setup (front ++ entry ∷ later) ≡ Some r → is_wait entry.call.what ≡ true
+        → ends_otherwise (is_wait_end (leaves_in entry.call.client front) (cancels_in entry.call.client entry.call.number later)) entry.call.client entry.call.number r.volume ≡ false }
 {}

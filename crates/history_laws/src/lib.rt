@@ -1,14 +1,15 @@
 //! What is proved of histories and their texts: in which order a script's calls are made, that they all are, and
-//! that a text tells its history. It has no product code: the laws are said by functions that do nothing.
+//! that a text tells its history, and how a wait ends. It has no product code: the laws are said by functions that do nothing.
 #![tactic(auto)]
 
 mod law;
 mod order;
 
 pub use law::{
-    calls_made_side_by_side_differ, scripts_are_read, starved_calls_end_without_memory, text_without_no_memory_is_plain,
-    tries_end_for_no_want_of_memory, two_histories_with_one_text_are_one,
-    two_whole_histories_with_one_text_are_one,
+    calls_made_side_by_side_differ, scripts_are_read, starved_calls_end_without_memory,
+    text_without_no_memory_is_plain, tries_end_for_no_want_of_memory,
+    two_histories_with_one_text_are_one, two_whole_histories_with_one_text_are_one,
+    waits_end_in_few_ways,
 };
 pub use order::{
     calls_are_made_in_order, each_schedule_goes_on_to_its_end,

@@ -1,0 +1,57 @@
+-- How a wait for a call ends.
+use Rattle.std.specs.Prelude.{◌==◌, ◌&&◌, ◌||◌, not, ℕ, Bool, true, false, List}
+use Rattle.std.specs.List.{list_any}
+use Rattle.fsa_types.specs.declared.reply.Body.{Body}
+use Rattle.fsa_types.specs.declared.reply.Body.TheVariants.{Nothing}
+use Rattle.fsa_types.specs.declared.reply.Reply.{Reply}
+use Rattle.fsa_types.specs.declared.request.Call.{Call}
+use Rattle.fsa_types.specs.declared.request.Request.TheVariants.{Cancel}
+use Rattle.fsa_types.specs.declared.request.What.{What}
+use Rattle.fsa_types.specs.declared.request.What.TheVariants.{Ask}
+use Rattle.fsa_types.specs.declared.status.Status.{Status}
+use Rattle.fsa_types.specs.declared.status.Status.TheVariants.{Success, Stalled, InvalidParameter, InvalidHandle, Cancelled}
+use Rattle.fsa_model.specs.Frame.{is_leave}
+use Rattle.fsa_model.specs.History.{HistoryEntry}
+use Rattle.fsa_model.specs.Once.{is_end}
+use Rattle.fsa_model.specs.Volume.{Volume}
+
+-- a cancellation of the call of this number
+abbrev pub is_cancel_of : ℕ → What → Bool
+is_cancel_of number (Ask (Cancel other)) = other == number
+is_cancel_of number _ = false
+
+-- the client leaves; it cancels its call of this number, or leaves
+abbrev pub leaves : ℕ → Call → Bool
+leaves client call = call.client == client && is_leave call.what
+
+abbrev pub cancels : ℕ → ℕ → Call → Bool
+cancels client number call = call.client == client && (is_leave call.what || is_cancel_of number call.what)
+
+-- it does so in one of these turns
+abbrev pub leaves_in : ℕ → List HistoryEntry → Bool
+leaves_in client entries = list_any (λ entry. leaves client entry.call) entries
+
+abbrev pub cancels_in : ℕ → ℕ → List HistoryEntry → Bool
+cancels_in client number entries = list_any (λ entry. cancels client number entry.call) entries
+
+-- SUCCESS, as the call for which it waited has ended; STALLED, as all clients waited; INVALID_PARAMETER, as there is no
+-- such call; INVALID_HANDLE only where the client has left, and CANCELLED only where it has cancelled the wait or left
+abbrev pub wait_may_end : Bool → Bool → Status → Bool
+wait_may_end left cancelled Success = true
+wait_may_end left cancelled Stalled = true
+wait_may_end left cancelled InvalidParameter = true
+wait_may_end left cancelled InvalidHandle = left
+wait_may_end left cancelled Cancelled = cancelled
+wait_may_end left cancelled _ = false
+
+abbrev pub is_nothing : Body → Bool
+is_nothing Nothing = true
+is_nothing _ = false
+
+-- such a status, and no body
+abbrev pub is_wait_end : Bool → Bool → Reply → Bool
+is_wait_end left cancelled reply = wait_may_end left cancelled reply.status && is_nothing reply.body
+
+-- some end of the client's call of this number is another
+abbrev pub ends_otherwise : (Reply → Bool) → ℕ → ℕ → Volume → Bool
+ends_otherwise fine client number v = list_any (λ end. is_end client number end && not (fine end.reply)) v.ended
