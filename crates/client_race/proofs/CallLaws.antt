@@ -11,7 +11,8 @@ use Rattle.fsa_model.proofs.ScheduleLaws.{calls_of-push}
 use Rattle.fsa_model.proofs.ScriptLaws.{length-filter_calls}
 use Rattle.history_laws.specs.Races.{own_calls}
 use Rattle.history_lock.proofs.Places.{each_given, given_below}
-use Rattle.client_run.specs.Calls.{CanAsk, IsLined}
+use Rattle.history_laws.specs.CallAnswers.{CanAsk}
+use Rattle.client_run.specs.Calls.{IsLined}
 use Rattle.client_race.specs.Races.{CanRace}
 
 pub calls_of-few : (client : ℕ) (calls : List Call) → calls_of client calls ≤ length calls

@@ -1,6 +1,6 @@
 -- What a pass's calls make of what it knows, as a desk's.
-use Rattle.std.proofs.Common.{◌≡◌, ℕ, ◌+◌, ◌<◌, ◌≤◌, Bool, true, false, cond, List, [], ◌∷◌, ◌++◌, length, refl, ap, sym, ◌∙◌, arith, append-nil, length-append}
-use Rattle.std.specs.Prelude.{◌&&◌, nat_le, nat_lt}
+use Rattle.std.proofs.Common.{◌≡◌, ℕ, ◌+◌, ◌<◌, ◌≤◌, List, [], ◌∷◌, ◌++◌, length, refl, ap, sym, ◌∙◌, arith, append-nil, length-append}
+use Rattle.std.specs.Prelude.{◌&&◌}
 use Rattle.std.specs.List.{list_any}
 use Rattle.std.proofs.lemmas.Bool.{eqb-true}
 use Rattle.fsa_types.specs.declared.reply.Answer.{Answer}
@@ -17,17 +17,16 @@ use Rattle.fsa_types.specs.declared.request.What.{What}
 use Rattle.fsa_model.specs.History.{HistoryEntry}
 use Rattle.fsa_model.specs.Once.{is_end}
 use Rattle.fsa_model.specs.Setup.{Setup}
-use Rattle.fsa_machine.specs.Stands.{calls_in as all_calls_in, ended_with_list, holds_list as copies_list}
-use Rattle.fsa_model.specs.Schedule.{calls_of}
+use Rattle.fsa_machine.specs.Stands.{ended_with_list, holds_list as copies_list}
 use Rattle.history_lock.specs.Passes.{Refreshed}
 use Rattle.history_lock.specs.Turns.{beaten}
 use Rattle.shared_volume.specs.Histories.{IsHistory as IsNumberedHistory, MayRefuse}
-use Rattle.shared_volume.specs.Answers as volume
-use Rattle.shared_volume.specs.Shared.{Known, Submits, EndedWithList as EndedWithListThere, HasEnded as HasEndedThere, Pends as PendsThere}
-use Rattle.client_run.specs.Answers.{IfBusy, IfDid, IfDone, IfRefused, OnBusy, OnNoMemory, OnPending}
+use Rattle.shared_volume.specs.Shared.{Known, Submits, EndedWithList as EndedWithListThere}
+use Rattle.shared_volume.proofs.HistoryLaws.{numbered-differ}
+use Rattle.history_laws.specs.CallAnswers.{HasEnded, IfBusy, IfDid, IfDone, IfRefused, OnBusy, OnNoMemory, OnPending, Pends}
 use Rattle.client_run.specs.Calls.{calls_in}
 use Rattle.client_run.specs.Desks.{Asks, OnlySees, SeesHistory}
-use Rattle.client_run.specs.Shown.{EndedWithList, HasEnded, IsHistory, Pends, holds_list}
+use Rattle.client_run.specs.Shown.{EndedWithList, IsHistory, holds_list}
 use Rattle.client_race.specs.Passes.{shown}
 
 pub asks : (setup : Setup) (what : What) (number : ℕ) (answer : Answer) (v w : Known) → Submits setup what number answer v w → Asks what number answer (shown setup v) (shown setup w)
@@ -88,11 +87,7 @@ full_at seen NoMemory may is = cc
 
 -- calls that are numbered differ
 pub differ : (setup : Setup) (entries : List HistoryEntry) → IsNumberedHistory setup entries → IsHistory setup entries
-differ setup entries history = record { runs = history.runs; differ = λ client number. one (nat_lt 0 number && nat_le number (calls_of client (all_calls_in entries))) (history.numbered client number) }
-  where
-    one : {n : ℕ} (b : Bool) → n ≡ cond b 1 0 → n ≤ 1
-    one true is = omega arith
-    one false is = omega arith
+differ setup entries history = record { runs = history.runs; differ = numbered-differ entries history.numbered }
 
 pub sees_history : (setup : Setup) (v : Known) → IsNumberedHistory setup v.own.seen → v.own.mine ≡ calls_in v.own.client v.own.seen → SeesHistory (shown setup v)
 sees_history setup v history own = record { history = differ setup v.own.seen history; own = own }
@@ -112,19 +107,19 @@ ended_with setup seen client number ended r runs = any_same client number r.volu
 
 -- ---- answer by answer
 
-pub did_asks : (setup : Setup) (what : What) (v w : Known) (result : Submitted) → volume.IfDid result (λ number answer. Submits setup what number answer v w)
+pub did_asks : (setup : Setup) (what : What) (v w : Known) (result : Submitted) → IfDid result (λ number answer. Submits setup what number answer v w)
     → IfDid result (λ number answer. Asks what number answer (shown setup v) (shown setup w))
 did_asks setup what v w (Did number answer) did = asks setup what number answer v w did
 did_asks setup what v w (Busy back) did = tt
 did_asks setup what v w (Refused back why) did = tt
 
-pub busy_sees : (setup : Setup) (what : What) (clients : ℕ) (v w : Known) (result : Submitted) → volume.IfBusy result (λ back. (back ≡ what) × (w ≡ beaten v) × (1 < clients))
+pub busy_sees : (setup : Setup) (what : What) (clients : ℕ) (v w : Known) (result : Submitted) → IfBusy result (λ back. (back ≡ what) × (w ≡ beaten v) × (1 < clients))
     → IfBusy result (λ back. (back ≡ what) × OnlySees (shown setup v) (shown setup w) × (v.lost + 1 ≤ w.lost))
 busy_sees setup what clients v w (Did number answer) busy = tt
 busy_sees setup what clients v w (Busy back) busy = (busy.0, sees_beaten setup v w busy.1, lost_rose v w busy.1)
 busy_sees setup what clients v w (Refused back why) busy = tt
 
-pub refused_sees : (setup : Setup) (what : What) (v w : Known) (result : Submitted) → volume.IfRefused result (λ back why. (back ≡ what) × Refreshed v w × MayRefuse w.own.seen why)
+pub refused_sees : (setup : Setup) (what : What) (v w : Known) (result : Submitted) → IfRefused result (λ back why. (back ≡ what) × Refreshed v w × MayRefuse w.own.seen why)
     → IfRefused result (λ back why. (back ≡ what) × OnlySees (shown setup v) (shown setup w) × (why ≡ HistoryFull → length w.own.seen ≡ 1000000))
 refused_sees setup what v w (Did number answer) refused = tt
 refused_sees setup what v w (Busy back) refused = tt
@@ -132,10 +127,10 @@ refused_sees setup what v w (Refused back why) refused = (refused.0, sees_refres
 
 -- what a poll answers
 pub record Polled (setup : Setup) (clients number : ℕ) (v w : Known) (result : Poll) : Type 0 where
-  pub done : volume.IfDone result (λ reply. Refreshed v w × HasEndedThere setup w.own.seen w.own.client number reply)
-  pub pending : volume.OnPending result (Refreshed v w × PendsThere setup w.own.seen w.own.client number)
-  pub busy : volume.OnBusy result ((w ≡ beaten v) × (1 < clients))
-  pub no_memory : volume.OnNoMemory result (Refreshed v w × EndedWithListThere setup w.own.seen w.own.client number)
+  pub done : IfDone result (λ reply. Refreshed v w × HasEnded setup w.own.seen w.own.client number reply)
+  pub pending : OnPending result (Refreshed v w × Pends setup w.own.seen w.own.client number)
+  pub busy : OnBusy result ((w ≡ beaten v) × (1 < clients))
+  pub no_memory : OnNoMemory result (Refreshed v w × EndedWithListThere setup w.own.seen w.own.client number)
 
 pub polled_sees : (setup : Setup) (clients number : ℕ) (v w : Known) (result : Poll) → Polled setup clients number v w result → OnlySees (shown setup v) (shown setup w)
 polled_sees setup clients number v w (Done reply) p = sees_refreshed setup v w p.done.0

@@ -13,10 +13,11 @@ use Rattle.fsa_model.specs.Waiting.{is_wait, waits}
 use Rattle.fsa_model.proofs.SettleLaws.{some_equal}
 use Rattle.history_lock.proofs.Places.{calls_by-own, given_below, given_longer}
 use Rattle.client_run.specs.declared.run.ClientRun.{ClientRun}
-use Rattle.client_run.specs.Calls.{CanAsk, HasLeft, IsLined, calls_in}
+use Rattle.history_laws.specs.CallAnswers.{CanAsk, HasEnded}
+use Rattle.client_run.specs.Calls.{HasLeft, IsLined, calls_in}
 use Rattle.client_run.specs.Desks.{Asks, DeskView, OnlySees, SeesHistory}
 use Rattle.client_run.specs.Serving.{Makes, Serves, holding, planned, todo_in}
-use Rattle.client_run.specs.Shown.{HasEnded, IsOrderly, WaitsOnlyBy}
+use Rattle.client_run.specs.Shown.{IsOrderly, WaitsOnlyBy}
 use Rattle.client_run.proofs.Ordering.{at_front, last_same, none_added, orderly_did, orderly_more, orderly_none}
 use Rattle.client_run.proofs.RunLaws.{differ-front, run-front, run-last}
 use Rattle.client_run.proofs.WaitLaws.{only_later, only_over, only_own}

@@ -1,21 +1,14 @@
 -- The calls of one client: in a history, and those that it is to make.
-use Rattle.std.specs.Prelude.{◌≡◌, ◌↔◌, ℕ, ◌+◌, ◌≤◌, List, length, slice_get, Some, IsTrue}
-use Rattle.fsa_types.specs.Request.{what_fits}
+use Rattle.std.specs.Prelude.{◌≡◌, ◌↔◌, ℕ, ◌+◌, ◌≤◌, List, length, slice_get, Some}
 use Rattle.fsa_types.specs.declared.request.Call.{Call}
-use Rattle.fsa_types.specs.declared.request.What.{What}
 use Rattle.fsa_types.specs.declared.request.What.TheVariants.{Leave}
 use Rattle.fsa_model.specs.History.{HistoryEntry}
-use Rattle.fsa_model.specs.LineCalls.{ticks_fit}
+use Rattle.history_laws.specs.CallAnswers.{CanAsk}
 use Rattle.history_lock.specs.History.{calls_by}
 
 -- the client's calls in a history, in order
 abbrev pub calls_in : ℕ → List HistoryEntry → List Call
 calls_in client history = calls_by (λ entry. entry.call) (λ call. call.client) client history
-
--- a line can ask this
-pub record CanAsk (what : What) : Type 0 where
-  pub fits : IsTrue (what_fits what)
-  pub ticks : IsTrue (ticks_fit what)
 
 -- these are calls that the client can make, numbered from 1, of which just the last one leaves
 pub record IsLined (client : ℕ) (calls : List Call) : Type 0 where

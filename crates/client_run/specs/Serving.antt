@@ -4,12 +4,13 @@ use Rattle.fsa_types.specs.declared.reply.Reply.{Reply}
 use Rattle.fsa_types.specs.declared.reply.Why.TheVariants.{HistoryFull}
 use Rattle.fsa_types.specs.declared.request.Call.{Call}
 use Rattle.fsa_model.specs.History.{Run, run}
+use Rattle.history_laws.specs.CallAnswers.{HasEnded, Pends}
 use Rattle.client_run.specs.declared.run.ClientRun.{ClientRun}
 use Rattle.client_run.specs.declared.run.Step.{Step}
 use Rattle.client_run.specs.declared.run.Step.TheVariants.{Moved, Waiting, Busy, Ended, Refused}
 use Rattle.client_run.specs.Calls.{IsLined}
 use Rattle.client_run.specs.Desks.{DeskView, SeesHistory}
-use Rattle.client_run.specs.Shown.{HasEnded, IsOrderly, Pends, WaitsOnlyBy}
+use Rattle.client_run.specs.Shown.{IsOrderly, WaitsOnlyBy}
 
 -- ---- a run
 

@@ -1,11 +1,10 @@
--- What the run of a history shows: which lists are histories, what a turn was answered, how a call stands, and
+-- What the run of a history shows: which lists are histories, what a turn was answered, which replies hold lists, and
 -- when a client makes its calls.
-use Rattle.std.specs.Prelude.{◌≡◌, ℕ, ◌==◌, ◌&&◌, not, Bool, true, false, List, [], ◌∷◌, ◌++◌, Option, Some, None, IsSome, find, option_map}
+use Rattle.std.specs.Prelude.{◌≡◌, ℕ, ◌==◌, ◌&&◌, not, Bool, true, false, List, [], ◌∷◌, ◌++◌, Option, Some, None, IsSome}
 use Rattle.std.specs.List.{list_any}
 use Rattle.fsa_types.specs.declared.reply.Answer.{Answer}
 use Rattle.fsa_types.specs.declared.reply.Body.{Body}
 use Rattle.fsa_types.specs.declared.reply.Body.TheVariants.{Got, Packed, Stopped}
-use Rattle.fsa_types.specs.declared.reply.Reply.{Reply}
 use Rattle.fsa_model.specs.Engine.{CallsDiffer}
 use Rattle.fsa_model.specs.History.{HistoryEntry, Run, run}
 use Rattle.fsa_model.specs.Lookups.{has_row}
@@ -13,7 +12,7 @@ use Rattle.fsa_model.specs.Once.{is_end}
 use Rattle.fsa_model.specs.Outcome.{TurnOut}
 use Rattle.fsa_model.specs.Setup.{Setup}
 use Rattle.fsa_model.specs.Volume.{Volume}
-use Rattle.fsa_model.specs.Waiting.{is_pending, is_wait, waits}
+use Rattle.fsa_model.specs.Waiting.{is_wait, waits}
 
 -- the turns of these entries can be made, and no call is there twice
 pub record IsHistory (setup : Setup) (entries : List HistoryEntry) : Type 0 where
@@ -29,15 +28,6 @@ pub record Answers (setup : Setup) (seen : List HistoryEntry) (answer : Answer) 
   pub last : state.outs ≡ before ++ out ∷ []
   pub is : out.answer ≡ answer
 
--- the client's call of this number has ended so in this history
-abbrev pub HasEnded : Setup → List HistoryEntry → ℕ → ℕ → Reply → Type 0
-HasEnded setup seen client number reply =
-    (r : Run) → run setup seen ≡ Some r → option_map (λ end. end.reply) (find (is_end client number) r.volume.ended) ≡ Some reply
-
--- it is pending there
-abbrev pub Pends : Setup → List HistoryEntry → ℕ → ℕ → Type 0
-Pends setup seen client number = (r : Run) → run setup seen ≡ Some r → is_pending r.volume client number ≡ true
-
 -- a copy of the body takes memory
 abbrev pub holds_list : Body → Bool
 holds_list (Got bytes) = true
@@ -45,7 +35,7 @@ holds_list (Packed kind bytes) = true
 holds_list (Stopped tag bytes rest) = true
 holds_list _ = false
 
--- it has ended there with such a body
+-- the client's call of this number has ended in this history with such a body
 abbrev pub EndedWithList : Setup → List HistoryEntry → ℕ → ℕ → Type 0
 EndedWithList setup seen client number =
     (r : Run) → run setup seen ≡ Some r → list_any (λ end. is_end client number end && holds_list end.reply.body) r.volume.ended ≡ true

@@ -2,6 +2,7 @@
 -- which no other such history has.
 use Rattle.std.specs.Prelude.{◌≡◌, ℕ, false, List, [], ◌∷◌, ◌++◌, Option, Some, None, Ok, Err, codes, decimal}
 use Rattle.fsa_model.specs.Coherence.{CachingIsCoherent}
+use Rattle.fsa_model.specs.Engine.{CallsDiffer}
 use Rattle.fsa_model.specs.Fault.{Fault}
 use Rattle.fsa_model.specs.Setup.{Script}
 use Rattle.fsa_model.specs.History.{HistoryEntry}
@@ -9,9 +10,9 @@ use Rattle.fsa_model.specs.Schedule.{HasAllCalls, Scheduled, plain}
 use Rattle.fsa_model.specs.Script.{script_of}
 use Rattle.fsa_model.specs.Text.{shows_no_memory, text}
 use Rattle.fsa_model.specs.Watched.{WatchesReport}
-use Rattle.history_laws.specs.Races.{Whole}
+use Rattle.history_laws.specs.Races.{Begun, Whole}
 use Rattle.wire_io.specs.Source.{ReadsWhole}
-use Rattle.wire_io.specs.Sink.{Written, Appends, AppendsPart}
+use Rattle.wire_io.specs.Sink.{Written, Appends, AppendsFront, AppendsPart}
 use Rattle.fsa_top.specs.declared.limits.Limit.{Limit}
 use Rattle.fsa_top.specs.Limits.{PassesLimit, limit_of}
 use Rattle.fsa_top.specs.Words.{Says, limit_line}
@@ -41,11 +42,12 @@ WritesPart script written written_now =
 abbrev pub WritesText : Script → Written → Written → Type 0
 WritesText script written written_now = (history : List HistoryEntry) × IsHistory script history × Appends written written_now (text script history)
 
--- a history of the script whose clients ran side by side: it is whole for the script, no other that is has its
--- text, caching by oplocks is coherent over it, and each watch reports exactly the matching changes since its
--- last report
+-- a history of the script whose clients ran side by side: it is whole for the script, so that it makes no call twice,
+-- no other that is has its text, caching by oplocks is coherent over it, and each watch reports exactly the matching
+-- changes since its last report
 pub record IsRaced (script : Script) (history : List HistoryEntry) : Type 0 where
   pub whole : Whole script history
+  pub makes_no_call_twice : CallsDiffer history
   pub only : (other : List HistoryEntry) → Whole script other → text script other ≡ text script history → other ≡ history
   pub caching_is_coherent : CachingIsCoherent script.setup history
   pub watches_report_exactly : WatchesReport script.setup history
@@ -57,6 +59,11 @@ WritesWhole script written written_now = (history : List HistoryEntry) × IsRace
 -- a part of the text of a history that is whole for the script was written
 abbrev pub WritesWholePart : Script → Written → Written → Type 0
 WritesWholePart script written written_now = (history : List HistoryEntry) × Whole script history × AppendsPart written written_now (text script history)
+
+-- a beginning of the text of a history was written, or nothing, or all of it, in which each client has made the first of
+-- its calls
+abbrev pub WritesBegun : Script → Written → Written → Type 0
+WritesBegun script written written_now = (history : List HistoryEntry) × Begun script history × AppendsFront written written_now (text script history)
 
 -- the bytes are no script, and the line that names the least faulty line was written, or a part of it where the sink failed
 abbrev pub NamesFault : List ℕ → Written → Written → ℕ → ℕ → Type 0

@@ -7,7 +7,7 @@ ghost use Rattle.wire_io.specs.Faults.{FailsLast, StopsAtFault};
 ghost use Rattle.wire_io.specs.Source.{HasReadAtMost, TakesLittle};
 ghost use Rattle.fsa_top.specs.Limits.{limit_of, most_bytes};
 ghost use Rattle.fsa_top.specs.Promised.{Promised, PromisedSummary};
-ghost use Rattle.fsa_top.specs.Runs.{FoundBad, FoundLimit, IsOfBytes, NamesFault, NamesLimit, Ran, ReadsScript, WritesPart, WritesText, WritesWhole, WritesWholePart};
+ghost use Rattle.fsa_top.specs.Runs.{FoundBad, FoundLimit, IsOfBytes, NamesFault, NamesLimit, Ran, ReadsScript, WritesBegun, WritesPart, WritesText, WritesWhole, WritesWholePart};
 ghost use Rattle.fsa_top.specs.Words.{is_race, is_run, seed_of};
 
 use crate::generated_run::run_generated;
@@ -245,7 +245,8 @@ pub fn fsa_single<S: Source, K: Sink>(
 /// once, at one volume that they share; where no thread can be made, the calling thread drives that client's steps, in
 /// rotation with others of the kind. After all have ended, the text of the volume's history is written. The statuses
 /// are those of `run`, in the same order, but for the history: at 0 its text is written whole, at 4 and 5 a part of
-/// it, or at 5 nothing. Where a call finds no memory, all clients stop and the status is 5. It may wait forever.
+/// it, or at 5 nothing. Where a call finds no memory, all clients stop and the status is 5: what is written then, be
+/// it nothing, begins the text of a history in which each client has made the first of its calls. It may wait forever.
 ///
 /// The gate is passed once before each call's first try. It has to be one for every call where the word is `race`.
 pub fn fsa_main<R: Threads + Wait + Sync, S: Source, K: Sink, G: Gate + Sync>(
@@ -259,6 +260,7 @@ pub fn fsa_main<R: Threads + Wait + Sync, S: Source, K: Sink, G: Gate + Sync>(
     requires gate { is_race words.now ≡ true → (client number : ℕ) → G.is_for gate.now client number }
     ensures promised { seed_of words.now ≡ None → is_race words.now ≡ false → Promised (record { left = S.left; faults = S.faults; takes = S.takes; taken = S.taken }) (record { written = K.written; faults = K.faults }) (is_run words.now) WritesText WritesPart source.old source.new sink.old sink.new result }
     ensures races { is_race words.now ≡ true → Promised (record { left = S.left; faults = S.faults; takes = S.takes; taken = S.taken }) (record { written = K.written; faults = K.faults }) true WritesWhole WritesWholePart source.old source.new sink.old sink.new result }
+    ensures leaves_what_was_begun { is_race words.now ≡ true → result ≡ 5 → (sink.new ≡ sink.old) ⊎ Ran WritesBegun (S.left source.old) (S.left source.new) (K.written sink.old) (K.written sink.new) }
     ensures generates { (seed : ℕ) → seed_of words.now ≡ Some seed → PromisedSummary (record { written = K.written; faults = K.faults }) seed source.old source.new sink.old sink.new result }
 {
     if is_race(words) {

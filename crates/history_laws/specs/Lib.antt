@@ -1,3 +1,4 @@
+pub mod CallAnswers
 pub mod Cursors
 pub mod Named
 pub mod Races

@@ -1,5 +1,5 @@
 -- Histories that grow by a turn.
-use Rattle.std.proofs.Common.{◌≡◌, ◌≢◌, ℕ, ◌+◌, ◌<◌, ◌≤◌, true, false, List, [], ◌∷◌, ◌++◌, length, refl, ap, sym, subst, ◌∙◌, arith, length-append, cond, inl, inr, le-leb, leb-true, lt-ltb, eqb-true, eq-eqb}
+use Rattle.std.proofs.Common.{◌≡◌, ◌≢◌, ℕ, ◌+◌, ◌<◌, ◌≤◌, Bool, true, false, List, [], ◌∷◌, ◌++◌, length, refl, ap, sym, subst, ◌∙◌, arith, length-append, cond, inl, inr, le-leb, leb-true, lt-ltb, eqb-true, eq-eqb}
 use Rattle.std.specs.Prelude.{◌==◌, ◌&&◌, ◌||◌, nat_le, nat_lt, IsSome, Option, Result, Ok, Err, IfOk, IfErr}
 use Rattle.std.specs.List.{list_any}
 use Rattle.std.proofs.lemmas.Bool.{cases_Bool}
@@ -8,7 +8,7 @@ use Rattle.std.proofs.lemmas.List.{map-append}
 use Rattle.fsa_types.specs.declared.reply.Out.{Out}
 use Rattle.fsa_types.specs.declared.reply.Why.{Why}
 use Rattle.fsa_types.specs.declared.request.Call.{Call}
-use Rattle.fsa_model.specs.Engine.{is_entry_of}
+use Rattle.fsa_model.specs.Engine.{CallsDiffer, is_entry_of}
 use Rattle.fsa_model.specs.History.{HistoryEntry, Run}
 use Rattle.fsa_model.specs.Once.{how_many}
 use Rattle.fsa_model.specs.Outcome.{TurnOut, out_of}
@@ -39,6 +39,14 @@ made-call entries client number numbered some few = elim (cases_Bool (list_any (
       let count : how_many (is_entry_of client number) entries ≡ 1 = numbered client number ∙ rw (above, within) refl in
       omega arith)
 ]
+
+-- no call is made twice where the calls are numbered
+pub numbered-differ : (entries : List HistoryEntry) → CallsNumbered entries → CallsDiffer entries
+numbered-differ entries numbered client number = go (nat_lt 0 number && nat_le number (calls_of client (calls_in entries))) (numbered client number)
+  where
+    go : (b : Bool) → how_many (is_entry_of client number) entries ≡ cond b 1 0 → how_many (is_entry_of client number) entries ≤ 1
+    go true is = omega arith
+    go false is = omega arith
 
 -- ---- one more call of a client
 

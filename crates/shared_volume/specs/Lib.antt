@@ -1,4 +1,3 @@
-pub mod Answers
 pub mod Engines
 pub mod Histories
 pub mod Later

@@ -1,6 +1,6 @@
 -- What clauses read of a volume and of a pass, and what the calls make of what a pass knows.
-use Rattle.std.specs.Prelude.{◌≡◌, ℕ, ◌+◌, ◌<◌, ◌≤◌, true, List, [], ◌∷◌, ◌++◌, length, Option, Some, IsTrue}
-use Rattle.fsa_types.specs.Request.{what_fits}
+use Rattle.std.specs.Prelude.{◌≡◌, ℕ, ◌+◌, ◌<◌, ◌≤◌, Bool, true, false, List, [], ◌∷◌, ◌++◌, length, Option, Some}
+use Rattle.std.specs.List.{list_any}
 use Rattle.fsa_types.specs.declared.reply.Answer.{Answer}
 use Rattle.fsa_types.specs.declared.reply.Out.{Out}
 use Rattle.fsa_types.specs.declared.reply.Reply.{Reply}
@@ -10,12 +10,13 @@ use Rattle.fsa_types.specs.declared.request.CallId.{CallId}
 use Rattle.fsa_types.specs.declared.request.What.{What}
 use Rattle.fsa_types.specs.declared.request.What.TheVariants.{WaitFor}
 use Rattle.fsa_types.specs.declared.status.Status.{Status}
+use Rattle.fsa_model.specs.Frame.{is_leave}
 use Rattle.fsa_model.specs.History.{HistoryEntry, Run, run}
-use Rattle.fsa_model.specs.LineCalls.{ticks_fit}
 use Rattle.fsa_model.specs.Outcome.{TurnOut}
 use Rattle.fsa_model.specs.Setup.{Setup}
-use Rattle.fsa_model.specs.Waiting.{is_pending}
-use Rattle.fsa_machine.specs.Stands.{GaveOut, ended_with_list, reply_in}
+use Rattle.history_laws.specs.CallAnswers.{HasEnded}
+use Rattle.history_laws.specs.WaitEnds.{wait_may_end}
+use Rattle.fsa_machine.specs.Stands.{GaveOut, ended_with_list}
 use Rattle.history_lock.specs.declared.machine.Machine.{Ghosts}
 use Rattle.history_lock.specs.declared.pass.Pass.{Pass}
 use Rattle.history_lock.specs.declared.view.View.{View}
@@ -45,11 +46,6 @@ call_of entry = entry.call
 abbrev pub client_of : Call → ℕ
 client_of call = call.client
 
--- a line can ask this
-pub record CanSubmit (what : What) : Type 0 where
-  pub fits : IsTrue (what_fits what)
-  pub ticks : IsTrue (ticks_fit what)
-
 -- the turn that the last entry stands for answered its own call so
 pub record Answers (setup : Setup) (seen : List HistoryEntry) (answer : Answer) : Type 0 where
   pub out : TurnOut
@@ -62,15 +58,7 @@ pub record Submits (setup : Setup) (what : What) (number : ℕ) (answer : Answer
   pub count : number ≡ length w.own.mine
   pub answers : Answers setup w.own.seen answer
 
--- the client's call of this number has ended so in this history
-abbrev pub HasEnded : Setup → List HistoryEntry → ℕ → ℕ → Reply → Type 0
-HasEnded setup seen client number reply = (r : Run) → run setup seen ≡ Some r → reply_in r.volume.ended client number ≡ Some reply
-
--- it is pending there
-abbrev pub Pends : Setup → List HistoryEntry → ℕ → ℕ → Type 0
-Pends setup seen client number = (r : Run) → run setup seen ≡ Some r → is_pending r.volume client number ≡ true
-
--- it has ended there with a body that holds a list
+-- the client's call of this number has ended in this history with a body that holds a list
 abbrev pub EndedWithList : Setup → List HistoryEntry → ℕ → ℕ → Type 0
 EndedWithList setup seen client number = (r : Run) → run setup seen ≡ Some r → ended_with_list r.volume.ended client number ≡ true
 
@@ -80,6 +68,20 @@ pub record OnlySees (v w : Known) : Type 0 where
   pub loads : v.loads ≤ w.loads
   pub lost : v.lost ≤ w.lost
   pub view : w ≡ record v { own = record v.own { seen = w.own.seen }; loads = w.loads; lost = w.lost }
+
+-- the last call that the client made is a wait, and this is its number
+pub record EndsInWait (mine : List Call) (client number : ℕ) : Type 0 where
+  pub before : List Call
+  pub earlier : ℕ
+  pub is : mine ≡ before ++ record { client = client; number = number; what = WaitFor earlier } ∷ []
+
+-- the client's leaving is among its calls
+abbrev pub has_leaving : List Call → Bool
+has_leaving mine = list_any (λ call. is_leave call.what) mine
+
+-- SUCCESS, STALLED or INVALID_PARAMETER; or INVALID_HANDLE, where the client has left
+abbrev pub IsStatusOfWait : List Call → Status → Type 0
+IsStatusOfWait mine status = wait_may_end (has_leaving mine) false status ≡ true
 
 -- the client made one call more, a wait for its call of this number, which has ended in what is seen now with this status
 pub record WaitsFor (setup : Setup) (number : ℕ) (status : Status) (v w : Known) : Type 0 where
@@ -92,3 +94,5 @@ pub record WaitsFor (setup : Setup) (number : ℕ) (status : Status) (v w : Know
   pub reply : Reply
   pub ended : HasEnded setup w.own.seen v.own.client (length v.own.mine + 1) reply
   pub so : reply.status ≡ status
+  -- SUCCESS, STALLED or INVALID_PARAMETER, where the client hasn't left
+  pub few : IsStatusOfWait v.own.mine status

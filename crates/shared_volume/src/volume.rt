@@ -7,9 +7,9 @@ ghost use Rattle.fsa_model.specs.Watched.{WatchesReport};
 ghost use Rattle.history_lock.specs.Lock.{known};
 ghost use Rattle.history_lock.specs.Passes.{Refreshed, Waited};
 ghost use Rattle.history_lock.specs.Turns.{Sees, beaten};
-ghost use Rattle.shared_volume.specs.Answers.{IfBusy, IfDid, IfDone, IfRefused, OnBusy, OnNoMemory, OnPending};
+ghost use Rattle.history_laws.specs.CallAnswers.{CanAsk, HasEnded, IfBusy, IfDid, IfDone, IfRefused, OnBusy, OnNoMemory, OnPending, Pends};
 ghost use Rattle.shared_volume.specs.Histories.{IsHistory, MayRefuse};
-ghost use Rattle.shared_volume.specs.Shared.{CanSubmit, EndedWithList, HasEnded, IsPass, OnlySees, Pends, Submits, WaitsFor, call_of, client_of, setup_at};
+ghost use Rattle.shared_volume.specs.Shared.{EndedWithList, EndsInWait, IsPass, IsStatusOfWait, OnlySees, Submits, WaitsFor, call_of, client_of, setup_at};
 
 use crate::engine::Engine;
 use crate::shared::SharedVolume;
@@ -72,7 +72,7 @@ impl SharedVolume {
     /// `NoMemory` is free. Both add nothing, and hand back what was asked.
     pub fn try_submit(&self, alloc: Global, pass: &mut Pass, what: What) -> Submitted
         requires pass { IsPass self.now pass.old }
-        requires can { CanSubmit what }
+        requires can { CanAsk what }
         ensures pass { IsPass self.now pass.new }
         ensures did { IfDid result (λ number answer. Submits (setup_at self.now) what number answer (known pass.old) (known pass.new)) }
         ensures busy { IfBusy result (λ back. (back ≡ what) × (known pass.new ≡ beaten (known pass.old)) × (1 < length (setup_at self.now).clients)) }
@@ -101,7 +101,7 @@ impl SharedVolume {
         what: What,
     ) -> Result<(u32, Answer), (What, Why)>
         requires pass { IsPass self.now pass.old }
-        requires can { CanSubmit what }
+        requires can { CanAsk what }
         ensures pass { IsPass self.now pass.new }
         ensures did { IfOk result (λ r. Waited (known pass.old) (known pass.new) (Submits (setup_at self.now) what r.0 r.1)) }
         ensures refused { IfErr result (λ back. (back.0 ≡ what) × Waited (known pass.old) (known pass.new) (λ v w. Refreshed v w × MayRefuse w.own.seen back.1)) }
@@ -145,7 +145,9 @@ impl SharedVolume {
     }
 
     /// Makes a wait for the client's call of this number, and answers the status with which that wait has
-    /// ended. It sleeps as long as the history gets no longer, and may wait forever.
+    /// ended: SUCCESS as the call has ended, STALLED as all clients waited, or INVALID_PARAMETER as there is no
+    /// such call; or INVALID_HANDLE, where the client has left. It sleeps as long as the history gets no longer,
+    /// and may wait forever. Its looks take no memory.
     ///
     /// A refusal comes only from the wait's own turn, and has added nothing: `HistoryFull` exactly where
     /// there are 1,000,000 entries, and `NoMemory`.
@@ -167,12 +169,15 @@ impl SharedVolume {
         }
     }
 
-    // Waits until the pass's own call of this number has ended.
+    // Waits until the pass's own call of this number, its last, has ended, which is a wait. Its reply holds no
+    // list, so no look finds that there is no memory.
     fn status_of(&self, rt: &impl Wait, alloc: Global, pass: &mut Pass, number: u32) -> Status
         requires pass { IsPass self.now pass.old }
         requires made { (1 ≤ number) × (number ≤ length (known pass.old).own.mine) }
+        requires wait { EndsInWait (known pass.old).own.mine (known pass.old).own.client number }
         ensures pass { IsPass self.now pass.new }
         ensures sees { OnlySees (known pass.old) (known pass.new) }
+        ensures few { IsStatusOfWait (known pass.old).own.mine result }
         ensures ended { (reply : Reply) × HasEnded (setup_at self.now) (known pass.new).own.seen (known pass.new).own.client number reply × (reply.status ≡ result) }
     {
         for _ in rt.forever() {
@@ -183,7 +188,7 @@ impl SharedVolume {
                     self.lock.wait_for_more(rt, pass, entries);
                 }
                 Poll::Busy => self.lock.wait_for_turn(rt),
-                Poll::NoMemory => self.lock.wait_for_turn(rt),
+                Poll::NoMemory => unreachable!(),
             }
         }
         unreachable!()

@@ -14,6 +14,7 @@ returns-clause-ok g c =
       history,
       record {
         whole = whole;
+        makes_no_call_twice = c.in_ok-machine.ensures.differ;
         only = λ other also same. same_race (contents c.args.script.now) history other c.requires.is_read whole also same;
         caching_is_coherent = run-coherent _ history;
         watches_report_exactly = run-watches_report _ history;

@@ -1,5 +1,7 @@
--- What the answers of a desk say, case by case.
-use Rattle.std.specs.Prelude.{ℕ}
+-- What is said of the answers to one client's calls, case by case; what a line can ask; and how a call stands in a
+-- history.
+use Rattle.std.specs.Prelude.{◌≡◌, ℕ, true, List, Option, Some, IsTrue, find, option_map}
+use Rattle.fsa_types.specs.Request.{what_fits}
 use Rattle.fsa_types.specs.declared.reply.Answer.{Answer}
 use Rattle.fsa_types.specs.declared.reply.Poll.{Poll}
 use Rattle.fsa_types.specs.declared.reply.Poll.TheVariants.{Done, Pending, Busy as Unknown, NoMemory}
@@ -8,6 +10,29 @@ use Rattle.fsa_types.specs.declared.reply.Submitted.{Submitted}
 use Rattle.fsa_types.specs.declared.reply.Submitted.TheVariants.{Did, Busy, Refused}
 use Rattle.fsa_types.specs.declared.reply.Why.{Why}
 use Rattle.fsa_types.specs.declared.request.What.{What}
+use Rattle.fsa_model.specs.History.{HistoryEntry, Run, run}
+use Rattle.fsa_model.specs.LineCalls.{ticks_fit}
+use Rattle.fsa_model.specs.Once.{is_end}
+use Rattle.fsa_model.specs.Setup.{Setup}
+use Rattle.fsa_model.specs.Waiting.{is_pending}
+
+-- a line can ask this
+pub record CanAsk (what : What) : Type 0 where
+  pub fits : IsTrue (what_fits what)
+  pub ticks : IsTrue (ticks_fit what)
+
+-- ---- how a call stands
+
+-- the client's call of this number has ended so in this history
+abbrev pub HasEnded : Setup → List HistoryEntry → ℕ → ℕ → Reply → Type 0
+HasEnded setup seen client number reply =
+    (r : Run) → run setup seen ≡ Some r → option_map (λ end. end.reply) (find (is_end client number) r.volume.ended) ≡ Some reply
+
+-- it is pending there
+abbrev pub Pends : Setup → List HistoryEntry → ℕ → ℕ → Type 0
+Pends setup seen client number = (r : Run) → run setup seen ≡ Some r → is_pending r.volume client number ≡ true
+
+-- ---- answers
 
 abbrev pub IfDid : Submitted → (ℕ → Answer → Type 0) → Type 0
 IfDid (Did number answer) P = P number answer
