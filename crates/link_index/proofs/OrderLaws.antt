@@ -25,10 +25,10 @@ module _ (table : List (ℕ × ℕ)) where
   order : IsTotalOrder (cmp_name table)
   order = names_total table
 
-  less-back : (a b : List ℕ) → cmp_name table a b ≡ Less → cmp_name table b a ≡ Greater
+  pub less-back : (a b : List ℕ) → cmp_name table a b ≡ Less → cmp_name table b a ≡ Greater
   less-back a b less = (names_total table).antisymm b a ∙ ap ordering_reverse less
 
-  greater-back : (a b : List ℕ) → cmp_name table a b ≡ Greater → cmp_name table b a ≡ Less
+  pub greater-back : (a b : List ℕ) → cmp_name table a b ≡ Greater → cmp_name table b a ≡ Less
   greater-back a b greater = (names_total table).antisymm b a ∙ ap ordering_reverse greater
 
   not-named : (name : List ℕ) (e : List ℕ × ℕ) (o : Ordering) → is_eq o ≡ false → cmp_name table e.0 name ≡ o → is_named table name e ≡ false

@@ -19,6 +19,10 @@ is_before table one other = is_lt (cmp_name table one.0 other.0)
 abbrev pub AreInOrder : List (ℕ × ℕ) → List (List ℕ × ℕ) → Type 0
 AreInOrder table entries = AllPairs (λ one other. cmp_name table one.0 other.0 ≡ Less) entries
 
+-- names differ by the table
+abbrev pub NamesDiffer : List (ℕ × ℕ) → List (List ℕ × ℕ) → Type 0
+NamesDiffer table entries = AllPairs (λ one other. same_name table one.0 other.0 ≡ false) entries
+
 -- an entry has this name
 abbrev pub is_named : List (ℕ × ℕ) → List ℕ → List ℕ × ℕ → Bool
 is_named table name entry = same_name table entry.0 name

@@ -26,5 +26,7 @@
 #![tactic(auto)]
 
 mod directory;
+mod order;
 
 pub use directory::Directory;
+pub use order::order_of_entries;
