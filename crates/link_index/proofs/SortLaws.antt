@@ -1,5 +1,5 @@
 -- Entries put in order: in what order they come matters to nothing.
-use Rattle.std.proofs.Common.{◌≡◌, ℕ, zero, suc, ◌<◌, Bool, true, false, not, List, [], ◌∷◌, ◌++◌, length, get_or, refl, ap, sym, arith, inl, inr, Option, Some, None, ◌∙◌}
+use Rattle.std.proofs.Common.{◌≡◌, ℕ, suc, Bool, true, false, List, [], ◌∷◌, ◌++◌, get_or, refl, ap, sym, arith, inl, inr, ◌∙◌}
 use Rattle.std.specs.Prelude.{map, if◌then◌else◌, option_map}
 use Rattle.std.specs.List.{All, AllPairs, filter, find}
 use Rattle.std.specs.Ordering.{is_lt, is_eq, ordering_reverse}
@@ -10,7 +10,7 @@ use Rattle.std.proofs.lemmas.List.Elements.{All-cons, All-filter}
 use Rattle.std.proofs.lemmas.List.Kept.{AllPairs-cons}
 use Rattle.fsa_types.specs.CaseTable.{same_name, cmp_name}
 use Rattle.fsa_types.specs.Sorting.{put_in_order, in_order}
-use Rattle.link_index.specs.Directory.{AreInOrder, NamesDiffer, is_before, is_named, entry_of, link_of, with_entry}
+use Rattle.link_index.specs.Directory.{AreInOrder, NamesDiffer, is_before, is_named, link_of, with_entry}
 use Rattle.link_index.proofs.OrderLaws.{names_total, same-cmp, less-back, greater-back}
 
 abbrev Entries : Type 0
@@ -95,13 +95,13 @@ module _ (table : List (ℕ × ℕ)) where
       go (Second more back) = let a : is_before table x y ≡ false = ap is_lt more in let b : is_before table y x ≡ true = ap is_lt back in rw (a, b) refl
   put-both x y (z ∷ zs) differ = elim (cases_Bool (is_before table x z)) [
     | inl low ↦ elim (cases_Bool (is_before table y z)) [
-        | inl also ↦ both low also (apart table x.0 y.0 differ)
-        | inr high ↦ (let a : is_before table y x ≡ false = not_before y x z high low in simp (low, high, a) refl)
-      ]
+      | inl also ↦ both low also (apart table x.0 y.0 differ)
+      | inr high ↦ (let a : is_before table y x ≡ false = not_before y x z high low in simp (low, high, a) refl)
+    ]
     | inr high ↦ elim (cases_Bool (is_before table y z)) [
-        | inl low ↦ (let a : is_before table x y ≡ false = not_before x y z high low in simp (low, high, a) refl)
-        | inr also ↦ simp (high, also) (ap (λ rest. z ∷ rest) (put-both x y zs differ))
-      ]
+      | inl low ↦ (let a : is_before table x y ≡ false = not_before x y z high low in simp (low, high, a) refl)
+      | inr also ↦ simp (high, also) (ap (λ rest. z ∷ rest) (put-both x y zs differ))
+    ]
   ]
     where
       both : is_before table x z ≡ true → is_before table y z ≡ true → Apart table x.0 y.0
@@ -139,9 +139,9 @@ module _ (table : List (ℕ × ℕ)) where
           let here : is_before table x y ≡ false = ap is_lt is ∙ high in
           elim (cases_Bool (keep y)) [
             | inl stays ↦ elim (cases_Bool (keep x)) [
-                | inl also ↦ simp (here, stays, also) (ap (λ (zs : Entries). y ∷ zs) (rw also at rest))
-                | inr goes ↦ simp (here, stays, goes) (ap (λ (zs : Entries). y ∷ zs) (rw goes at rest))
-              ]
+              | inl also ↦ simp (here, stays, also) (ap (λ (zs : Entries). y ∷ zs) (rw also at rest))
+              | inr goes ↦ simp (here, stays, goes) (ap (λ (zs : Entries). y ∷ zs) (rw goes at rest))
+            ]
             | inr goes ↦ simp (here, goes) rest
           ]
 
@@ -173,17 +173,17 @@ module _ (table : List (ℕ × ℕ)) where
   find-put p x (y ∷ ys) alone = elim (cases_Bool (is_before table x y)) [
     | inl less ↦ rw less refl
     | inr more ↦ elim (cases_Bool (p x)) [
-        | inl passes ↦ (
-            let fails : p y ≡ false = alone passes 0 y (omega arith) in
-            let rest = find-put p x ys (λ _. λ k d within. alone passes (suc k) d (omega arith)) in
-            rw (more, fails, passes) (rest ∙ rw passes refl))
-        | inr fails ↦ (
-            let rest = find-put p x ys (λ passes. absurd (false≢true (sym fails ∙ passes))) in
-            elim (cases_Bool (p y)) [
-              | inl here ↦ simp (more, here, fails) refl
-              | inr other ↦ simp (more, other, fails) (rest ∙ rw fails refl)
-            ])
-      ]
+      | inl passes ↦ (
+          let fails : p y ≡ false = alone passes 0 y (omega arith) in
+          let rest = find-put p x ys (λ _. λ k d within. alone passes (suc k) d (omega arith)) in
+          rw (more, fails, passes) (rest ∙ rw passes refl))
+      | inr fails ↦ (
+          let rest = find-put p x ys (λ passes. absurd (false≢true (sym fails ∙ passes))) in
+          elim (cases_Bool (p y)) [
+            | inl here ↦ simp (more, here, fails) refl
+            | inr other ↦ simp (more, other, fails) (rest ∙ rw fails refl)
+          ])
+    ]
   ]
 
   find-in_order : (p : List ℕ × ℕ → Bool) (xs : Entries) → AllPairs (λ a b. p a ≡ true → p b ≡ false) xs → find p (in_order (is_before table) xs) ≡ find p xs
@@ -197,7 +197,7 @@ module _ (table : List (ℕ × ℕ)) where
   pub link_of-in_order : (xs : Entries) (name : List ℕ) → NamesDiffer table xs → link_of table (in_order (is_before table) xs) name ≡ link_of table xs name
   link_of-in_order xs name differ =
       ap (option_map (λ entry. entry.1)) (find-in_order (is_named table name) xs (λ i j d less within.
-        one (get_or xs i d).0 (get_or xs j d).0 (differ i j d less within)))
+      one (get_or xs i d).0 (get_or xs j d).0 (differ i j d less within)))
     where
       one : (a b : List ℕ) → same_name table a b ≡ false → same_name table a name ≡ true → same_name table b name ≡ false
       one a b differ same = elim (cases_Bool (same_name table b name)) [

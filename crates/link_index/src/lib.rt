@@ -27,6 +27,8 @@
 
 mod directory;
 mod order;
+#[cfg(test)]
+mod tests;
 
 pub use directory::Directory;
 pub use order::order_of_entries;
