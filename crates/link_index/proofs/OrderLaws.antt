@@ -81,7 +81,7 @@ module _ (table : List (ℕ × ℕ)) where
   entry_of-here entries name i place =
       find-here (is_named table name) entries i (λ k d from below. not-named name (get_or entries k d) Less refl (place.1 k d from below)) (λ within d. named name (get_or entries i d) (place.2 d))
 
-  none-named : (entries : List (List ℕ × ℕ)) (name : List ℕ) (i : ℕ) → IsPlace table entries name (Err i) → All (λ e. is_named table name e ≡ false) entries
+  pub none-named : (entries : List (List ℕ × ℕ)) (name : List ℕ) (i : ℕ) → IsPlace table entries name (Err i) → All (λ e. is_named table name e ≡ false) entries
   none-named entries name i place k d within = elim (cases_lt k i) [
     | inl below ↦ not-named name (get_or entries k d) Less refl (place.1 k d (omega arith) below)
     | inr above ↦ not-named name (get_or entries k d) Greater refl (place.2 k d above within)

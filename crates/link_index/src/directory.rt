@@ -1,6 +1,6 @@
 //! A directory's names with their links.
 
-ghost use Rattle.std.specs.Prelude.{◌≡◌, ◌≤◌, ◌+◌, ◌==◌, [], length, option_map, slice_get, IsOk, IfErr, IsSome, OnOk, OnErr, Err};
+ghost use Rattle.std.specs.Prelude.{◌≡◌, ◌≤◌, ◌+◌, ◌==◌, [], length, option_map, slice_get, IsOk, IfErr, IfNone, IsSome, OnOk, OnErr, Err};
 ghost use Rattle.fsa_types.specs.CaseTable.{cmp_name};
 ghost use Rattle.link_index.specs.Directory.{AreInOrder, IsNew, IsPlace, entry_after, entry_of, link_of, with_entry, without_name};
 
@@ -71,7 +71,10 @@ impl Directory {
     /// their upcased units are equal.
     pub fn get(&self, table: &UpcaseTable, name: &[u16]) -> Option<u64>
         requires { AreInOrder table.now self.now.entries }
-        ensures { result ≡ link_of table.now self.now.entries name.now }
+        ensures link { result ≡ link_of table.now self.now.entries name.now }
+
+        // Where there is none the name can be put in.
+        ensures is_new { IfNone result (IsNew table.now name.now self.now.entries) }
     {
         match place_of(&self.entries, table, name) {
             Ok(place) => Some(self.entries[place].1),
