@@ -2,3 +2,4 @@ pub mod BreakLemmas
 pub mod CallLemmas
 pub mod GrantLemmas
 pub mod ReleaseLemmas
+pub mod ToldLemmas

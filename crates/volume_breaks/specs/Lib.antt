@@ -2,3 +2,4 @@ pub mod Breaks
 pub mod Calls
 pub mod Marks
 pub mod Oplocks
+pub mod Told

@@ -1,10 +1,8 @@
-//! What a break does to oplocks that were chosen, and which calls it tells, after [MS-FSA] 'Algorithm
-//! to Check for an Oplock Break'.
+//! The calls that end where oplocks are broken, after [MS-FSA] 'Algorithm to Check for an Oplock Break'.
 
 ghost use Rattle.std.specs.Prelude.{ℕ, ◌≡◌, ◌≤◌, ◌<◌, ◌+◌, ◌++◌, ◌∷◌, ◌^◌, ◌&&◌, [], not, true, length, filter, fold, is_some, option_map, option_and_then, All, if◌then◌else◌};
 ghost use Rattle.std.specs.Option.{option_map_or};
-ghost use Rattle.fsa_types.specs.OplockLists.{OplockState, after_effect, effect_on, is_told, told_among, CanHave, IsCopy, IsOplock};
-ghost use Rattle.fsa_types.specs.Oplocks.{effect};
+ghost use Rattle.fsa_types.specs.OplockLists.{effect_on, told_among, IsCopy, IsOplock};
 ghost use Rattle.fsa_types.specs.Rows.{row_of};
 ghost use Rattle.fsa_types.specs.declared.reply.Body.TheVariants.{Broken};
 ghost use Rattle.fsa_types.specs.declared.status.Status.TheVariants.{Success};
@@ -12,16 +10,16 @@ ghost use Rattle.fsa_model.specs.Breaks.{with_effect, with_told};
 ghost use Rattle.fsa_model.specs.Edits.{is_call, with_end};
 ghost use Rattle.fsa_model.specs.Volume.{Volume};
 ghost use Rattle.object_tables.specs.Series.{HoldsAsMany};
-ghost use Rattle.volume_rows.specs.Effects.{effect_of};
-ghost use Rattle.volume_breaks.specs.Breaks.{with_calls, with_held};
+ghost use Rattle.volume_breaks.specs.Breaks.{with_calls, with_held, with_holder_told};
 ghost use Rattle.volume_breaks.specs.Calls.{StayHeld};
-ghost use Rattle.volume_breaks.specs.Oplocks.{state_of};
+ghost use Rattle.volume_breaks.specs.Told.{has_call};
 
 use crate::oplock_list::Oplocks;
 use crate::pending_calls::PendingCalls;
+use crate::telling::{Told, break_oplocks};
 use fsa_types::{Body, Class, EndOf, Level, Reply, Status};
 use object_tables::Series;
-use volume_rows::{BreakEffect, OplockRow, PendingRow, effect, find_pending};
+use volume_rows::{PendingRow, find_pending};
 
 /// A call has ended with this reply; where it was pending it is so no more.
 pub fn end_call(
@@ -102,67 +100,35 @@ fn tell(
     end_pending(pending, ended, turn, reply);
 }
 
-// What the effect on an oplock does.
-fn apply(
-    oplocks: &mut Oplocks,
-    pending: &mut PendingCalls,
-    ended: &mut Series<EndOf>,
-    oplock: OplockRow,
-    done: BreakEffect,
-)
-    requires room { (is_told (effect_of done) && is_some oplock.call) ≡ true → 1 ≤ ended.old.room }
-    requires numbers { oplocks.old.last + 1 < 2 ^ 64 }
-    requires fits { CanHave (effect_of done) oplock.handle oplocks.old.rows }
-    ensures oplocks { state_of oplocks.new ≡ after_effect (effect_of done) oplock.handle (state_of oplocks.old) }
-    ensures done { (v : Volume) → with_held v oplocks.new.rows oplocks.new.last pending.new.items ended.new.items ≡ with_effect (with_held v oplocks.old.rows oplocks.old.last pending.old.items ended.old.items) oplock (effect_of done) }
-    ensures others { oplocks.new ≡ record oplocks.old { rows = oplocks.new.rows; last = oplocks.new.last } }
-    ensures numbers { oplocks.new.last ≤ oplocks.old.last + 1 }
+// The call that was pending as granted to a holder who is told ends so.
+fn end_one(pending: &mut PendingCalls, ended: &mut Series<EndOf>, told: &Told)
+    requires room { is_some told.now.call ≡ true → 1 ≤ ended.old.room }
+    ensures done { (v : Volume) → with_calls v pending.new.items ended.new.items ≡ with_holder_told (with_calls v pending.old.items ended.old.items) told.now }
     ensures held { StayHeld pending.old pending.new }
     ensures room { (pending.new.room ≡ pending.old.room) × (pending.new.blockers ≡ pending.old.blockers) }
-    ensures left { ended.old.room ≤ ended.new.room + (if is_told (effect_of done) && is_some oplock.call then 1 else 0) }
+    ensures left { ended.old.room ≤ ended.new.room + (if is_some told.now.call then 1 else 0) }
     ensures ends { HoldsAsMany ended.old ended.new }
 {
-    match done {
-        BreakEffect::Stays => {}
-        BreakEffect::Ends => {
-            oplocks.drop_of(oplock.handle);
-            tell(pending, ended, oplock.call, Level::Nil, false);
-        }
-        BreakEffect::Begins(level) => {
-            oplocks.begin_break(oplock.handle, level);
-            tell(pending, ended, oplock.call, level, true);
-        }
-        BreakEffect::Lowers(level) => oplocks.lower(oplock.handle, level),
+    tell(pending, ended, told.call, told.level, told.ack);
+}
+
+/// The calls that were pending as granted to those who are told end, one after the other: each is told the level
+/// that may stay, and whether that has to be acknowledged. Room for the ends of as many calls has to be there.
+pub fn end_told(pending: &mut PendingCalls, ended: &mut Series<EndOf>, told: &[Told])
+    requires room { length (filter has_call told.now) ≤ ended.old.room }
+    ensures done { (v : Volume) → with_calls v pending.new.items ended.new.items ≡ fold with_holder_told (with_calls v pending.old.items ended.old.items) told.now }
+    ensures held { StayHeld pending.old pending.new }
+    ensures room { (pending.new.room ≡ pending.old.room) × (pending.new.blockers ≡ pending.old.blockers) }
+    ensures left { ended.old.room ≤ ended.new.room + length (filter has_call told.now) }
+    ensures ends { HoldsAsMany ended.old ended.new }
+{
+    for one in told {
+        end_one(pending, ended, one);
     }
 }
 
-// Breaks an oplock, as a request of this class does.
-fn break_one(
-    oplocks: &mut Oplocks,
-    pending: &mut PendingCalls,
-    ended: &mut Series<EndOf>,
-    class: Class,
-    oplock: OplockRow,
-)
-    requires room { (is_told (effect_on class oplock) && is_some oplock.call) ≡ true → 1 ≤ ended.old.room }
-    requires numbers { oplocks.old.last + 1 < 2 ^ 64 }
-    requires sound { IsOplock oplock }
-    requires copy { IsCopy oplocks.old.rows oplock }
-    ensures oplocks { state_of oplocks.new ≡ after_effect (effect_on class oplock) oplock.handle (state_of oplocks.old) }
-    ensures done { (v : Volume) → with_held v oplocks.new.rows oplocks.new.last pending.new.items ended.new.items ≡ with_effect (with_held v oplocks.old.rows oplocks.old.last pending.old.items ended.old.items) oplock (effect_on class oplock) }
-    ensures others { oplocks.new ≡ record oplocks.old { rows = oplocks.new.rows; last = oplocks.new.last } }
-    ensures numbers { oplocks.new.last ≤ oplocks.old.last + 1 }
-    ensures held { StayHeld pending.old pending.new }
-    ensures room { (pending.new.room ≡ pending.old.room) × (pending.new.blockers ≡ pending.old.blockers) }
-    ensures left { ended.old.room ≤ ended.new.room + (if is_told (effect_on class oplock) && is_some oplock.call then 1 else 0) }
-    ensures ends { HoldsAsMany ended.old ended.new }
-{
-    let done = effect(class, oplock.level, oplock.target);
-    apply(oplocks, pending, ended, oplock, done);
-}
-
-/// Breaks the oplocks that were chosen, one after the other, as a request of this class does. They have
-/// to be copies of those that are there.
+/// Breaks the oplocks that were chosen, one after the other, as a request of this class does; the calls of those
+/// who are told end. They have to be copies of those that are there.
 pub fn break_chosen(
     oplocks: &mut Oplocks,
     pending: &mut PendingCalls,
@@ -174,14 +140,12 @@ pub fn break_chosen(
     requires sound { All IsOplock oplocks.old.chosen }
     requires copies { All (IsCopy oplocks.old.rows) oplocks.old.chosen }
     ensures done { (v : Volume) → with_held v oplocks.new.rows oplocks.new.last pending.new.items ended.new.items ≡ fold (λ w oplock. with_effect w oplock (effect_on class oplock)) (with_held v oplocks.old.rows oplocks.old.last pending.old.items ended.old.items) oplocks.old.chosen }
-    ensures others { oplocks.new ≡ record oplocks.old { rows = oplocks.new.rows; last = oplocks.new.last } }
+    ensures others { oplocks.new ≡ record oplocks.old { rows = oplocks.new.rows; last = oplocks.new.last; told = oplocks.new.told } }
     ensures held { StayHeld pending.old pending.new }
     ensures room { (pending.new.room ≡ pending.old.room) × (pending.new.blockers ≡ pending.old.blockers) }
     ensures left { ended.old.room ≤ ended.new.room + length (told_among class oplocks.old.chosen) }
     ensures ends { HoldsAsMany ended.old ended.new }
 {
-    for place in 0..oplocks.chosen_len() {
-        let oplock = oplocks.chosen_at(place);
-        break_one(oplocks, pending, ended, class, oplock);
-    }
+    break_oplocks(oplocks, class);
+    end_told(pending, ended, oplocks.told());
 }

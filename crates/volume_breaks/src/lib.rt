@@ -7,22 +7,27 @@
 //! break_chosen(&mut oplocks, &mut pending, &mut ended, class);     // what becomes of each
 //! let waits = oplocks.await_breaks(class);                         // for which the request waits
 //!
-//! oplocks.choose_switched(&tree, opened);                          // which a grant ends
+//! oplocks.choose_on(&tree, stream);                                // beside which one is asked for
+//! is_refused(handle, key, level, others, locked, oplocks.chosen());
+//! oplocks.choose_switched(&tree, stream, handle, key);             // which a grant ends
 //! switch_chosen(&mut oplocks, &mut pending, &mut ended);           // and tells their calls
-//! oplocks.grant(handle, key, level, turn);
+//! oplocks.grant(stream, handle, key, level, turn);
 //! ```
 //!
 //! The parts: which oplocks a break breaks, and in what order (`choosing`, over a `Tree` of a volume's
-//! tables); what it does to each, and which calls it tells (`breaking`); for which breaks the request
-//! waits (`awaiting`); when no oplock is granted, and which a grant switches (`granting`); which of one stream's
-//! oplocks both take up, by their handles alone (`marking`); the list of the oplocks with what a break or a
-//! grant puts by (`Oplocks`); the pending calls with
+//! tables), or of one stream by their handles alone (`marking`); what it does to each, and whom it tells
+//! (`telling`), and the calls that end with that (`breaking`); for which breaks the request waits (`awaiting`);
+//! when no oplock is granted, and what a grant ends (`granting`); the list of the oplocks, with what a break or a
+//! grant puts by and with the room that was promised to each stream (`Oplocks`); the pending calls with
 //! the queue of those that are held (`PendingCalls`), which is told what ends where a handle goes
 //! (`releasing`); and a list whose room stays as items go (`SpareList`).
 //!
-//! - None of these takes memory: there is always room for copies of all oplocks, and for the numbers of as
-//!   many breaks. Room for the ends of the calls that are told has to be there, and for a grant room for
-//!   one oplock.
+//! `oplock_state` has the oplocks of one stream by `break_oplocks` and `drop_chosen`, and leaves the calls to its
+//! caller; a volume's break and grant end them too.
+//!
+//! - None of these takes memory but `reserve`: there is always room for copies of all oplocks, for the numbers
+//!   of as many breaks, and for what as many holders are told. Room for the ends of the calls that are told has
+//!   to be there, and for a grant room for one oplock on its stream; that of other streams stays.
 //! - A break goes over all oplocks, with a look at the handles for each, takes time square in the number
 //!   of those that it breaks, with a few looks at handles, links and streams for each pair, and goes over
 //!   the pending calls for each one that it tells.
@@ -37,12 +42,14 @@ mod oplock_list;
 mod pending_calls;
 mod releasing;
 mod spare_list;
+mod telling;
 
 pub use awaiting::push_breaks;
-pub use breaking::{break_chosen, end_call};
+pub use breaking::{break_chosen, end_call, end_told};
 pub use choosing::Tree;
-pub use granting::{Opened, is_refused_among, switch_chosen};
+pub use granting::{drop_chosen, end_switched, is_refused, switch_chosen};
 pub use oplock_list::Oplocks;
 pub use pending_calls::PendingCalls;
 pub use releasing::{release_breaks, release_locks};
 pub use spare_list::SpareList;
+pub use telling::{Told, break_oplocks};

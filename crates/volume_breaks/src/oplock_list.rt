@@ -2,7 +2,7 @@
 
 ghost use Rattle.std.specs.Prelude.{ℕ, ◌≡◌, ◌≤◌, ◌<◌, ◌+◌, ◌++◌, ◌∷◌, ◌^◌, ◌==◌, ◌-◌, not, true, false, All, [], List, Some, None, length, map, filter, OnOk, if◌then◌else◌, slice_index_or};
 ghost use Rattle.fsa_types.specs.Sorting.{in_order};
-ghost use Rattle.fsa_types.specs.OplockGrants.{after_answer, as_answered, as_granted, switched_among};
+ghost use Rattle.fsa_types.specs.OplockGrants.{after_answer, as_answered, as_granted, is_of_key, switched_among};
 ghost use Rattle.fsa_types.specs.OplockLists.{awaited_among, begun, lowered, without_oplock_of, CanBegin, CanGoOn, IsCopy, IsOplock};
 ghost use Rattle.fsa_model.specs.Breaks.{is_broken_before, is_chosen};
 ghost use Rattle.fsa_model.specs.Grant.{is_oplock_on};
@@ -10,32 +10,37 @@ ghost use Rattle.fsa_model.specs.Volume.{Oplock};
 ghost use Rattle.fsa_model.specs.Waiting.{is_granted_under};
 ghost use Rattle.volume_breaks.specs.Marks.{is_marked, is_opened_before};
 ghost use Rattle.volume_breaks.specs.Oplocks.{Held};
+ghost use Rattle.volume_tables.specs.Rooms.{room_in};
 ghost use Rattle.std.specs.Vec.{vec_capacity};
 
 use crate::awaiting::await_breaks;
-use crate::choosing::{Tree, choose};
-use crate::granting::{Opened, choose_switched};
-use crate::marking::{choose_marked, choose_of_key};
+use crate::choosing::{Tree, choose, choose_on};
+use crate::marking::{choose_marked, choose_of_key, is_of_key};
+use crate::telling::Told;
 use fsa_types::{Class, HandleSet, Level, NoMemory};
 use std::alloc::Global;
 use std::marker::Model;
 use volume_rows::{OplockRow, has_read, is_oplock_of};
+use volume_tables::RoomList;
 
-/// The oplocks of a volume, in the order in which they were granted. A break of them takes no memory:
-/// there is room for copies of all of them, and for the numbers of as many breaks. There are fewer
-/// than 2^32. At most one is of a handle, with a numbered break exactly where it has a target, which is
-/// within its level; the numbers of breaks differ, and none is above the last one given.
+/// Oplocks, in the order in which they were granted, and for each stream how many more can be granted on it
+/// without taking memory. A break of them takes no memory: there is room for copies of all of them, for the
+/// numbers of as many breaks, and for what as many holders are told. There are fewer than 2^32. At most one is
+/// of a handle, with a numbered break exactly where it has a target, which is within its level; the numbers of
+/// breaks differ, and none is above the last one given.
 #[derive(Drop)]
 pub struct Oplocks {
     rows: Vec<OplockRow>,
     // Copies of those that the last break chose, in the order in which it broke them.
     chosen: Vec<OplockRow>,
+    // Whom it told.
+    told: Vec<Told>,
     // The numbers of the breaks that it waits for.
     waited: Vec<u64>,
     // The number of the last break that began.
     last: u64,
-    // For how many more oplocks there is room.
-    room: u32,
+    // What was promised to each stream, all of which the lists have.
+    rooms: RoomList,
 }
 
 impl Model for Oplocks {
@@ -43,12 +48,13 @@ impl Model for Oplocks {
     ghost use Rattle.std.specs.Vec.{vec_capacity, vec_len};
     ghost use Rattle.fsa_types.specs.OplockLists.{AreOplocks};
     ghost use Rattle.volume_breaks.specs.Oplocks.{Held, IsRoomy};
+    ghost use Rattle.volume_tables.specs.Rooms.{all_rooms};
 
     ghost Value = { Held };
 
-    ghost view = { λ o. record { rows = o.rows.items; chosen = o.chosen.items; waited = o.waited.items; last = o.last; room = o.room } };
+    ghost view = { λ o. record { rows = o.rows.items; chosen = o.chosen.items; told = o.told.items; waited = o.waited.items; last = o.last; rooms = o.rooms } };
 
-    ghost invariant = { λ o. IsRoomy (vec_len o.rows + o.room) (vec_capacity o.rows) (vec_capacity o.chosen) (vec_capacity o.waited) (vec_len o.chosen) × AreOplocks o.rows.items o.last };
+    ghost invariant = { λ o. IsRoomy (vec_len o.rows + all_rooms o.rooms) (vec_capacity o.rows) (vec_capacity o.chosen) (vec_capacity o.told) (vec_capacity o.waited) (vec_len o.chosen) × AreOplocks o.rows.items o.last };
 }
 
 impl Oplocks {
@@ -57,35 +63,42 @@ impl Oplocks {
         ensures rows { result.rows ≡ [] }
         ensures waited { result.waited ≡ [] }
         ensures last { result.last ≡ 0 }
+        ensures rooms { result.rooms ≡ [] }
     {
         Oplocks {
             rows: Vec::new(alloc),
             chosen: Vec::new(alloc),
+            told: Vec::new(alloc),
             waited: Vec::new(alloc),
             last: 0,
-            room: 0,
+            rooms: RoomList::new(alloc),
         }
     }
 
-    /// Takes room for `more` oplocks beside those that are there, and for breaks of them. `NoMemory`
-    /// where there is none, or where there would be 2^32 or more in all.
-    pub fn reserve(&mut self, more: u32) -> Result<(), NoMemory>
-        ensures rows { self.new ≡ record self.old { room = self.new.room } }
-        ensures room { OnOk result (more ≤ self.new.room) }
-        ensures kept { self.old.room ≤ self.new.room }
+    /// Takes room for so many oplocks on this stream, in all that it has room for, and for breaks of them.
+    /// `NoMemory` where there is none, or where there would be 2^32 or more in all with those that were
+    /// promised to other streams.
+    pub fn reserve(&mut self, stream: u64, oplocks: u32) -> Result<(), NoMemory>
+        ensures rows { self.new ≡ record self.old { rooms = self.new.rooms } }
+        ensures room { OnOk result (oplocks ≤ room_in self.new.rooms stream) }
+        ensures kept { (other : ℕ) → room_in self.old.rooms other ≤ room_in self.new.rooms other }
     {
-        if more <= self.room {
+        let oplocks = oplocks as usize;
+        if oplocks <= self.rooms.room_in(stream) {
             return Ok(());
         }
-        let in_all = self.rows.len() + more as usize;
-        if in_all > u32::MAX as usize {
+        let Some(all) = self.rooms.all_with(stream, oplocks) else {
+            return Err(NoMemory);
+        };
+        if all > u32::MAX as usize - self.rows.len() {
             return Err(NoMemory);
         }
+        let in_all = self.rows.len() + all;
         reserve_for(&mut self.rows, in_all)?;
         reserve_for(&mut self.chosen, in_all)?;
+        reserve_for(&mut self.told, in_all)?;
         reserve_for(&mut self.waited, in_all)?;
-        self.room = more;
-        Ok(())
+        self.rooms.set(stream, oplocks)
     }
 
     /// All oplocks, in the order in which they were granted.
@@ -116,11 +129,26 @@ impl Oplocks {
         choose(tree, on, acting, key, &self.rows, &mut self.chosen);
     }
 
-    /// Sets aside copies of those that a grant to this handle switches, in order.
-    pub fn choose_switched(&mut self, tree: &Tree, opened: Opened)
-        ensures { self.new ≡ record self.old { chosen = switched_among (is_oplock_on tree.now opened.stream) opened.handle opened.key self.old.rows } }
+    /// Sets aside copies of those on this stream, in order.
+    pub fn choose_on(&mut self, tree: &Tree, stream: u64)
+        ensures { self.new ≡ record self.old { chosen = filter (is_oplock_on tree.now stream) self.old.rows } }
     {
-        choose_switched(tree, opened, &self.rows, &mut self.chosen);
+        choose_on(tree, stream, &self.rows, &mut self.chosen);
+    }
+
+    // Keeps set aside those of this handle, or of one with its key.
+    fn keep_of_key(&mut self, handle: u64, key: u64)
+        ensures { self.new ≡ record self.old { chosen = filter (is_of_key handle key) self.old.chosen } }
+    {
+        keep_of_key(&mut self.chosen, handle, key);
+    }
+
+    /// Sets aside copies of those on this stream that are of this handle, or of one with its key, in order.
+    pub fn choose_switched(&mut self, tree: &Tree, stream: u64, handle: u64, key: u64)
+        ensures { self.new ≡ record self.old { chosen = switched_among (is_oplock_on tree.now stream) handle key self.old.rows } }
+    {
+        self.choose_on(tree, stream);
+        self.keep_of_key(handle, key);
     }
 
     /// Sets aside copies of those of marked handles, and of another key than the acting handle's, in the order in
@@ -149,6 +177,13 @@ impl Oplocks {
         self.last = first - 1;
     }
 
+    /// Those that are set aside, in order.
+    pub fn chosen(&self) -> &[OplockRow]
+        ensures { result.now ≡ self.now.chosen }
+    {
+        self.chosen.as_slice()
+    }
+
     /// How many are chosen.
     pub fn chosen_len(&self) -> usize
         ensures { result ≡ length self.now.chosen }
@@ -162,6 +197,30 @@ impl Oplocks {
         ensures { result ≡ slice_index_or self.now.chosen place result }
     {
         self.chosen[place]
+    }
+
+    /// Whom the last break told, in order.
+    pub fn told(&self) -> &[Told]
+        ensures { result.now ≡ self.now.told }
+    {
+        self.told.as_slice()
+    }
+
+    // Nobody is told so far.
+    pub(crate) fn tell_nobody(&mut self)
+        ensures { self.new ≡ record self.old { told = [] } }
+    {
+        self.told.clear();
+    }
+
+    // Puts by that the holder of an oplock that is chosen is told. Fewer than are chosen have to be told so far.
+    pub(crate) fn tell(&mut self, told: Told)
+        requires room { length self.old.told < length self.old.chosen }
+        ensures { self.new ≡ record self.old { told = self.old.told ++ told ∷ [] } }
+    {
+        let Ok(()) = self.told.push(told) else {
+            unreachable!()
+        };
     }
 
     /// Takes the oplock of this handle out.
@@ -178,14 +237,16 @@ impl Oplocks {
         drop_granted(&mut self.rows, turn);
     }
 
-    /// Adds an oplock of this handle, which has this key and no oplock yet; its call is pending under this
-    /// turn. Room has to be reserved.
-    pub fn grant(&mut self, handle: u64, key: u64, level: Level, turn: u64)
-        requires room { 1 ≤ self.old.room }
+    /// Adds an oplock of this handle on this stream, which has this key and no oplock yet; its call is pending
+    /// under this turn. There has to be room for one on the stream; that of all others stays.
+    pub fn grant(&mut self, stream: u64, handle: u64, key: u64, level: Level, turn: u64)
+        requires room { 1 ≤ room_in self.old.rooms stream }
         requires new { All (λ oplock. (oplock.handle == handle) ≡ false) self.old.rows }
-        ensures rows { self.new ≡ record self.old { rows = self.old.rows ++ as_granted handle key level turn ∷ []; room = self.new.room } }
-        ensures left { self.old.room ≤ self.new.room + 1 }
+        ensures rows { self.new ≡ record self.old { rows = self.old.rows ++ as_granted handle key level turn ∷ []; rooms = self.new.rooms } }
+        ensures left { room_in self.old.rooms stream ≤ room_in self.new.rooms stream + 1 }
+        ensures others { (other : ℕ) → (other == stream) ≡ false → room_in self.new.rooms other ≡ room_in self.old.rooms other }
     {
+        self.rooms.take_one(stream);
         let Ok(()) = self.rows.push(OplockRow {
             handle,
             key,
@@ -197,7 +258,6 @@ impl Oplocks {
         else {
             unreachable!()
         };
-        self.room -= 1;
     }
 
     /// The break of the oplock of this handle has ended, and this level stays, of which the call that is
@@ -249,6 +309,15 @@ fn reserve_for<T: Drop>(items: &mut Vec<T>, in_all: usize) -> Result<(), NoMemor
         items.reserve(in_all - length)?;
     }
     Ok(())
+}
+
+// Keeps those of this handle, or of one with its key.
+fn keep_of_key(rows: &mut Vec<OplockRow>, handle: u64, key: u64)
+    ensures rows { rows.new.items ≡ filter (is_of_key handle key) rows.old.items }
+    ensures few { length rows.new.items ≤ length rows.old.items }
+    ensures room { vec_capacity rows.new ≡ vec_capacity rows.old }
+{
+    rows.retain(|oplock| is_of_key(handle, key, oplock));
 }
 
 // Takes the oplock of this handle out.

@@ -41,4 +41,5 @@ mod space;
 pub use handle_table::HandleTable;
 pub use link_table::LinkTable;
 pub use lock_row::LockRow;
+pub use room_list::RoomList;
 pub use space::SpaceTally;

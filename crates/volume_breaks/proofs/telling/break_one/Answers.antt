@@ -1,6 +1,6 @@
 use Rattle.fsa_types.proofs.OplockLemmas.{CanHave-effect}
 use Rattle.fsa_types.specs.OplockLists.{effect_on, CanHave}
-use Rattle.volume_breaks.proofs.breaking.break_one.Goals as goal
+use Rattle.volume_breaks.proofs.telling.break_one.Goals as goal
 
 pub apply-requires-clause-fits : goal.apply-requires-clause-fits
 apply-requires-clause-fits c =
