@@ -29,10 +29,10 @@ use Rattle.volume_breaks.proofs.BreakLemmas.{drop-item}
 -- those who are told by one more, and then those behind it
 pub told-more : (class : Class) (told after : List Told) (chosen : List Oplock) (i : ℕ) (oplock : Oplock) → i < length chosen → oplock ≡ get_or chosen i oplock → after ≡ told ++ told_of class oplock
     → after ++ told_all class (drop (i + 1) chosen) ≡ told ++ told_all class (drop i chosen)
-told-more class told after chosen i oplock within read is =
-    ap (λ (all : List Told). all ++ told_all class (drop (i + 1) chosen)) is
-    ∙ append_assoc told (told_of class oplock) (told_all class (drop (i + 1) chosen))
-    ∙ ap (λ (rest : List Oplock). told ++ told_all class rest) (sym (drop-item chosen i oplock within read))
+told-more kind told after chosen i oplock within read is =
+    ap (λ (all : List Told). all ++ told_all kind (drop (i + 1) chosen)) is
+    ∙ append_assoc told (told_of kind oplock) (told_all kind (drop (i + 1) chosen))
+    ∙ ap (λ (rest : List Oplock). told ++ told_all kind rest) (sym (drop-item chosen i oplock within read))
 
 -- what is told leaves the oplocks, and doesn't depend on them
 told-apart : (v : Volume) (held : OplockState) (turn : Option ℕ) (level : Level) (ack : Bool) → with_oplocks (with_told v turn level ack) held ≡ with_told (with_oplocks v held) turn level ack
@@ -51,12 +51,12 @@ effect-apart v oplock (Lowers level) held rest = refl
 pub breaks-apart : (class : Class) (chosen : List Oplock) (v : Volume)
     → fold (λ w oplock. with_effect w oplock (effect_on class oplock)) v chosen
     ≡ fold with_holder_told (with_oplocks v (after_breaks class (oplocks_of v) chosen)) (told_all class chosen)
-breaks-apart class [] v = refl
-breaks-apart class (oplock ∷ chosen) v =
-    breaks-apart class chosen (with_effect v oplock (effect_on class oplock))
-    ∙ ap (λ (held : OplockState). fold with_holder_told (with_oplocks (with_effect v oplock (effect_on class oplock)) (after_breaks class held chosen)) (told_all class chosen))
-      (oplocks-effect v oplock (effect_on class oplock))
-    ∙ effect-apart v oplock (effect_on class oplock) (after_breaks class (after_effect (effect_on class oplock) oplock.handle (oplocks_of v)) chosen) (told_all class chosen)
+breaks-apart kind [] v = refl
+breaks-apart kind (oplock ∷ chosen) v =
+    breaks-apart kind chosen (with_effect v oplock (effect_on kind oplock))
+    ∙ ap (λ (held : OplockState). fold with_holder_told (with_oplocks (with_effect v oplock (effect_on kind oplock)) (after_breaks kind held chosen)) (told_all kind chosen))
+    (oplocks-effect v oplock (effect_on kind oplock))
+    ∙ effect-apart v oplock (effect_on kind oplock) (after_breaks kind (after_effect (effect_on kind oplock) oplock.handle (oplocks_of v)) chosen) (told_all kind chosen)
 
 -- as many calls end as oplocks with a call are told
 count-told : (oplock : Oplock) (done : Effect) (rest : List Told) (others : List Oplock) → length (filter has_call rest) ≡ length others
@@ -67,8 +67,8 @@ count-told oplock Ends rest others same = elim (cases_Bool (is_some oplock.call)
 count-told oplock (Begins level) rest others same = elim (cases_Bool (is_some oplock.call)) [ inl some ↦ rw some (omega (arith, same)) | inr none ↦ rw none same ]
 
 pub told-count : (class : Class) (chosen : List Oplock) → length (filter has_call (told_all class chosen)) ≡ length (told_among class chosen)
-told-count class [] = refl
-told-count class (oplock ∷ chosen) = count-told oplock (effect_on class oplock) (told_all class chosen) (told_among class chosen) (told-count class chosen)
+told-count kind [] = refl
+told-count kind (oplock ∷ chosen) = count-told oplock (effect_on kind oplock) (told_all kind chosen) (told_among kind chosen) (told-count kind chosen)
 
 -- ---- switches
 
@@ -83,6 +83,6 @@ switches-apart [] v = refl
 switches-apart (oplock ∷ switched) v =
     switches-apart switched (with_switched v oplock)
     ∙ ap (λ (oplocks : List Oplock). fold with_switch_told (record (with_switched v oplock) { oplocks = after_switches oplocks switched }) switched)
-      (oplocks-call_ended (without_oplock v oplock.handle) oplock.call OplockSwitchedToNewHandle)
+    (oplocks-call_ended (without_oplock v oplock.handle) oplock.call OplockSwitchedToNewHandle)
     ∙ ap (λ (w : Volume). fold with_switch_told w switched)
-      (ended-apart (without_oplock v oplock.handle) (after_switches (without_oplock_of oplock.handle v.oplocks) switched) oplock.call)
+    (ended-apart (without_oplock v oplock.handle) (after_switches (without_oplock_of oplock.handle v.oplocks) switched) oplock.call)

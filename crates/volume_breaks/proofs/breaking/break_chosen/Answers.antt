@@ -1,4 +1,4 @@
-use Rattle.std.proofs.Common.{◌≡◌, List, ◌∙◌, length, ap, sym, arith}
+use Rattle.std.proofs.Common.{List, ◌∙◌, length, ap, sym, arith}
 use Rattle.std.specs.Prelude.{filter, fold}
 use Rattle.fsa_types.specs.OplockLists.{OplockState}
 use Rattle.fsa_model.specs.Breaks.{with_oplocks}

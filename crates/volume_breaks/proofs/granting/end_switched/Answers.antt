@@ -1,4 +1,4 @@
-use Rattle.std.proofs.Common.{◌≡◌, ◌∙◌, ◌+◌, sym, ap, arith, drop}
+use Rattle.std.proofs.Common.{◌∙◌, ◌+◌, sym, ap, arith, drop}
 use Rattle.std.specs.Prelude.{fold}
 use Rattle.fsa_model.specs.Volume.{Volume}
 use Rattle.volume_breaks.specs.Breaks.{with_calls, with_switch_told}

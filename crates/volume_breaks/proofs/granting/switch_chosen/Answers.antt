@@ -1,4 +1,4 @@
-use Rattle.std.proofs.Common.{◌≡◌, List, ◌∙◌, length, ap, sym, arith}
+use Rattle.std.proofs.Common.{◌≡◌, List, ◌∙◌, ap, sym}
 use Rattle.std.specs.Prelude.{fold}
 use Rattle.fsa_model.specs.Volume.{Oplock, Volume}
 use Rattle.volume_breaks.specs.Breaks.{with_held, with_switch_told}

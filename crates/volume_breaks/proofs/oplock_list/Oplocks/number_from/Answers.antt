@@ -1,4 +1,4 @@
-use Rattle.std.proofs.Common.{◌≤◌, ◌-◌, arith}
+use Rattle.std.proofs.Common.{◌-◌, arith}
 use Rattle.volume_breaks.proofs.GrantLemmas.{AreOplocks-later}
 use Rattle.volume_breaks.proofs.oplock_list.Oplocks.number_from.Goals as goal
 
