@@ -28,7 +28,7 @@ use Rattle.fsa_model.proofs.GrantLaws.{all_switched, lives-granted, oplocks-call
 use Rattle.fsa_model.proofs.RowLaws.{any-filter, none-all, option_cases, or-false}
 use Rattle.fsa_model.proofs.SoundWaits.{IsSound-touched, IsSound-without_oplock}
 use Rattle.fsa_model.proofs.WaitLaws.{is_of}
-use Rattle.volume_breaks.proofs.GrantLemmas.{AreOplocks-after_answer}
+use Rattle.volume_breaks.proofs.GrantLemmas.{AreOplocks-after_answer, NoneOf, none-left}
 use Rattle.volume_breaks.proofs.ReleaseLemmas.{held-equal}
 use Rattle.volume_breaks.specs.Calls.{AreHeld, Calls, LoseBlockers, is_break_of}
 use Rattle.volume_state.specs.Held.{is_there}
@@ -69,34 +69,6 @@ oplocks-switched (o ∷ oplocks) v =
     oplocks-switched oplocks (with_switched v o)
     ∙ ap (λ (now : List Oplock). after_switches now oplocks) (oplocks-call_ended (without_oplock v o.handle) o.call OplockSwitchedToNewHandle)
 
--- no oplock is of this handle
-abbrev NoneOf : ℕ → List Oplock → Type 0
-NoneOf handle oplocks = All (λ (o : Oplock). (o.handle == handle) ≡ false) oplocks
-
-stay-none : (handle : ℕ) (switched oplocks : List Oplock) → NoneOf handle oplocks → NoneOf handle (after_switches oplocks switched)
-stay-none handle [] oplocks none = none
-stay-none handle (o ∷ switched) oplocks none =
-    stay-none handle switched (without_oplock_of o.handle oplocks) (All-filter (λ (x : Oplock). not (x.handle == o.handle)) (λ (x : Oplock). (x.handle == handle) ≡ false) oplocks none)
-
-dropped-none : (handle : ℕ) (oplocks : List Oplock) → NoneOf handle (without_oplock_of handle oplocks)
-dropped-none handle [] = λ k d within. absurd (omega arith)
-dropped-none handle (o ∷ oplocks) = elim (cases_Bool (o.handle == handle)) [
-  | inl here ↦ rw here (dropped-none handle oplocks)
-  | inr other ↦ rw other (first (dropped-none handle oplocks) other)
-]
-  where
-    first : NoneOf handle (without_oplock_of handle oplocks) → (o.handle == handle) ≡ false → NoneOf handle (o ∷ without_oplock_of handle oplocks)
-    first rest other zero d within = other
-    first rest other (suc k) d within = rest k d (omega arith)
-
-gone-none : (handle : ℕ) (switched oplocks : List Oplock) → list_any (is_of handle) switched ≡ true → NoneOf handle (after_switches oplocks switched)
-gone-none handle [] oplocks some = cc
-gone-none handle (o ∷ switched) oplocks some = elim (cases_Bool (o.handle == handle)) [
-  | inl here ↦ (let same : o.handle ≡ handle = eqb-true o.handle handle here in
-      stay-none handle switched (without_oplock_of o.handle oplocks) (subst (λ (h : ℕ). NoneOf handle (without_oplock_of h oplocks)) (sym same) (dropped-none handle oplocks)))
-  | inr other ↦ gone-none handle switched (without_oplock_of o.handle oplocks) (rw other at some)
-]
-
 -- a handle of a stream is on it
 is-on : (v : Volume) (handle stream : ℕ) → stream_of_handle v handle ≡ Some stream → option_map_or (is_open_on stream) (row_of v.handles handle) false ≡ true
 is-on v handle stream found = elim (option_cases (row_of v.handles handle)) [
@@ -106,22 +78,7 @@ is-on v handle stream found = elim (option_cases (row_of v.handles handle)) [
 
 -- the handle that is granted an oplock has none any more
 pub none-of : (v : Volume) (handle key stream : ℕ) → stream_of_handle v handle ≡ Some stream → NoneOf handle (after_switches v.oplocks (switched v handle key stream))
-none-of v handle key stream found =
-    elim (cases_Bool (list_any (is_of handle) (switched v handle key stream))) [
-      | inl some ↦ gone-none handle (switched v handle key stream) v.oplocks some
-      | inr none ↦ stay-none handle (switched v handle key stream) v.oplocks (none-all (is_of handle) v.oplocks (no_other none (cases_Bool (list_any (is_of handle) v.oplocks))))
-    ]
-  where
-    its : (o : Oplock) → (o.handle == handle) ≡ true → (is_oplock_on v stream o && is_of_key handle key o) ≡ true
-    its o is =
-        let same : o.handle ≡ handle = eqb-true o.handle handle is in
-        let on = is-on v handle stream found in
-        rw (same, on, eq-eqb handle handle refl) refl
-
-    no_other : list_any (is_of handle) (switched v handle key stream) ≡ false → (list_any (is_of handle) v.oplocks ≡ true) ⊎ (list_any (is_of handle) v.oplocks ≡ false) → list_any (is_of handle) v.oplocks ≡ false
-    no_other none (inr is) = is
-    no_other none (inl some) =
-        absurd (both_ways _ none (any-filter (is_of handle) (λ (o : Oplock). is_oplock_on v stream o && is_of_key handle key o) v.oplocks its some))
+none-of v handle key stream found = none-left (is_oplock_on v stream) handle key v.oplocks (λ o is. (let same : o.handle ≡ handle = eqb-true o.handle handle is in rw same (is-on v handle stream found)))
 
 -- an oplock of a handle with this key has its handle's key
 has-key : (v : Volume) (handle stream : ℕ) (level : Level) (turn : ℕ) → stream_of_handle v handle ≡ Some stream → has_its_key v.handles (as_granted handle (key_of_handle v handle) level turn) ≡ true

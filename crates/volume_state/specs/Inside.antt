@@ -1,5 +1,5 @@
 -- The content and the spare room of the tables of a volume.
-use Rattle.std.specs.Prelude.{[], map}
+use Rattle.std.specs.Prelude.{map}
 use Rattle.fsa_model.specs.Setup.{client_of}
 use Rattle.fsa_model.specs.Volume.{Volume}
 use Rattle.volume_state.specs.Seen.{Beside, Spare}
@@ -41,7 +41,7 @@ spare_of v = record {
   handles = v.handles.room;
   owners = v.space.room;
   locks = record { own = v.handles.rooms; others = 0 };
-  oplocks = record { own = []; others = v.oplocks.room };
+  oplocks = record { own = v.oplocks.rooms; others = 0 };
   watches = v.watches.room;
   limits = v.limits.room;
   pending = v.pending.room;

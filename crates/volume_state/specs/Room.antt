@@ -46,7 +46,6 @@ pub record IsNoLess (old new : Spare) : Type 0 where
   pub dirs : old.dirs ≤ new.dirs
   pub bytes : (stream at count : ℕ) → CanWrite old stream at count → CanWrite new stream at count
 
--- the room for ends together with the calls that have ended is no less than it was: each end takes one, so
--- that room which was taken for the ends of a whole turn is there for each of them
+-- no room for ends or pending calls is used but what calls that ended took
 abbrev pub KeepsEnds : Seen → Seen → Type 0
-KeepsEnds old new = old.spare.ends + length old.content.ended ≤ new.spare.ends + length new.content.ended
+KeepsEnds old new = (old.spare.ends + length old.content.ended ≤ new.spare.ends + length new.content.ended) × (old.spare.pending ≤ new.spare.pending)

@@ -25,7 +25,7 @@
 //! take, and what an owner is charged for it and may be (`clusters`, `charge`, `charge_of_file`, `limit`); the
 //! reparse point of a file (`point`); the room that a note takes (`note_room`, `note_room_in`);
 //! changes of one table (`add_..`, `move_link`, `drop_..`, `mark_..`, `put_bytes`, `set_..`, `end`, `leave`,
-//! `advance`); changes noted (`note`); and oplocks: their grant (`is_not_granted`, `grant`), their break
+//! `advance`); changes noted (`note`); and oplocks: their grant (`grant`), their break
 //! (`begin`, `waited`), the answer to it (`answer_break`), and their end (`give_up`, `drop_oplock`); and watches
 //! (`has_watch`, `start_watch`) with what is due to them (`due_size`, `take_report`).
 //!

@@ -1,6 +1,6 @@
 //! Oplocks: their grant, their break, and what is answered to a break.
 
-ghost use Rattle.std.specs.Prelude.{ℕ, ◌≡◌, ◌≤◌, ◌<◌, ◌+◌, ◌-◌, ◌^◌, ◌++◌, length, map, [], false, Some, IsSome, option_map};
+ghost use Rattle.std.specs.Prelude.{ℕ, ◌≡◌, ◌≤◌, ◌<◌, ◌+◌, ◌-◌, ◌^◌, ◌++◌, ◌==◌, length, map, [], false, Some, IsSome, option_map};
 ghost use Rattle.std.specs.Option.{option_map_or, ForSome};
 ghost use Rattle.fsa_types.specs.Oplocks.{in_both};
 ghost use Rattle.fsa_types.specs.declared.reply.Blocker.{Blocker};
@@ -18,10 +18,16 @@ ghost use Rattle.volume_state.specs.Seen.{room_for};
 
 use crate::volume::Volume;
 use fsa_types::{BlockerList, Class, HandleSet, Level};
-use volume_breaks::{
-    Opened, Tree, break_chosen, is_refused_among, push_breaks, release_breaks, switch_chosen,
-};
+use volume_breaks::{Tree, break_chosen, is_refused, push_breaks, release_breaks, switch_chosen};
 use volume_rows::{find_target, in_both, is_open_by_others};
+
+// A handle that is open on a stream, and its key.
+#[derive(Clone, Copy, Debug)]
+struct Opened {
+    handle: u64,
+    key: u64,
+    stream: u64,
+}
 
 /// Whether an oplock was granted.
 #[derive(Clone, Copy, Debug, PartialEq, Eq)]
@@ -72,38 +78,11 @@ impl Volume {
         self.oplocks.await_breaks(class)
     }
 
-    /// Whether no oplock of this level is granted to a handle with this key on its stream.
-    pub fn is_not_granted(&self, handle: u64, key: u64, stream: u64, level: Level) -> bool
-        ensures { result ≡ is_not_granted self.now.content handle key stream level }
-    {
-        let handles = self.handles.as_slice();
-        let others = is_open_by_others(handles, handle, key, stream);
-        let locked = self.handles.locks_of(stream).len() != 0;
-        let tree = Tree {
-            table: &self.table,
-            links: &self.links,
-            streams: &self.streams,
-            handles: &self.handles,
-        };
-        let opened = Opened {
-            handle,
-            key,
-            stream,
-        };
-        is_refused_among(
-            &tree,
-            opened,
-            level,
-            others,
-            locked,
-            self.oplocks.as_slice(),
-        )
-    }
-
     /// Grants an oplock of this level to a handle on its stream, unless it is refused; the call that is
     /// pending under this turn, or will be, is its own. Oplocks of handles of the same key on the stream
     /// end, and the calls that are pending as granted with them. The handle has to have a stream. Room has
-    /// to be reserved for one oplock on it, and for the ends of these calls.
+    /// to be reserved for one oplock on it, and for the ends of these calls; what was reserved for oplocks on
+    /// other streams stays.
     pub fn grant(&mut self, handle: u64, level: Level, turn: u64) -> Grant
         requires stream { IsSome (stream_of_handle self.old.content handle) }
         requires room { ForSome (stream_of_handle self.old.content handle) (λ stream. 1 ≤ room_for self.old.spare.oplocks stream) }
@@ -113,6 +92,7 @@ impl Volume {
         ensures beside { self.new.beside ≡ self.old.beside }
         ensures others { self.new.spare ≡ record self.old.spare { oplocks = self.new.spare.oplocks; ends = self.new.spare.ends } }
         ensures left { ForSome (stream_of_handle self.old.content handle) (λ stream. room_for self.old.spare.oplocks stream ≤ room_for self.new.spare.oplocks stream + 1) }
+        ensures kept { (stream other : ℕ) → stream_of_handle self.old.content handle ≡ Some stream → (other == stream) ≡ false → room_for self.old.spare.oplocks other ≤ room_for self.new.spare.oplocks other }
         ensures ends_left { ForSome (stream_of_handle self.old.content handle) (λ stream. self.old.spare.ends ≤ self.new.spare.ends + length (switched self.old.content handle (key_of_handle self.old.content handle) stream)) }
         ensures ends { KeepsEnds self.old self.new }
     {
@@ -144,6 +124,24 @@ impl Volume {
         })
     }
 
+    // Whether no oplock of this level is granted to a handle with this key on its stream. Those on the stream
+    // are set aside.
+    fn is_not_granted(&mut self, handle: u64, key: u64, stream: u64, level: Level) -> bool
+        ensures refused { result ≡ is_not_granted self.old.content handle key stream level }
+        ensures same { self.new ≡ self.old }
+    {
+        let others = is_open_by_others(self.handles.as_slice(), handle, key, stream);
+        let locked = self.handles.locks_of(stream).len() != 0;
+        let tree = Tree {
+            table: &self.table,
+            links: &self.links,
+            streams: &self.streams,
+            handles: &self.handles,
+        };
+        self.oplocks.choose_on(&tree, stream);
+        is_refused(handle, key, level, others, locked, self.oplocks.chosen())
+    }
+
     // Grants an oplock that isn't refused.
     fn grant_to(&mut self, opened: Opened, level: Level, turn: u64)
         requires stream { stream_of_handle self.old.content opened.handle ≡ Some opened.stream }
@@ -156,6 +154,7 @@ impl Volume {
         ensures beside { self.new.beside ≡ self.old.beside }
         ensures others { self.new.spare ≡ record self.old.spare { oplocks = self.new.spare.oplocks; ends = self.new.spare.ends } }
         ensures left { room_for self.old.spare.oplocks opened.stream ≤ room_for self.new.spare.oplocks opened.stream + 1 }
+        ensures kept { (other : ℕ) → (other == opened.stream) ≡ false → room_for self.new.spare.oplocks other ≡ room_for self.old.spare.oplocks other }
         ensures ends_left { self.old.spare.ends ≤ self.new.spare.ends + length (switched self.old.content opened.handle opened.key opened.stream) }
         ensures ends { KeepsEnds self.old self.new }
     {
@@ -165,9 +164,11 @@ impl Volume {
             streams: &self.streams,
             handles: &self.handles,
         };
-        self.oplocks.choose_switched(&tree, opened);
+        self.oplocks
+            .choose_switched(&tree, opened.stream, opened.handle, opened.key);
         switch_chosen(&mut self.oplocks, &mut self.pending, &mut self.ended);
-        self.oplocks.grant(opened.handle, opened.key, level, turn);
+        self.oplocks
+            .grant(opened.stream, opened.handle, opened.key, level, turn);
     }
 
     /// Answers the break in progress on a handle: what is in this level and in the one that it was told

@@ -8,6 +8,8 @@ ghost use Rattle.fsa_model.specs.Lookups.{has_left};
 ghost use Rattle.fsa_model.specs.Setup.{setup_of};
 ghost use Rattle.fsa_model.specs.Volume.{fresh, root};
 ghost use Rattle.volume_state.specs.Room.{HasRoom, IsNoLess};
+ghost use Rattle.volume_tables.specs.HandleTable.{stream_of_handle};
+ghost use Rattle.volume_tables.specs.Rooms.{room_in};
 
 use crate::growth::space_of_root;
 use fsa_types::{Client, ClientList, EndOf, NoMemory, Setup, UpcaseTable};
@@ -135,7 +137,7 @@ impl Volume {
         self.ended.reserve(need.ends as usize)?;
         let (units, dirs) = (need.units as usize, need.dirs as usize);
         self.changes.reserve(need.changes as usize, units, dirs)?;
-        self.oplocks.reserve(need.oplocks)?;
+        reserve_oplocks(&mut self.oplocks, &self.handles, need.handle, need.oplocks)?;
         let (calls, blockers) = (need.pending as usize, need.blockers as usize);
         self.pending.reserve(calls, blockers)?;
         self.watches.reserve(need.watches as usize)?;
@@ -192,6 +194,32 @@ impl Volume {
     {
         self.left[client as usize] = true;
     }
+}
+
+// Takes room for so many oplocks on the stream of a handle; where there is no such handle, or it has no stream,
+// none.
+fn reserve_oplocks(
+    oplocks: &mut Oplocks,
+    handles: &HandleTable,
+    handle: u64,
+    more: u32,
+) -> Result<(), NoMemory>
+    ensures rows { oplocks.new ≡ record oplocks.old { rooms = oplocks.new.rooms } }
+    ensures room { OnOk result ((stream : ℕ) → stream_of_handle handles.now.rows handle ≡ Some stream → more ≤ room_in oplocks.new.rooms stream) }
+    ensures kept { (other : ℕ) → room_in oplocks.old.rooms other ≤ room_in oplocks.new.rooms other }
+{
+    let Some(stream) = stream_of(handles, handle) else {
+        return Ok(());
+    };
+    oplocks.reserve(stream, more)
+}
+
+// The stream of a handle, where it has one.
+fn stream_of(handles: &HandleTable, handle: u64) -> Option<u64>
+    ensures { result ≡ stream_of_handle handles.now.rows handle }
+{
+    let row = handles.get(handle)?;
+    row.stream
 }
 
 // The root directory.

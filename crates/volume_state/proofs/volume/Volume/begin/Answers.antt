@@ -85,9 +85,9 @@ returns-clause-waited c =
 
 pub returns-clause-others : goal.returns-clause-others
 returns-clause-others c =
-    let room : c.await_breaks.new.self.room ≡ c.self.inside.oplocks.room
-    = ap (λ (held : Held). held.room) c.await_breaks.ensures.waited ∙ ap (λ (held : Held). held.room) c.break_chosen.ensures.others ∙ ap (λ (held : Held). held.room) c.choose.ensures in
-    rw (← c.self.view_is, room, c.break_chosen.ensures.room.0, c.break_chosen.ensures.room.1)
+    let rooms : c.await_breaks.new.self.rooms ≡ c.self.inside.oplocks.rooms
+    = ap (λ (held : Held). held.rooms) c.await_breaks.ensures.waited ∙ ap (λ (held : Held). held.rooms) c.break_chosen.ensures.others ∙ ap (λ (held : Held). held.rooms) c.choose.ensures in
+    rw (← c.self.view_is, rooms, c.break_chosen.ensures.room.0, c.break_chosen.ensures.room.1)
 
 pub returns-clause-left : goal.returns-clause-left
 returns-clause-left c = rw (← c.self.view_is) (rw c.choose.ensures at c.break_chosen.ensures.left)
