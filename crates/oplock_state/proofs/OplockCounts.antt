@@ -1,14 +1,13 @@
--- How many oplocks breaks, switches and answers leave, that no more handles are chosen than there are oplocks,
--- and that a grant takes all of its key out before.
-use Rattle.std.proofs.Common.{◌≡◌, ℕ, zero, suc, ◌+◌, ◌-◌, ◌<◌, ◌≤◌, Bool, true, false, not, List, [], ◌∷◌, ◌++◌, length, get_or, refl, sym, subst, ◌∙◌, arith, inl, inr, ◌⊎◌}
+-- How many oplocks breaks, switches and answers leave, and that no more handles are chosen than there are oplocks.
+use Rattle.std.proofs.Common.{◌≡◌, ℕ, zero, suc, ◌+◌, ◌-◌, ◌<◌, ◌≤◌, Bool, true, false, not, List, [], ◌∷◌, ◌++◌, length, get_or, refl, sym, ◌∙◌, arith, inl, inr}
 use Rattle.std.specs.List.{list_any, All}
 use Rattle.std.specs.Prelude.{◌==◌, ◌&&◌, min}
 use Rattle.std.proofs.lemmas.Bool.{cases_Bool, eq-eqb, eqb-true, both_ways}
 use Rattle.std.proofs.lemmas.List.{length-map}
-use Rattle.std.proofs.lemmas.List.Elements.{All-filter, All-push}
+use Rattle.std.proofs.lemmas.List.Elements.{All-push}
 use Rattle.std.proofs.lemmas.List.Quantifiers.{all_pairs_push}
 use Rattle.fsa_types.proofs.RowLemmas.{length-filter_le}
-use Rattle.fsa_types.specs.OplockGrants.{after_answer, after_switches, as_answered, is_of_key, switched_among}
+use Rattle.fsa_types.specs.OplockGrants.{after_answer, after_switches, as_answered}
 use Rattle.fsa_types.specs.OplockLists.{OplockState, after_breaks, after_effect, begun, effect_on, left_by, lowered, without_oplock_of}
 use Rattle.fsa_types.specs.Oplocks.{Begins, Effect, Ends, Lowers, Oplock, Stays, has_read}
 use Rattle.fsa_types.specs.declared.oplock.Class.{Class}
@@ -49,16 +48,15 @@ answer-few handle level turn rows = elim (cases_Bool (has_read level)) [
 
 -- ---- the room
 
-pub room-kept : (list list' marked marked' told told' rows rows' : ℕ) → list ≤ list' → marked ≤ marked' → told ≤ told' → rows' ≤ rows
-    → min list (min (marked - rows) (told - rows)) ≤ min list' (min (marked' - rows') (told' - rows'))
-room-kept list list' marked marked' told told' rows rows' a b c d = omega arith
+pub room-kept : (list list' marked marked' rows rows' : ℕ) → list ≤ list' → marked ≤ marked' → rows' ≤ rows → min list (marked - rows) ≤ min list' (marked' - rows')
+room-kept list list' marked marked' rows rows' a b c = omega arith
 
-pub room-used : (list list' marked marked' told rows rows' : ℕ) → list ≤ list' + 1 → marked ≤ marked' → rows' ≤ rows + 1
-    → min list (min (marked - rows) (told - rows)) ≤ min list' (min (marked' - rows') (told - rows')) + 1
-room-used list list' marked marked' told rows rows' a b c = omega arith
+pub room-used : (list list' marked marked' rows rows' : ℕ) → list ≤ list' + 1 → marked ≤ marked' → rows' ≤ rows + 1
+    → min list (marked - rows) ≤ min list' (marked' - rows') + 1
+room-used list list' marked marked' rows rows' a b c = omega arith
 
-pub room-there : (list marked told rows : ℕ) → 1 ≤ min list (min (marked - rows) (told - rows)) → (rows + 1 ≤ marked) × (rows + 1 ≤ told)
-room-there list marked told rows some = (omega arith, omega arith)
+pub room-there : (list marked rows : ℕ) → 1 ≤ min list (marked - rows) → rows + 1 ≤ marked
+room-there list marked rows some = omega arith
 
 -- ---- no more handles are chosen than there are oplocks
 
@@ -113,48 +111,3 @@ fresh-parts false b fresh = cc
 
 pub marks-none : (rows : List Oplock) → AreMarks [] rows
 marks-none rows = record { differ = λ i j d below within. absurd (omega arith); each = λ k d within. absurd (omega arith) }
-
--- ---- none of a key stays before a grant
-
-abbrev NoneOf : ℕ → List Oplock → Type 0
-NoneOf handle rows = All (λ (o : Oplock). (o.handle == handle) ≡ false) rows
-
-stay-none : (handle : ℕ) (switched rows : List Oplock) → NoneOf handle rows → NoneOf handle (after_switches rows switched)
-stay-none handle [] rows none = none
-stay-none handle (o ∷ switched) rows none =
-    stay-none handle switched (without_oplock_of o.handle rows) (All-filter (λ (x : Oplock). not (x.handle == o.handle)) (λ (x : Oplock). (x.handle == handle) ≡ false) rows none)
-
-dropped-none : (handle : ℕ) (rows : List Oplock) → NoneOf handle (without_oplock_of handle rows)
-dropped-none handle [] = λ k d within. absurd (omega arith)
-dropped-none handle (o ∷ rows) = elim (cases_Bool (o.handle == handle)) [
-  | inl here ↦ rw here (dropped-none handle rows)
-  | inr other ↦ rw other (first (dropped-none handle rows) other)
-]
-  where
-    first : NoneOf handle (without_oplock_of handle rows) → (o.handle == handle) ≡ false → NoneOf handle (o ∷ without_oplock_of handle rows)
-    first rest other zero d within = other
-    first rest other (suc k) d within = rest k d (omega arith)
-
-gone-none : (handle : ℕ) (switched rows : List Oplock) → has_oplock handle switched ≡ true → NoneOf handle (after_switches rows switched)
-gone-none handle [] rows some = cc
-gone-none handle (o ∷ switched) rows some = elim (cases_Bool (o.handle == handle)) [
-  | inl here ↦ (let same : o.handle ≡ handle = eqb-true o.handle handle here in
-      stay-none handle switched (without_oplock_of o.handle rows) (subst (λ (h : ℕ). NoneOf handle (without_oplock_of h rows)) (sym same) (dropped-none handle rows)))
-  | inr other ↦ gone-none handle switched (without_oplock_of o.handle rows) (rw other at some)
-]
-
-pub none-left : (handle key : ℕ) (rows : List Oplock) → NoneOf handle (after_switches rows (switched_among (λ _. true) handle key rows))
-none-left handle key rows = elim (cases_Bool (has_oplock handle (switched_among (λ _. true) handle key rows))) [
-  | inl some ↦ gone-none handle (switched_among (λ _. true) handle key rows) rows some
-  | inr none ↦ stay-none handle (switched_among (λ _. true) handle key rows) rows (none-all (λ (o : Oplock). o.handle == handle) rows (no_other none (cases_Bool (has_oplock handle rows))))
-]
-  where
-    its : (o : Oplock) → (o.handle == handle) ≡ true → is_of_key handle key o ≡ true
-    its o is =
-        let same : o.handle ≡ handle = eqb-true o.handle handle is in
-        rw (same, eq-eqb handle handle refl) refl
-
-    no_other : has_oplock handle (switched_among (λ _. true) handle key rows) ≡ false → (has_oplock handle rows ≡ true) ⊎ (has_oplock handle rows ≡ false) → has_oplock handle rows ≡ false
-    no_other none (inr is) = is
-    no_other none (inl some) =
-        absurd (both_ways _ none (any-filter (λ (o : Oplock). o.handle == handle) (λ (o : Oplock). is_of_key handle key o) rows its some))

@@ -7,8 +7,8 @@ use Rattle.fsa_types.specs.Sorting.{in_order}
 use Rattle.fsa_types.specs.declared.request.Level.{Level}
 use Rattle.oplock_state.specs.declared.stream_oplocks.Grant.{Grant}
 use Rattle.oplock_state.specs.declared.stream_oplocks.Grant.TheVariants as grant
-use Rattle.oplock_state.specs.declared.telling.Told.{Told}
 use Rattle.volume_breaks.specs.Marks.{is_marked, is_opened_before}
+use Rattle.volume_breaks.specs.declared.telling.Told.{Told}
 
 -- the oplocks, in the order in which they were granted; the number of the last break that began; how many more
 -- oplocks can be put in without taking memory; the handles that are chosen for the next break; the oplocks that

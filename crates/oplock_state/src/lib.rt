@@ -5,10 +5,14 @@
 //! ```text
 //! oplocks.reserve(1)?;                                  // may be refused
 //! oplocks.grant(handle, key, level, turn, false, false) // takes no memory; Granted or Refused
+//! for place in 0..oplocks.taken_len() {
+//!     oplocks.taken(place);                             // an oplock that it switched: its call ends
+//! }
 //! oplocks.choose(handle);                               // for the next break
 //! oplocks.begin(Class::ReadOpen, key, None, first);     // breaks are numbered from `first`
 //! for place in 0..oplocks.told_len() {
-//!     oplocks.told(place);                              // the handle, the level that may stay, and whether to answer
+//!     oplocks.told(place);                              // the handle, the level that may stay, whether to answer,
+//!                                                       // and the call that ends
 //! }
 //! oplocks.waits(0);                                     // the number of a break that the request waits for
 //! oplocks.ack(handle, level, turn);                     // what stays, and the break that has ended
@@ -26,9 +30,7 @@
 //! - Each call takes time linear in the oplocks, and `begin` time square in those that it breaks.
 #![tactic(auto)]
 
-mod refusing;
 mod stream_oplocks;
-mod telling;
 
 pub use stream_oplocks::{Grant, StreamOplocks};
-pub use telling::Told;
+pub use volume_breaks::Told;

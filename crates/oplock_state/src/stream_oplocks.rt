@@ -8,14 +8,12 @@ ghost use Rattle.fsa_types.specs.OplockGrants.{after_answer, target_among};
 ghost use Rattle.fsa_types.specs.OplockLists.{after_breaks, awaited_among, number_of_break, without_oplock_of};
 ghost use Rattle.fsa_types.specs.Oplocks.{in_both};
 ghost use Rattle.oplock_state.specs.State.{Grants, has_oplock, taken_up};
-ghost use Rattle.oplock_state.specs.Told.{told_all};
+ghost use Rattle.volume_breaks.specs.Told.{told_all};
 
-use crate::refusing::is_refused;
-use crate::telling::{Told, break_chosen, drop_chosen};
 use fsa_types::{Class, Level, NoMemory};
 use std::alloc::Global;
 use std::marker::Model;
-use volume_breaks::Oplocks;
+use volume_breaks::{Oplocks, Told, break_oplocks, drop_chosen, is_refused};
 use volume_rows::{OplockRow, find_break, find_target, in_both, is_oplock_of};
 
 /// Whether an oplock was granted.
@@ -34,27 +32,30 @@ pub struct StreamOplocks {
     list: Oplocks,
     // The handles that are chosen, each once, and each with an oplock.
     marked: Vec<u64>,
-    told: Vec<Told>,
 }
+
+// The stream of which room is promised in the list, which has no other.
+const OWN: u64 = 0;
 
 impl Model for StreamOplocks {
     ghost use Rattle.std.specs.Prelude.{◌-◌, ◌≤◌, length, min};
     ghost use Rattle.std.specs.Vec.{vec_capacity};
     ghost use Rattle.oplock_state.specs.State.{AreMarks, State};
+    ghost use Rattle.volume_tables.specs.Rooms.{room_in};
 
     ghost Value = { State };
 
     ghost view = { λ o. record {
       rows = o.list.rows;
       last = o.list.last;
-      room = min o.list.room (min (vec_capacity o.marked - length o.list.rows) (vec_capacity o.told - length o.list.rows));
+      room = min (room_in o.list.rooms 0) (vec_capacity o.marked - length o.list.rows);
       marked = o.marked.items;
       taken = o.list.chosen;
-      told = o.told.items;
+      told = o.list.told;
       waited = o.list.waited;
     } };
 
-    ghost invariant = { λ o. (length o.list.rows ≤ vec_capacity o.marked) × (length o.list.rows ≤ vec_capacity o.told) × AreMarks o.marked.items o.list.rows };
+    ghost invariant = { λ o. (length o.list.rows ≤ vec_capacity o.marked) × AreMarks o.marked.items o.list.rows };
 }
 
 impl StreamOplocks {
@@ -67,7 +68,6 @@ impl StreamOplocks {
         StreamOplocks {
             list: Oplocks::new(alloc),
             marked: Vec::new(alloc),
-            told: Vec::new(alloc),
         }
     }
 
@@ -78,10 +78,9 @@ impl StreamOplocks {
         ensures room { OnOk result (more ≤ self.new.room) }
         ensures kept { self.old.room ≤ self.new.room }
     {
-        self.list.reserve(more)?;
+        self.list.reserve(OWN, more)?;
         let in_all = self.list.len() as usize + more as usize;
-        reserve_for(&mut self.marked, in_all)?;
-        reserve_for(&mut self.told, in_all)
+        reserve_for(&mut self.marked, in_all)
     }
 
     /// All oplocks, in the order in which they were granted.
@@ -114,7 +113,7 @@ impl StreamOplocks {
         self.marked.clear();
         self.list.choose_of_key(handle, key);
         drop_chosen(&mut self.list);
-        self.list.grant(handle, key, level, turn);
+        self.list.grant(OWN, handle, key, level, turn);
         Grant::Granted
     }
 
@@ -163,24 +162,39 @@ impl StreamOplocks {
         self.list.number_from(first);
         self.list.choose_marked(&self.marked, acting, key);
         self.marked.clear();
-        self.told.clear();
-        break_chosen(&mut self.list, &mut self.told, class);
+        break_oplocks(&mut self.list, class);
         self.list.await_breaks(class);
+    }
+
+    /// How many oplocks the last break or grant took up.
+    pub fn taken_len(&self) -> usize
+        ensures { result ≡ length self.now.taken }
+    {
+        self.list.chosen_len()
+    }
+
+    /// The oplock that the last break or grant took up at this place, as it was. What a grant took up it switched,
+    /// and the call of each ends.
+    pub fn taken(&self, place: usize) -> OplockRow
+        requires { place < length self.now.taken }
+        ensures { result ≡ slice_index_or self.now.taken place result }
+    {
+        self.list.chosen_at(place)
     }
 
     /// How many holders the last break told.
     pub fn told_len(&self) -> usize
         ensures { result ≡ length self.now.told }
     {
-        self.told.len()
+        self.list.told().len()
     }
 
-    /// Whom the last break told at this place, and what.
+    /// Whom the last break told at this place, and what; the call of each ends.
     pub fn told(&self, place: usize) -> Told
         requires { place < length self.now.told }
         ensures { result ≡ slice_index_or self.now.told place result }
     {
-        self.told[place]
+        self.list.told()[place]
     }
 
     /// For how many breaks the last break waits.
