@@ -1,5 +1,5 @@
 -- A grant of an oplock and an answer to a break leave a volume sound, and what calls wait for.
-use Rattle.std.proofs.Common.{◌≡◌, ℕ, zero, suc, ◌≤◌, Bool, true, false, not, List, [], ◌∷◌, length, get_or, refl, ap, sym, subst, ◌∙◌, arith, inl, inr, ◌⊎◌, Option, Some, None}
+use Rattle.std.proofs.Common.{◌≡◌, ℕ, ◌≤◌, Bool, true, false, not, List, [], ◌∷◌, length, get_or, refl, ap, sym, ◌∙◌, inl, inr, ◌⊎◌, Option, Some, None}
 use Rattle.std.specs.List.{list_any, All}
 use Rattle.std.specs.Option.{option_map_or}
 use Rattle.std.specs.Prelude.{◌==◌, ◌&&◌, ◌||◌, map}
@@ -25,9 +25,8 @@ use Rattle.fsa_model.specs.Volume.{Handle, Lock, Oplock, Volume}
 use Rattle.fsa_model.specs.Waiting.{blocker_lives, is_breaking}
 use Rattle.fsa_model.proofs.BreakLaws.{IsSound-with_end}
 use Rattle.fsa_model.proofs.GrantLaws.{all_switched, lives-granted, oplocks-call_ended, old-switched}
-use Rattle.fsa_model.proofs.RowLaws.{any-filter, none-all, option_cases, or-false}
+use Rattle.fsa_model.proofs.RowLaws.{option_cases, or-false}
 use Rattle.fsa_model.proofs.SoundWaits.{IsSound-touched, IsSound-without_oplock}
-use Rattle.fsa_model.proofs.WaitLaws.{is_of}
 use Rattle.volume_breaks.proofs.GrantLemmas.{AreOplocks-after_answer, NoneOf, none-left}
 use Rattle.volume_breaks.proofs.ReleaseLemmas.{held-equal}
 use Rattle.volume_breaks.specs.Calls.{AreHeld, Calls, LoseBlockers, is_break_of}
