@@ -1,16 +1,14 @@
 -- What stands at a place among entries, told by what fails and passes before it and behind it.
-use Rattle.std.proofs.Common.{◌≡◌, ℕ, zero, suc, ◌+◌, ◌<◌, ◌≤◌, Bool, true, false, not, List, [], ◌∷◌, length, get_or, refl, ap, sym, arith, Some, None}
+use Rattle.std.proofs.Common.{◌≡◌, ℕ, zero, suc, ◌+◌, ◌<◌, ◌≤◌, Bool, true, false, not, List, [], ◌∷◌, length, get_or, refl, ap, sym, arith, inl, inr, Some, None}
 use Rattle.std.specs.List.{All, AllPairs, AllWithin, HoldsAt, filter, find, insert, remove, slice_get}
+use Rattle.std.proofs.lemmas.Bool.{cases_Bool}
 use Rattle.std.proofs.lemmas.List.Elements.{All-cons}
 use Rattle.std.proofs.lemmas.List.Kept.{AllPairs-cons}
 use Rattle.std.specs.Fn.{Called, ReturnsEach, AlwaysReturns}
 use denote.Param.Members.{Mut}
 use Rattle.fsa_types.specs.Sorting.{put_in_order}
 
--- what holds within the rest of a list
-within-rest : {X : Type 0} (P : X → Type 0) (x : X) (xs : List X) (low high : ℕ) → AllWithin P (x ∷ xs) (suc low) (suc high) → AllWithin P xs low high
-within-rest P x xs low high all k d from below = all (suc k) d (omega arith) (omega arith)
-
+-- what holds up to a place holds of the rest up to there
 from-start : {X : Type 0} (P : X → Type 0) (x : X) (xs : List X) (high : ℕ) → AllWithin P (x ∷ xs) 0 (suc high) → AllWithin P xs 0 high
 from-start P x xs high all k d from below = all (suc k) d (omega arith) (omega arith)
 
@@ -82,6 +80,19 @@ remove-here p (x ∷ xs) zero within before here after =
 remove-here p (x ∷ xs) (suc i) within before here after =
     let fails : p x ≡ false = before 0 x (omega arith) (omega arith) in
     rw fails (ap (λ rest. x ∷ rest) (remove-here p xs i (omega arith) (from-start (λ y. p y ≡ false) x xs i before) (λ d. here d) (λ k d from inside. after (suc k) d (omega arith) (omega arith))))
+
+-- none of those that are left passes
+pub filter-fails : {X : Type 0} (p : X → Bool) (xs : List X) → All (λ x. p x ≡ false) (filter (λ x. not (p x)) xs)
+filter-fails p [] = λ k d within. absurd (omega arith)
+filter-fails p (x ∷ xs) = elim (cases_Bool (p x)) [
+  | inl passes ↦ rw passes (filter-fails p xs)
+  | inr fails ↦ rw fails (All-cons (λ y. p y ≡ false) x (filter (λ y. not (p y)) xs) fails (filter-fails p xs))
+]
+
+-- the first that passes is the first of those that pass
+pub find-filter : {X : Type 0} (p : X → Bool) (xs : List X) → find p xs ≡ slice_get (filter p xs) 0
+find-filter p [] = refl
+find-filter p (x ∷ xs) = elim (cases_Bool (p x)) [ inl passes ↦ rw passes refl | inr fails ↦ rw fails (find-filter p xs) ]
 
 -- ---- what is read at a place
 

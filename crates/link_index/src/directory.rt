@@ -124,6 +124,7 @@ impl Directory {
         ensures entries { self.new.entries ≡ without_name table.now self.old.entries name.now }
         ensures room { self.old.room + length self.old.entries ≡ self.new.room + length self.new.entries }
         ensures still_ordered { AreInOrder table.now self.new.entries }
+        ensures is_new { IsNew table.now name.now self.new.entries }
     {
         match self.take(table, name) {
             Some((_, link)) => Some(link),
@@ -139,6 +140,7 @@ impl Directory {
         ensures entries { self.new.entries ≡ without_name table.now self.old.entries name.now }
         ensures room { self.old.room + length self.old.entries ≡ self.new.room + length self.new.entries }
         ensures still_ordered { AreInOrder table.now self.new.entries }
+        ensures is_new { IsNew table.now name.now self.new.entries }
     {
         match place_of(&self.entries, table, name) {
             Ok(place) => Some(self.entries.remove(place)),
