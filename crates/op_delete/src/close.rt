@@ -63,6 +63,7 @@ fn mark_and_sweep(volume: &mut Volume, handle: &HandleRow)
     ensures content { volume.new.content ≡ with_swept (with_mark_on_close volume.old.content handle.now) handle.now }
     ensures rest { volume.new.content ≡ record volume.old.content { files = volume.new.content.files; links = volume.new.content.links; streams = volume.new.content.streams; changes = volume.new.content.changes } }
     ensures kept { volume.new.spare.ends ≡ volume.old.spare.ends }
+    ensures pending_kept { volume.new.spare.pending ≡ volume.old.spare.pending }
     ensures left { KeepsRoom volume.old.content handle.now volume.old.spare volume.new.spare }
     ensures notes { NotesTakeNoMore volume.old.content volume.new.content }
 {

@@ -109,6 +109,7 @@ fn need_to_leave(volume: &Volume, client: u32) -> Option<Need>
 fn room_to_leave(volume: &mut Volume, client: u32) -> Result<(), NoMemory>
     ensures content { volume.new.content ≡ volume.old.content }
     ensures kept { volume.old.spare.ends ≤ volume.new.spare.ends }
+    ensures pending_kept { volume.old.spare.pending ≤ volume.new.spare.pending }
     ensures ends { OnOk result (length volume.new.content.pending ≤ volume.new.spare.ends) }
     ensures room { OnOk result (HasRoomForAll volume.new.content volume.new.spare (handles_of_client volume.new.content client)) }
 {

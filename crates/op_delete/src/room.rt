@@ -64,6 +64,7 @@ fn need_to_close(volume: &Volume, handle: &HandleRow) -> Option<Need>
 pub fn room_to_close(volume: &mut Volume, handle: &HandleRow) -> Result<(), NoMemory>
     ensures content { volume.new.content ≡ volume.old.content }
     ensures kept { volume.old.spare.ends ≤ volume.new.spare.ends }
+    ensures pending_kept { volume.old.spare.pending ≤ volume.new.spare.pending }
     ensures ends { OnOk result (length volume.new.content.pending ≤ volume.new.spare.ends) }
     ensures room { OnOk result (HasSweepRoom volume.new.content volume.new.spare handle.now) }
 {

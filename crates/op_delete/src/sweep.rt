@@ -76,6 +76,7 @@ fn sweep_link(volume: &mut Volume, link: u64)
     ensures content { volume.new.content ≡ with_link_swept volume.old.content link }
     ensures rest { volume.new.content ≡ record volume.old.content { files = volume.new.content.files; links = volume.new.content.links; streams = volume.new.content.streams; changes = volume.new.content.changes } }
     ensures kept { volume.new.spare.ends ≡ volume.old.spare.ends }
+    ensures pending_kept { volume.new.spare.pending ≡ volume.old.spare.pending }
     ensures changes { volume.old.spare.changes ≤ volume.new.spare.changes + 1 }
     ensures units { volume.old.spare.units ≤ volume.new.spare.units + units_noted volume.old.content link None }
     ensures dirs { volume.old.spare.dirs ≤ volume.new.spare.dirs + dirs_noted volume.old.content link None }
@@ -95,6 +96,7 @@ pub fn sweep(volume: &mut Volume, handle: &HandleRow)
     ensures content { volume.new.content ≡ with_swept volume.old.content handle.now }
     ensures rest { volume.new.content ≡ record volume.old.content { files = volume.new.content.files; links = volume.new.content.links; streams = volume.new.content.streams; changes = volume.new.content.changes } }
     ensures kept { volume.new.spare.ends ≡ volume.old.spare.ends }
+    ensures pending_kept { volume.new.spare.pending ≡ volume.old.spare.pending }
     ensures left { KeepsRoom volume.old.content handle.now volume.old.spare volume.new.spare }
     ensures notes { NotesTakeNoMore volume.old.content volume.new.content }
 {
