@@ -84,8 +84,8 @@ impl Write for Reluctant {
     }
 }
 
-// The status, and what is written, over memory.
-fn over_memory(
+/// The status, and what is written, over memory, where these calls of the source and of the sink fail.
+pub fn over_memory(
     alloc: Global,
     script: &[u8],
     piece: usize,
@@ -98,8 +98,8 @@ fn over_memory(
     Ok((status, Vec::from_slice(alloc, sink.bytes())?))
 }
 
-// The same, where the sink's call with this number takes nothing.
-fn over_reluctant(
+/// The same, where the sink's call with this number takes nothing.
+pub fn over_reluctant(
     alloc: Global,
     script: &[u8],
     piece: usize,
