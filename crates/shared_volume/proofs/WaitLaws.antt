@@ -27,7 +27,7 @@ use Rattle.history_laws.proofs.WaitRuns.{waits-end}
 use Rattle.history_lock.specs.History.{calls_by}
 use Rattle.shared_volume.specs.Histories.{IsHistory}
 use Rattle.shared_volume.proofs.HistoryLaws.{numbered-differ}
-use Rattle.shared_volume.specs.Shared.{EndedWithList, EndsInWait, IsStatusOfWait, call_of, client_of, has_leaving}
+use Rattle.shared_volume.specs.Shared.{EndedWithList, EndsInWait, IsStatusOfWait, Known, OnlySees, call_of, client_of, has_leaving}
 
 -- ---- the last call of a client in a history
 
@@ -56,13 +56,14 @@ has_last client (entry ∷ entries) calls call is = elim (cases_Bool (entry.call
     before = rw other rest.before;
     none = rest.none;
   })
-  | inl own ↦ by calls (rw own at is) own
+  | inl own ↦ by (λ calls is. has_last client entries calls call is) calls (rw own at is) own
 ]
   where
-    by : (calls : List Call) → entry.call ∷ mine_in client entries ≡ calls ++ call ∷ [] → (entry.call.client == client) ≡ true → HasLast client (entry ∷ entries) calls call
-    by [] is own = record { front = []; entry = entry; later = entries; is = refl; called = (let f : entry.call ∷ mine_in client entries ≡ call ∷ [] = is in cc); before = refl; none = (let f : entry.call ∷ mine_in client entries ≡ call ∷ [] = is in cc) }
-    by (one ∷ calls) is own = (let first : entry.call ≡ one = (let f : entry.call ∷ mine_in client entries ≡ one ∷ (calls ++ call ∷ []) = is in cc) in
-        let rest = has_last client entries calls call (let f : entry.call ∷ mine_in client entries ≡ one ∷ (calls ++ call ∷ []) = is in cc) in record {
+    by : ((calls : List Call) → mine_in client entries ≡ calls ++ call ∷ [] → HasLast client entries calls call)
+        → (calls : List Call) → entry.call ∷ mine_in client entries ≡ calls ++ call ∷ [] → (entry.call.client == client) ≡ true → HasLast client (entry ∷ entries) calls call
+    by more [] is own = record { front = []; entry = entry; later = entries; is = refl; called = (let f : entry.call ∷ mine_in client entries ≡ call ∷ [] = is in cc); before = refl; none = (let f : entry.call ∷ mine_in client entries ≡ call ∷ [] = is in cc) }
+    by more (one ∷ calls) is own = (let first : entry.call ≡ one = (let f : entry.call ∷ mine_in client entries ≡ one ∷ (calls ++ call ∷ []) = is in cc) in
+        let rest = more calls (let f : entry.call ∷ mine_in client entries ≡ one ∷ (calls ++ call ∷ []) = is in cc) in record {
           front = entry ∷ rest.front;
           entry = rest.entry;
           later = rest.later;
@@ -146,3 +147,22 @@ no-list_of_wait setup seen mine client number history own last list =
     otherwise status (Packed kind bytes) holds = never (wait_may_end (has_leaving mine) false status)
     otherwise status (Stopped tag bytes rest) holds = never (wait_may_end (has_leaving mine) false status)
     otherwise status _ holds = absurd (let impossible : false ≡ true = holds in cc)
+
+-- ---- what a pass knows later, while it makes no call
+
+later-wait : (v w : Known) (number : ℕ) → OnlySees v w → EndsInWait v.own.mine v.own.client number → EndsInWait w.own.mine w.own.client number
+later-wait v w number sees last =
+    let client : w.own.client ≡ v.own.client = ap (λ (z : Known). z.own.client) sees.view in
+    let mine : w.own.mine ≡ v.own.mine = ap (λ (z : Known). z.own.mine) sees.view in
+    record { before = last.before; earlier = last.earlier; is = rw (client, mine) last.is }
+
+pub status-later : (setup : Setup) (v w : Known) (number : ℕ) (reply : Reply) → OnlySees v w → IsHistory setup w.own.seen → w.own.mine ≡ mine_in w.own.client w.own.seen → EndsInWait v.own.mine v.own.client number
+    → HasEnded setup w.own.seen w.own.client number reply → IsStatusOfWait v.own.mine reply.status
+status-later setup v w number reply sees history own last ended =
+    let mine : w.own.mine ≡ v.own.mine = ap (λ (z : Known). z.own.mine) sees.view in
+    let few : IsStatusOfWait w.own.mine reply.status = status-of_wait setup w.own.seen w.own.mine w.own.client number reply history own (later-wait v w number sees last) ended in
+    subst (λ (calls : List Call). IsStatusOfWait calls reply.status) mine few
+
+pub no-list-later : (setup : Setup) (v w : Known) (number : ℕ) → OnlySees v w → IsHistory setup w.own.seen → w.own.mine ≡ mine_in w.own.client w.own.seen → EndsInWait v.own.mine v.own.client number
+    → EndedWithList setup w.own.seen w.own.client number → ⊥
+no-list-later setup v w number sees history own last list = no-list_of_wait setup w.own.seen w.own.mine w.own.client number history own (later-wait v w number sees last) list
