@@ -109,8 +109,7 @@ fn closed_history<R: Threads + Wait + Sync>(
 fn a_held_client_comes_last_in_the_history(rt: HostRuntime) -> Result<(), Fail> {
     for (held, first) in [(0u32, 1u32), (1, 0)] {
         let gate = Holding::new(held, 1 - held);
-        let machine =
-            closed_history(&rt, rt.alloc(), TWO.as_bytes(), &gate).ok_or("no history")?;
+        let machine = closed_history(&rt, rt.alloc(), TWO.as_bytes(), &gate).ok_or("no history")?;
         assert_eq!(rt; machine.len(), 4);
         if machine.len() > 0 {
             let call = machine.call_at(0);
@@ -191,6 +190,9 @@ fn race_of_64_clients(rt: HostRuntime) -> Result<(), Fail> {
     assert_eq!(rt; run(alloc, &mut source, &mut again)?, 0);
     let again = std::str::from_utf8(again.bytes()).map_err(|_| "no text")?;
     assert!(rt; again.ends_with("\nend 256\n"));
-    assert_eq!(rt; without_leavings(alloc, text)?, without_leavings(alloc, again)?);
+    assert_eq!(rt;
+        without_leavings(alloc, text)?,
+        without_leavings(alloc, again)?
+    );
     Ok(())
 }
