@@ -1,12 +1,11 @@
 -- Closes, leavings, unlocks, cancellations, watches, waits, oplocks and the clock leave a bare wait as it is, but for
 -- what its own client does to it.
-use Rattle.std.proofs.Common.{◌≡◌, ℕ, ◌+◌, ◌≤◌, Bool, true, false, not, List, [], ◌∷◌, length, refl, ap, sym, ◌∙◌, arith, inl, inr, Option, Some, None}
+use Rattle.std.proofs.Common.{◌≡◌, ℕ, ◌+◌, ◌≤◌, Bool, true, false, not, List, [], ◌∷◌, length, refl, sym, ◌∙◌, arith, inl, inr, Option, Some, None}
 use Rattle.std.specs.List.{filter, fold}
 use Rattle.std.specs.Option.{option_map_or}
 use Rattle.std.specs.Prelude.{◌==◌, ◌&&◌, ◌||◌, if◌then◌else◌, is_some, nat_lt, slice_index_or, slice_set}
 use Rattle.std.proofs.lemmas.Bool.{cases_Bool, eq-eqb, eqb-true}
 use Rattle.std.proofs.lemmas.List.{get_or-set_other}
-use Rattle.fsa_types.specs.Oplocks.{has_read, in_both}
 use Rattle.fsa_types.specs.Rows.{row_of}
 use Rattle.fsa_types.specs.declared.reply.Body.TheVariants.{Nothing}
 use Rattle.fsa_types.specs.declared.reply.Interim.TheVariants.{Granted}
@@ -21,19 +20,19 @@ use Rattle.fsa_types.specs.declared.status.Status.{Status}
 use Rattle.fsa_types.specs.declared.status.Status.TheVariants.{Cancelled, InvalidHandle, OplockSwitchedToNewHandle}
 use Rattle.fsa_model.specs.Close.{close_at, closed_status, handles_of_client, is_call_on, is_left_behind, is_link_of_parent, is_link_over, is_stream_over, name_bit, named_stream, names, pending_by_turn, try_close, try_leave, with_all_closed, with_calls_ended, with_client_gone, with_closed, with_link_swept, with_mark_on_close, with_stream_swept, with_swept}
 use Rattle.fsa_model.specs.Changes.{with_change_noted}
-use Rattle.fsa_model.specs.Edits.{is_call, is_lock_on, with_end, with_left, with_link_marked, with_stream_marked, with_ticks, with_watch, without_handle, without_lock, without_oplock, without_stream}
-use Rattle.fsa_model.specs.Grant.{ack_at, ack_with, is_not_granted, oplock_at, oplock_by, oplock_on, switched, target_of, try_ack, try_oplock, with_all_switched, with_call_ended, with_granted, with_level_kept, with_switched}
+use Rattle.fsa_model.specs.Edits.{is_call, with_end, with_link_marked, with_stream_marked, with_ticks, with_watch, without_handle, without_lock, without_oplock, without_stream}
+use Rattle.fsa_model.specs.Grant.{ack_at, ack_with, oplock_at, oplock_by, oplock_on, switched, try_ack, try_oplock, with_call_ended, with_granted, with_level_kept, with_switched}
 use Rattle.fsa_model.specs.Locking.{try_unlock, unlock_at, unlock_by, unlock_range}
-use Rattle.fsa_model.specs.Lookups.{handle_of, has_left, number_of}
+use Rattle.fsa_model.specs.Lookups.{has_left, number_of}
 use Rattle.fsa_model.specs.Once.{how_many, is_end}
-use Rattle.fsa_model.specs.Outcome.{Outcome, Done, Stay, Hold, refused}
+use Rattle.fsa_model.specs.Outcome.{Outcome, Done, Stay, refused}
 use Rattle.fsa_model.specs.Frame.{is_leave}
 use Rattle.fsa_model.specs.Try.{try, try_request, try_what}
 use Rattle.fsa_model.specs.Turn.{volume_after}
 use Rattle.fsa_model.specs.Volume.{Handle, Oplock, Pending, Volume}
-use Rattle.fsa_model.specs.Waiting.{has_ended, is_granted_under, is_pending, is_wait, try_cancel, try_wait, with_cancelled, with_oplock_given_up}
+use Rattle.fsa_model.specs.Waiting.{is_granted_under, is_wait, try_cancel, try_wait, with_oplock_given_up}
 use Rattle.fsa_model.specs.Watching.{notify_at, try_notify, with_watch_begun, with_watch_seen, watch_of}
-use Rattle.fsa_model.proofs.CountLaws.{and_left, and_right, and_true, how_many-filter, how_many-filter_le, how_many-in_order, how_many-weaker}
+use Rattle.fsa_model.proofs.CountLaws.{and_left, and_right, how_many-filter, how_many-filter_le, how_many-in_order, how_many-weaker}
 use Rattle.fsa_model.proofs.RowLaws.{option_cases}
 use Rattle.fsa_model.proofs.TryObeys.{has_own_laws}
 use Rattle.history_laws.proofs.SpareLaws.{IsBareWait, IsBareWait-fewer, Spares, Spares-end, Spares-if, Spares-next, Spares-noted, Spares-option, Spares-same, Spares-still, TriesSpare, filter-other_end, other_under, spare-done, spare-if, spare-option, spare-stays}

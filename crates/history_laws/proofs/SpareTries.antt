@@ -1,13 +1,9 @@
 -- No try ends another call that has no oplock, but for a close, a leaving, a cancellation and an oplock's request:
 -- each request's definition is followed once.
-use Rattle.std.proofs.Common.{◌≡◌, ℕ, ◌+◌, Bool, true, false, not, List, refl, inl, inr, Option, Some, None}
-use Rattle.std.specs.Prelude.{◌==◌, is_some}
+use Rattle.std.proofs.Common.{◌≡◌, ℕ, ◌+◌, Bool, true, false, List, refl, Option, Some, None}
+use Rattle.std.specs.Prelude.{◌==◌}
 use Rattle.fsa_types.specs.Masks.{FILE_ACTION_ADDED, FILE_ACTION_ADDED_STREAM, FILE_NOTIFY_CHANGE_DIR_NAME, FILE_NOTIFY_CHANGE_FILE_NAME, FILE_NOTIFY_CHANGE_STREAM_NAME}
 use Rattle.fsa_types.specs.Rows.{row_of, without_row}
-use Rattle.fsa_types.specs.declared.oplock.Class.TheVariants.{Change, Clash, NameChange, ReadOpen}
-use Rattle.fsa_types.specs.declared.oplock.HandleSet.{HandleSet}
-use Rattle.fsa_types.specs.declared.oplock.HandleSet.TheVariants as set
-use Rattle.fsa_types.specs.declared.reply.Action.{Action}
 use Rattle.fsa_types.specs.declared.request.DaclChange.{DaclChange}
 use Rattle.fsa_types.specs.declared.request.DaclChange.TheVariants.{Keep, Remove, Put}
 use Rattle.fsa_types.specs.declared.request.DirKind.{DirKind}
@@ -15,16 +11,13 @@ use Rattle.fsa_types.specs.declared.request.InfoKind.{InfoKind}
 use Rattle.fsa_types.specs.declared.request.InfoKind.TheVariants.{Basic, Standard, Internal, Tag, Streams}
 use Rattle.fsa_types.specs.declared.request.Request.{Request}
 use Rattle.fsa_types.specs.declared.request.Request.TheVariants as request
-use Rattle.fsa_types.specs.declared.status.Status.{Status}
-use Rattle.fsa_model.specs.Breaks.{with_breaks}
 use Rattle.fsa_model.specs.Changes.{with_change_noted}
 use Rattle.fsa_model.specs.Edits.{with_cursor, with_limit, with_link, with_link_marked, with_link_moved, with_lock, with_owner, with_point, with_stream, with_stream_marked, without_file_unless_linked, without_link}
-use Rattle.fsa_model.specs.Flush.{flush_at, flush_by, try_flush}
+use Rattle.fsa_model.specs.Flush.{flush_at, try_flush}
 use Rattle.fsa_model.specs.Link.{link_at, link_by, link_file, link_into, link_over, link_over_broken, link_over_closed, link_over_other, link_walked, try_link, with_linked, with_link_added}
 use Rattle.fsa_model.specs.Locking.{lock_at, lock_by, lock_free, lock_range, lock_stream, try_lock}
-use Rattle.fsa_model.specs.Lookups.{handle_of, has_row}
+use Rattle.fsa_model.specs.Lookups.{has_row}
 use Rattle.fsa_model.specs.Open.{Asked, clashed, create_at, create_by_link, create_found, create_in_file, create_missing, create_named, create_on_stream, create_stream, create_there, create_walked, make_directory, make_file, names_stream, open_directory, open_existing, open_granted, open_stream, overwrite_existing, stopped, stream_name, try_create, with_directory_made, with_file_made, with_new_directory, with_new_file, with_new_file_and_stream, with_new_stream, with_open, with_overwrite_noted, with_overwritten}
-use Rattle.fsa_model.specs.Outcome.{Outcome}
 use Rattle.fsa_model.specs.QueryDir.{list_entries, query_dir_at, query_dir_by, query_dir_in, try_query_dir}
 use Rattle.fsa_model.specs.QueryInfo.{query_file, query_info_at, query_info_by, query_streams, query_streams_by, try_query_info}
 use Rattle.fsa_model.specs.Quota.{try_query_quota, try_set_quota}
@@ -32,12 +25,11 @@ use Rattle.fsa_model.specs.Read.{read_at, read_by, read_bytes, read_range, read_
 use Rattle.fsa_model.specs.Rename.{is_elsewhere, rename_at, rename_below_closed, rename_by, rename_directory, rename_done, rename_free, rename_into, rename_link, rename_named, rename_over, rename_over_broken, rename_over_closed, rename_walked, try_rename, with_link_renamed, with_move_noted, with_renamed}
 use Rattle.fsa_model.specs.ReparsePoints.{delete_reparse_at, delete_reparse_by, delete_reparse_of, get_point, get_reparse_at, get_reparse_by, get_reparse_of, remove_point, set_buffer, set_point, set_reparse_at, set_reparse_by, try_delete_reparse, try_get_reparse, try_set_reparse, with_point_noted}
 use Rattle.fsa_model.specs.Replacement.{Naming, new_name, with_link_replaced, with_replaced}
-use Rattle.fsa_model.specs.Security.{asks_something, set_security_at, set_security_by, set_security_of, try_set_security, with_dacl_asked, with_change_time, with_owner_asked, with_security, with_security_noted}
+use Rattle.fsa_model.specs.Security.{asks_something, set_security_at, set_security_by, set_security_of, try_set_security, with_dacl_asked, with_change_time, with_owner_asked, with_security}
 use Rattle.fsa_model.specs.SetBasic.{Basics, basic_bits, set_basic_at, set_basic_by, set_basic_of, try_set_basic, with_basics, with_basics_noted}
 use Rattle.fsa_model.specs.SetDisposition.{delete_by, delete_marked, set_disposition_at, set_disposition_by, try_set_disposition, with_mark}
 use Rattle.fsa_model.specs.SetEnd.{set_end_at, set_end_by, set_end_grown, set_end_stream, set_end_to, try_set_end, with_end_set, with_resized}
 use Rattle.fsa_model.specs.Try.{try_request}
-use Rattle.fsa_model.specs.Turn.{volume_after}
 use Rattle.fsa_model.specs.Volume.{Cursor, Handle, Link, Volume}
 use Rattle.fsa_model.specs.Close.{named_stream}
 use Rattle.fsa_model.specs.Walk.{Walked, Reached, Barred, Diverted}

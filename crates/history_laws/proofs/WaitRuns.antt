@@ -1,7 +1,7 @@
 -- A wait ends in few ways, over a whole run.
-use Rattle.std.proofs.Common.{◌≡◌, ℕ, zero, suc, ◌+◌, ◌≤◌, Bool, true, false, not, List, [], ◌∷◌, ◌++◌, append-nil, length, refl, ap, sym, subst, ◌∙◌, arith, inl, inr, Option, Some, None}
+use Rattle.std.proofs.Common.{◌≡◌, ℕ, zero, suc, ◌+◌, ◌≤◌, Bool, true, false, not, List, [], ◌∷◌, ◌++◌, length, refl, ap, sym, subst, ◌∙◌, arith, inl, inr, Option, Some, None}
 use Rattle.std.specs.List.{filter, list_any}
-use Rattle.std.specs.Prelude.{◌==◌, ◌&&◌, ◌||◌, map, nat_le, nat_lt, option_map, slice_index_or, if◌then◌else◌}
+use Rattle.std.specs.Prelude.{◌==◌, ◌&&◌, ◌||◌, map, nat_le, nat_lt, option_map, slice_index_or}
 use Rattle.std.proofs.lemmas.Bool.{cases_Bool, eqb-true, lt-ltb}
 use Rattle.fsa_types.specs.declared.reply.Blocker.{Blocker}
 use Rattle.fsa_types.specs.declared.reply.Body.TheVariants.{Nothing}
@@ -15,29 +15,29 @@ use Rattle.fsa_types.specs.declared.request.What.TheVariants.{Ask, WaitFor, Leav
 use Rattle.fsa_types.specs.declared.status.Status.{Status}
 use Rattle.fsa_types.specs.declared.status.Status.TheVariants.{Cancelled, InvalidHandle, InvalidParameter, NoMemory, Stalled, Success}
 use Rattle.fsa_model.specs.Close.{handles_of_client, is_left_behind, pending_by_turn, try_leave, with_all_closed, with_calls_ended, with_client_gone}
-use Rattle.fsa_model.specs.Edits.{is_call, with_blockers, with_end, with_pending}
+use Rattle.fsa_model.specs.Edits.{is_call, with_end, with_pending}
 use Rattle.fsa_model.specs.Engine.{CallsDiffer, is_entry_of, own_tried}
 use Rattle.fsa_model.specs.History.{HistoryEntry, Run, begun, run, steps, turn_on, with_turn}
 use Rattle.fsa_model.specs.Frame.{is_leave}
 use Rattle.fsa_model.specs.Lookups.{handle_of, has_left, number_of}
 use Rattle.fsa_model.specs.Once.{how_many, is_end, made, times}
-use Rattle.fsa_model.specs.Outcome.{Outcome, Done, Stay, Hold, refused}
-use Rattle.fsa_model.specs.Settle.{Settling, come_over, held_taken_up, repeated, reported, settle_step, starves, taken_up, taken_up_all, wait_over, with_tried}
-use Rattle.fsa_model.specs.Settling.{MaySettle, MayTurn, is_held_wrongly, is_under, may_be_held}
+use Rattle.fsa_model.specs.Outcome.{Outcome, Done, Stay, Hold}
+use Rattle.fsa_model.specs.Settle.{Settling, come_over, repeated, settle_step, starves, taken_up, taken_up_all, with_tried}
+use Rattle.fsa_model.specs.Settling.{MaySettle, MayTurn, is_under, may_be_held}
 use Rattle.fsa_model.specs.Setup.{Client, Setup}
 use Rattle.fsa_model.specs.Try.{try, try_what}
 use Rattle.fsa_model.specs.Turn.{Turned, answered, settlement, turn, turn_number, volume_after}
 use Rattle.fsa_model.specs.Volume.{Pending, Volume, fresh}
-use Rattle.fsa_model.specs.Waiting.{all_wait, has_ended, is_granted_under, is_held, is_pending, is_wait, next_ready, try_cancel, try_wait, waits_in_order, with_cancelled, with_oplock_given_up, with_stalled}
+use Rattle.fsa_model.specs.Waiting.{all_wait, has_ended, is_granted_under, is_held, is_pending, is_wait, next_ready, try_cancel, try_wait, waits_in_order, with_stalled}
 use Rattle.fsa_model.specs.Watching.{due_size, report}
 use Rattle.fsa_model.proofs.CoherenceRuns.{turn_on-settled}
 use Rattle.fsa_model.proofs.CountLaws.{and_left, and_right, how_many-append, how_many-filter, how_many-filter_le, how_many-weaker, none-how_many}
 use Rattle.fsa_model.proofs.OnceHistory.{MayTurn-fresh, is_entry_of-self}
-use Rattle.fsa_model.proofs.OnceLaws.{is_same, is_same-equal, is_same-refl}
+use Rattle.fsa_model.proofs.OnceLaws.{is_same, is_same-refl}
 use Rattle.fsa_model.proofs.RowLaws.{option_cases}
 use Rattle.fsa_model.proofs.SettleLaws.{IsNext, Steps, Steps-taken_up, next_ready-is, next-may_be_held, some_equal, try-tries}
 use Rattle.fsa_model.proofs.TryLaws.{Tries, TriesTo, Leaves}
-use Rattle.fsa_model.proofs.TurnLaws.{Adds-answered, TriedTo, Turns, answered-ended, own_end, try-keeps, turn-turns}
+use Rattle.fsa_model.proofs.TurnLaws.{Adds-answered, TriedTo, Turns, try-keeps, turn-turns}
 use Rattle.fsa_model.proofs.WatchLaws.{comes_over}
 use Rattle.history_laws.specs.WaitEnds.{cancels, cancels_in, ends_otherwise, is_cancel_of, is_wait_end, leaves, leaves_in}
 use Rattle.history_laws.proofs.SpareLaws.{IsBareWait, IsBareWait-fewer, Spares}
