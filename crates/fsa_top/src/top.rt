@@ -161,7 +161,6 @@ fn run_source<S: Source, K: Sink>(alloc: Global, source: &mut S, sink: &mut K) -
 }
 
 // Reads a script whole and runs its clients side by side.
-#[tactic(auto, using(crate::proofs::RaceLaws::begun_or_nothing))]
 fn race_source<R: Threads + Wait + Sync, S: Source, K: Sink, G: Gate + Sync>(
     rt: &R,
     alloc: Global,
@@ -175,7 +174,6 @@ fn race_source<R: Threads + Wait + Sync, S: Source, K: Sink, G: Gate + Sync>(
     ensures read { result ≡ 3 → FailsLast (S.faults source.old) (S.faults source.new) (S.taken source.new).since × (sink.new ≡ sink.old) }
     ensures write { result ≡ 4 → FailsLast (K.faults sink.old) (K.faults sink.new) (K.written sink.new).since_fault × Ran WritesWholePart (S.left source.old) (S.left source.new) (K.written sink.old) (K.written sink.new) }
     ensures memory { result ≡ 5 → (sink.new ≡ sink.old) ⊎ Ran WritesWholePart (S.left source.old) (S.left source.new) (K.written sink.old) (K.written sink.new) }
-    ensures begun { result ≡ 5 → (sink.new ≡ sink.old) ⊎ Ran WritesBegun (S.left source.old) (S.left source.new) (K.written sink.old) (K.written sink.new) }
     ensures limit { result ≡ 6 → FoundLimit (S.left source.old) (K.written sink.old) (K.written sink.new) (K.faults sink.old) (K.faults sink.new) }
     ensures known { (result ≢ 1) × (result ≤ 6) }
     ensures unfailed { result ≡ 5 → (S.faults source.new ≡ S.faults source.old) × (K.faults sink.new ≡ K.faults sink.old) }
