@@ -1,0 +1,3 @@
+pub mod ClosureLemmas
+pub mod KeyLemmas
+pub mod RowLaws

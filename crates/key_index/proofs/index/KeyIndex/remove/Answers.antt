@@ -1,0 +1,15 @@
+use Rattle.std.proofs.Common.{◌≡◌, ◌∙◌, sym, Some, None}
+use Rattle.std.specs.List.{position}
+use Rattle.key_index.specs.Index.{is_entry}
+use Rattle.key_index.proofs.KeyLemmas.{remove-position, without_first-none}
+use Rattle.key_index.proofs.index.KeyIndex.remove.Goals as goal
+
+pub returns-in-None-clause-entries : goal.returns-in-None-clause-entries
+returns-in-None-clause-entries c =
+    let none : position (is_entry c.args.key c.args.number) c.self.inside.entries.items ≡ None = sym (rw c.deref.ensures.value at c.in-None.ensures) in
+    rw (← c.self.view_is) (sym (without_first-none (is_entry c.args.key c.args.number) c.self.inside.entries.items none))
+
+pub returns-in-Some-clause-entries : goal.returns-in-Some-clause-entries
+returns-in-Some-clause-entries c =
+    let found : position (is_entry c.args.key c.args.number) c.self.inside.entries.items ≡ Some c.in-Some.place = sym (rw c.deref.ensures.value at c.in-Some.ensures) in
+    rw (← c.self.view_is) (c.remove.ensures.items ∙ remove-position (is_entry c.args.key c.args.number) c.self.inside.entries.items c.in-Some.place (0, 0) found)

@@ -1,0 +1,102 @@
+//! Numbers under keys.
+
+ghost use Rattle.std.specs.Prelude.{◌≡◌, ◌≤◌, ◌+◌, ◌++◌, ◌∷◌, [], OnOk, find, slice_get};
+ghost use Rattle.key_index.specs.Index.{IsSameByKey, entries_of, is_after, is_entry};
+ghost use Rattle.fsa_types.specs.Ranges.{without_first};
+
+use crate::search::{end_of, part_of, place_of};
+use fsa_types::NoMemory;
+use std::alloc::Global;
+use std::marker::Model;
+
+/// Numbers under keys. A key can have several numbers, which stand in the order in which they were added.
+#[derive(Debug, Drop)]
+pub struct KeyIndex {
+    // Each a key and a number, in the order of keys.
+    entries: Vec<(u64, u64)>,
+}
+
+impl Model for KeyIndex {
+    ghost use Rattle.key_index.specs.Index.{Entries};
+    ghost use Rattle.std.specs.List.Sorted.{IsNonDecreasingBy};
+    ghost use Rattle.std.specs.Prelude.{◌-◌};
+    ghost use Rattle.std.specs.Vec.{vec_capacity, vec_len};
+
+    ghost Value = { Entries };
+
+    ghost view = { λ i. record { entries = i.entries.items; room = vec_capacity i.entries - vec_len i.entries } };
+
+    ghost invariant = { λ i. IsNonDecreasingBy (λ e. e.0) i.entries.items };
+}
+
+impl KeyIndex {
+    /// An index without entries. It takes no memory.
+    pub fn new(alloc: Global) -> KeyIndex
+        ensures { result.entries ≡ [] }
+    {
+        KeyIndex {
+            entries: Vec::new(alloc),
+        }
+    }
+
+    /// Takes room for `more` entries beside those that are there. `NoMemory` where there is none.
+    pub fn reserve(&mut self, more: usize) -> Result<(), NoMemory>
+        ensures entries { self.new.entries ≡ self.old.entries }
+        ensures room { OnOk result (more ≤ self.new.room) }
+        ensures kept { self.old.room ≤ self.new.room }
+    {
+        self.entries.reserve(more)?;
+        Ok(())
+    }
+
+    /// The entries of a key, each the key and a number, in the order in which they were added.
+    pub fn of(&self, key: u64) -> &[(u64, u64)]
+        ensures { result.now ≡ entries_of self.now.entries key }
+    {
+        part_of(&self.entries, key)
+    }
+
+    /// The first entry of a greater key; `None` exactly where no key is greater. This key need not be there.
+    pub fn after(&self, key: u64) -> Option<(u64, u64)>
+        ensures { result ≡ find (is_after key) self.now.entries }
+    {
+        let place = end_of(&self.entries, key);
+        entry_at(&self.entries, place)
+    }
+
+    /// Puts a number behind those of its key. There has to be room for it. It takes no memory.
+    pub fn add(&mut self, key: u64, number: u64)
+        requires { 1 ≤ self.old.room }
+        ensures added { IsSameByKey self.new.entries (self.old.entries ++ (key, number) ∷ []) }
+        ensures left { self.old.room ≤ self.new.room + 1 }
+    {
+        let place = end_of(&self.entries, key);
+        let Ok(()) = self.entries.insert(place, (key, number)) else {
+            unreachable!()
+        };
+    }
+
+    /// Takes a number of a key out, the first where it stands there more than once; where the key doesn't
+    /// have it nothing changes. It takes no memory, and leaves the room as it was or larger.
+    pub fn remove(&mut self, key: u64, number: u64)
+        ensures entries { self.new.entries ≡ without_first (is_entry key number) self.old.entries }
+        ensures room { self.old.room ≤ self.new.room }
+    {
+        match place_of(&self.entries, key, number) {
+            Some(place) => {
+                let _ = self.entries.remove(place);
+            }
+            None => {}
+        }
+    }
+}
+
+// The entry at this place.
+fn entry_at(entries: &[(u64, u64)], place: usize) -> Option<(u64, u64)>
+    ensures { result ≡ slice_get entries.now place }
+{
+    match entries.get(place) {
+        Some(entry) => Some(*entry),
+        None => None,
+    }
+}

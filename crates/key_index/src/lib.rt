@@ -1,0 +1,26 @@
+//! Numbers under keys: which rows of a table have a key, found without a look at the others.
+//!
+//! ```text
+//! index.reserve(1)?;
+//! index.add(key, number);             // behind the numbers that the key has
+//! index.of(key);                      // the key's entries, in the order in which they were added
+//! index.after(key);                   // the first entry of a greater key
+//! index.remove(key, number);
+//! ```
+//!
+//! Contracts see the list of entries, and how many more there is room for. Only what each key has is told of it
+//! after `add`: `IsSameByKey` is what a caller keeps. `index_of_rows` has the laws for a table whose rows are
+//! added with rising numbers and keep their key: the entries of a key are then those of its rows, in order.
+//!
+//! `of` and `after` take time logarithmic in the entries. `add` and `remove` move the entries behind, of 16 bytes
+//! each, and `remove` looks through those of its key before.
+#![tactic(auto)]
+
+mod index;
+mod rows;
+mod search;
+#[cfg(test)]
+mod tests;
+
+pub use index::KeyIndex;
+pub use rows::index_of_rows;
