@@ -1,6 +1,7 @@
 //! Numbers under keys.
 
 ghost use Rattle.std.specs.Prelude.{◌≡◌, ◌≤◌, ◌+◌, ◌++◌, ◌∷◌, [], OnOk, find, slice_get};
+ghost use Rattle.std.specs.List.Sorted.{IsNonDecreasingBy};
 ghost use Rattle.key_index.specs.Index.{IsSameByKey, entries_of, is_after, is_entry};
 ghost use Rattle.fsa_types.specs.Ranges.{without_first};
 
@@ -58,7 +59,8 @@ impl KeyIndex {
 
     /// The first entry of a greater key; `None` exactly where no key is greater. This key need not be there.
     pub fn after(&self, key: u64) -> Option<(u64, u64)>
-        ensures { result ≡ find (is_after key) self.now.entries }
+        ensures entry { result ≡ find (is_after key) self.now.entries }
+        ensures rising { IsNonDecreasingBy (λ e. e.0) self.now.entries }
     {
         let place = end_of(&self.entries, key);
         entry_at(&self.entries, place)
