@@ -5,7 +5,7 @@ use Rattle.std.specs.List.{All, list_any}
 use Rattle.std.proofs.lemmas.Bool.{cases_Bool, and_right, and_from, or_right, eqb-true, ne_eqb, false≢true}
 use Rattle.std.proofs.lemmas.List.Elements.{All-filter, All-map, filter-append}
 use Rattle.fsa_types.specs.Ranges.{without_first}
-use Rattle.fsa_types.specs.Rows.{IsNumbered, lives, row_of, without_row}
+use Rattle.fsa_types.specs.Rows.{IsNumbered, lives, row_of, with_row_changed, without_row}
 use Rattle.fsa_types.proofs.RowLemmas.{AreRising, AreRising-first, AreRising-rest, row_of-at, without_row-above}
 use Rattle.key_index.specs.Index.{IsSameByKey, entries_of, has_key, is_entry}
 use Rattle.key_index.specs.RowsByKey.{IsIndexOf, pairs, row_passes, rows_at, rows_with}
@@ -108,7 +108,14 @@ module _ {R : Type 0} (key : R → ℕ) where
         rw (fails, other) (ap (λ (rest : List (ℕ × ℕ)). (key x.1, x.0) ∷ rest) (pairs-without rows id row (AreRising-rest x rows rising) (rw other at found))))
   ]
 
-  -- ---- a row comes, and one goes
+  pairs-changed : (change : R → R) (rows : List (ℕ × R)) (id : ℕ) → ((row : R) → key (change row) ≡ key row) → pairs key (with_row_changed change rows id) ≡ pairs key rows
+  pairs-changed change [] id same = refl
+  pairs-changed change (x ∷ rows) id same = elim (cases_Bool (x.0 == id)) [
+    | inl here ↦ rw (here, same x.1, pairs-changed change rows id same) refl
+    | inr other ↦ rw (other, pairs-changed change rows id same) refl
+  ]
+
+  -- ---- a row comes, one goes, and one changes but for its key
 
   pub index-added : (rows : List (ℕ × R)) (old new : List (ℕ × ℕ)) (id : ℕ) (row : R) → IsIndexOf key rows old → IsSameByKey new (old ++ (key row, id) ∷ []) → IsIndexOf key (rows ++ (id, row) ∷ []) new
   index-added rows old new id row index same k =
@@ -120,6 +127,10 @@ module _ {R : Type 0} (key : R → ℕ) where
       → IsIndexOf key (without_row rows id) (without_first (is_entry (key row) id) entries)
   index-removed rows last entries id row numbered index found k =
       same-without entries (pairs key rows) (key row) id index k ∙ ap (λ (all : List (ℕ × ℕ)). entries_of all k) (pairs-without rows id row numbered.rising found)
+
+  pub index-changed : (change : R → R) (rows : List (ℕ × R)) (entries : List (ℕ × ℕ)) (id : ℕ) → ((row : R) → key (change row) ≡ key row) → IsIndexOf key rows entries
+      → IsIndexOf key (with_row_changed change rows id) entries
+  index-changed change rows entries id same index k = index k ∙ ap (λ (all : List (ℕ × ℕ)). entries_of all k) (sym (pairs-changed change rows id same))
 
   -- ---- what a key's entries tell
 

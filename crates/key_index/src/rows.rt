@@ -3,12 +3,12 @@
 ghost use Rattle.std.specs.Prelude.{ℕ, ◌≡◌, Bool, true, List, ◌∷◌, [], ◌++◌, ◌==◌, ◌&&◌, All, Some, filter, find, length, option_map};
 ghost use Rattle.std.specs.List.{list_any};
 ghost use Rattle.fsa_types.specs.Ranges.{without_first};
-ghost use Rattle.fsa_types.specs.Rows.{IsNumbered, lives, row_of, without_row};
+ghost use Rattle.fsa_types.specs.Rows.{IsNumbered, lives, row_of, with_row_changed, without_row};
 ghost use Rattle.key_index.specs.Index.{IsSameByKey, entries_of, is_entry};
 ghost use Rattle.key_index.specs.RowsByKey.{IsIndexOf, pairs, row_passes, rows_at, rows_with};
 
 /// What an index tells of the rows of a table whose numbers it has under their keys. It is kept where a row
-/// comes and where one goes. The entries of a key are those of the rows that have it, in order; each of their
+/// comes, where one goes, and where one changes but for its key. The entries of a key are those of the rows that have it, in order; each of their
 /// numbers is that of a row; and to look for a row that has the key and passes a test, to ask whether there
 /// is one, and to count or list those that there are, is the same among the rows of these numbers alone.
 pub fn index_of_rows<R>()
@@ -17,6 +17,8 @@ pub fn index_of_rows<R>()
         → IsSameByKey new (old ++ (key row, id) ∷ []) → IsIndexOf key (rows ++ (id, row) ∷ []) new }
     ensures removed { (key : R → ℕ) (rows : List (ℕ × R)) (last : ℕ) (entries : List (ℕ × ℕ)) (id : ℕ) (row : R) → IsNumbered rows last → IsIndexOf key rows entries
         → row_of rows id ≡ Some row → IsIndexOf key (without_row rows id) (without_first (is_entry (key row) id) entries) }
+    ensures changed { (key : R → ℕ) (change : R → R) (rows : List (ℕ × R)) (entries : List (ℕ × ℕ)) (id : ℕ) → ((row : R) → key (change row) ≡ key row) → IsIndexOf key rows entries
+        → IsIndexOf key (with_row_changed change rows id) entries }
     ensures entries { (key : R → ℕ) (rows : List (ℕ × R)) (entries : List (ℕ × ℕ)) (k : ℕ) → IsIndexOf key rows entries
         → entries_of entries k ≡ pairs key (rows_with key rows k) }
     ensures live { (key : R → ℕ) (rows : List (ℕ × R)) (entries : List (ℕ × ℕ)) (k : ℕ) → IsIndexOf key rows entries

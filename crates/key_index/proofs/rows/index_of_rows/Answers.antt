@@ -1,5 +1,5 @@
 use Rattle.std.proofs.Common.{refl}
-use Rattle.key_index.proofs.RowLaws.{index-added, index-any, index-counted, index-entries, index-found, index-listed, index-live, index-removed, index-rows}
+use Rattle.key_index.proofs.RowLaws.{index-added, index-any, index-changed, index-counted, index-entries, index-found, index-listed, index-live, index-removed, index-rows}
 use Rattle.key_index.proofs.rows.index_of_rows.Goals as goal
 
 pub returns : goal.returns
@@ -7,6 +7,7 @@ returns g c = record {
   empty = λ key k. refl;
   added = index-added;
   removed = index-removed;
+  changed = index-changed;
   entries = index-entries;
   live = index-live;
   rows = index-rows;
