@@ -8,9 +8,10 @@ ghost use Rattle.key_index.specs.Index.{IsSameByKey, entries_of, is_entry};
 ghost use Rattle.key_index.specs.RowsByKey.{IsIndexOf, pairs, row_passes, rows_at, rows_with};
 
 /// What an index tells of the rows of a table whose numbers it has under their keys. It is kept where a row
-/// comes, where one goes, and where one changes but for its key. The entries of a key are those of the rows that have it, in order; each of their
-/// numbers is that of a row; and to look for a row that has the key and passes a test, to ask whether there
-/// is one, and to count or list those that there are, is the same among the rows of these numbers alone.
+/// comes, where one goes, and where one changes but for its key. The entries of a key are those of the rows
+/// that have it, in order; each of their numbers is that of a row; and to look for a row that has the key and
+/// passes a test, to ask whether there is one, and to count or list those that there are, is the same among
+/// the rows of these numbers alone.
 pub fn index_of_rows<R>()
     ensures empty { (key : R → ℕ) → IsIndexOf key [] [] }
     ensures added { (key : R → ℕ) (rows : List (ℕ × R)) (old new : List (ℕ × ℕ)) (id : ℕ) (row : R) → IsIndexOf key rows old
