@@ -1,10 +1,7 @@
 //! Races: clients that run side by side, each on a thread of its own.
 
-use crate::program::{run, words_of};
-use client_race::race_history;
-use fsa_machine::VolumeMachine;
+use crate::program::words_of;
 use fsa_top::fsa_main;
-use script_read::read_script;
 use std::alloc::{AllocError, Global};
 use std::sync::Wait;
 use std::sync::atomic::{AtomicU64, Ordering};
@@ -88,76 +85,6 @@ fn a_held_client_comes_last(rt: HostRuntime) -> Result<(), Fail> {
     Ok(())
 }
 
-// The history that `race_history` gives for a script, once its volume is closed. The limits of `race` are looked at
-// here, since nothing else does.
-fn closed_history<R: Threads + Wait + Sync>(
-    rt: &R,
-    alloc: Global,
-    script: &[u8],
-    gate: &Holding,
-) -> Option<VolumeMachine> {
-    let script = read_script(alloc, script).ok()?;
-    if script.lines().as_slice().len() > 40_000 || script.clients().len() > 64 {
-        return None;
-    }
-    let (volume, passes) = race_history(rt, alloc, &script, gate).ok()?;
-    Some(volume.close(passes))
-}
-
-// So it is of the history that the volume and its passes give.
-#[test]
-fn a_held_client_comes_last_in_the_history(rt: HostRuntime) -> Result<(), Fail> {
-    for (held, first) in [(0u32, 1u32), (1, 0)] {
-        let gate = Holding::new(held, 1 - held);
-        let machine = closed_history(&rt, rt.alloc(), TWO.as_bytes(), &gate).ok_or("no history")?;
-        assert_eq!(rt; machine.len(), 4);
-        if machine.len() > 0 {
-            let call = machine.call_at(0);
-            assert_eq!(rt; (call.client, call.number), (first, 1));
-        }
-    }
-    Ok(())
-}
-
-// A script whose lines are those of these turns, in their order; a leaving has no line.
-fn script_of_turns(alloc: Global, script: &str, text: &str) -> Result<String, AllocError> {
-    let mut replayed = String::from_str(alloc, "fsa 1\n")?;
-    for line in script.lines() {
-        if line.starts_with("client ") {
-            replayed.push_str(line)?;
-            replayed.push_str("\n")?;
-        }
-    }
-    for line in text.lines() {
-        let Some(turn) = line.strip_prefix("> ") else {
-            continue;
-        };
-        for asked in script.lines() {
-            if asked.starts_with(turn) {
-                replayed.push_str(asked)?;
-                replayed.push_str("\n")?;
-            }
-        }
-    }
-    Ok(replayed)
-}
-
-// The lines of a text, but for those of the turns in which clients leave.
-fn without_leavings(alloc: Global, text: &str) -> Result<String, AllocError> {
-    let mut kept = String::new(alloc);
-    let mut leaves = false;
-    for line in text.lines() {
-        if line.starts_with("> ") {
-            leaves = line.ends_with(" leave");
-        }
-        if !leaves {
-            kept.push_str(line)?;
-            kept.push_str("\n")?;
-        }
-    }
-    Ok(kept)
-}
-
 // 64 clients that each open one file, write one byte at their own place and close.
 fn sixty_four(alloc: Global) -> Result<String, AllocError> {
     let mut script = String::from_str(alloc, "fsa 1\n")?;
@@ -172,27 +99,14 @@ fn sixty_four(alloc: Global) -> Result<String, AllocError> {
     Ok(script)
 }
 
-// The gate is passed once for each call, however often the turn was in the way. The printed turns, run again in
-// their order on one thread, print the same; there the clients leave last.
+// The gate is passed once for each call, however often the turn was in the way.
 #[test]
 fn race_of_64_clients(rt: HostRuntime) -> Result<(), Fail> {
-    let alloc = rt.alloc();
-    let script = sixty_four(alloc)?;
+    let script = sixty_four(rt.alloc())?;
     let gate = Holding::new(0, 0);
     let (status, sink) = race(&rt, rt.alloc(), script.as_bytes(), &gate)?;
     assert_eq!(rt; status, 0);
     assert!(rt; sink.bytes().ends_with(b"\nend 256\n"));
     assert_eq!(rt; gate.passes.load(Ordering::SeqCst), 256);
-    let text = std::str::from_utf8(sink.bytes()).map_err(|_| "no text")?;
-    let replayed = script_of_turns(alloc, script.as_str(), text)?;
-    let mut source = MemorySource::new(alloc, replayed.as_bytes(), 4096, &[])?;
-    let mut again = MemorySink::new(alloc, 65536, 4096, &[])?;
-    assert_eq!(rt; run(alloc, &mut source, &mut again)?, 0);
-    let again = std::str::from_utf8(again.bytes()).map_err(|_| "no text")?;
-    assert!(rt; again.ends_with("\nend 256\n"));
-    assert_eq!(rt;
-        without_leavings(alloc, text)?,
-        without_leavings(alloc, again)?
-    );
     Ok(())
 }
