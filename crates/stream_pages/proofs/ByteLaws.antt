@@ -61,7 +61,7 @@ module _ (page : List ℕ) (blank : (k : ℕ) → get_or page k 0 ≡ 0) (xs : R
   byte_at-insert : (at : ℕ) → byte_at (insert xs i (number, page)) at ≡ byte_at xs at
   byte_at-insert at = elim (cases_eq (at / 4096) number) [
     | inl same ↦ rw (same, row_of-insert_own xs number i page stands, row_of-missing xs number i stands) (blank (at % 4096))
-    | inr apart ↦ ap (λ (row : Option (List ℕ)). option_map_or (λ bytes. get_or bytes (at % 4096) 0) row 0) (row_of-insert_other xs number i page (at / 4096) stands (ne_eqb (at / 4096) number apart))
+    | inr apart ↦ ap (λ (kept_page : Option (List ℕ)). option_map_or (λ bytes. get_or bytes (at % 4096) 0) kept_page 0) (row_of-insert_other xs number i page (at / 4096) stands (ne_eqb (at / 4096) number apart))
   ]
 
   keeps-insert : KeepsPages xs (insert xs i (number, page))

@@ -79,7 +79,9 @@ impl Stream {
     }
 
     /// Puts the piece at this place, over what is there and beyond, and zeros in a gap before it. It
-    /// takes no memory where the place of the piece lies in the room. `NoMemory` changes nothing.
+    /// takes no memory where the place of the piece lies in the room. A piece that lies elsewhere takes
+    /// room for itself, and the room that was there before isn't promised any more. `NoMemory` changes
+    /// nothing.
     pub fn write(&mut self, at: u64, piece: &[u8]) -> Result<(), NoMemory>
         requires { at + length piece.now ≤ 2 ^ 26 }
         ensures bytes { OnOk result (self.new.bytes ≡ put self.old.bytes at piece.now) }
