@@ -33,7 +33,5 @@ mod ends;
 mod expression;
 mod plan;
 mod signs;
-#[cfg(test)]
-mod tests;
 
 pub use expression::{Expression, ExpressionFault};

@@ -28,8 +28,6 @@ mod fault;
 mod order;
 mod path;
 mod stream;
-#[cfg(test)]
-mod tests;
 
 pub use fault::NameFault;
 pub use order::order_of_names;

@@ -30,8 +30,6 @@ mod pack;
 mod reading;
 mod rows;
 mod tail;
-#[cfg(test)]
-mod tests;
 mod walk;
 
 pub use fixed::{pack_basic, pack_internal, pack_reparse, pack_standard, pack_tag, read_reparse};

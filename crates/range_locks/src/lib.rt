@@ -21,8 +21,6 @@
 
 mod range;
 mod table;
-#[cfg(test)]
-mod tests;
 
 pub use range::{Range, Want};
 pub use table::RangeTable;

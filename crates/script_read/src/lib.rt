@@ -35,12 +35,8 @@ mod byte_lines;
 mod clock_lines;
 mod control_lines;
 mod dacl;
-#[cfg(test)]
-mod dacl_tests;
 mod fault;
 mod generator;
-#[cfg(test)]
-mod generator_tests;
 mod information_lines;
 mod law;
 mod line;
@@ -58,8 +54,6 @@ mod request;
 mod script;
 mod stage;
 mod take;
-#[cfg(test)]
-mod tests;
 mod text;
 mod wait_lines;
 mod word;

@@ -17,8 +17,6 @@
 
 mod bodies;
 mod entries;
-#[cfg(test)]
-mod tests;
 mod text;
 mod write;
 

@@ -39,8 +39,6 @@ mod memory_source;
 mod sinks;
 mod sources;
 mod std_streams;
-#[cfg(test)]
-mod tests;
 mod whole_input;
 
 pub use faults::Failed;

@@ -1,7 +1,8 @@
-//! One table of expressions and names, and the refusals.
+//! Expressions and names: one for each sign, and how fast many stars answer. More are worked out in the proofs of
+//! `name_match`.
 
-use crate::{Expression, ExpressionFault};
 use fsa_types::{TryCopy, UpcaseTable};
+use name_match::{Expression, ExpressionFault};
 use std::alloc::{AllocError, Global};
 use std::test::Fail;
 
@@ -22,68 +23,18 @@ const PAIRS: [(u16, u16); 7] = [
 ];
 
 // An expression, a name, and whether it matches.
-const CASES: [(&[u8], &[u8], bool); 62] = [
-    (b"", b"", true),
+const CASES: [(&[u8], &[u8], bool); 12] = [
     (b"", b"a", false),
-    (b"*", b"", true),
     (b"*", b"a.b", true),
-    (b"a", b"A", true),
-    (b"a", b"", false),
-    (b"a", b"ab", false),
     (b"abcd.m", b"ABCD.M", true),
-    (b"*.txt", b"a.txt", true),
     (b"*.txt", b"A.B.txt", true),
-    (b"*.txt", b".txt", true),
-    (b"*.txt", b"txt", false),
-    (b"*.txt", b"a.txt.", false),
-    (b"<.txt", b"x.y.txt", true),
-    (b"<.txt", b".txt", true),
     (b"<.txt", b"x.txt.y", false),
-    (b"<", b"", true),
-    (b"<", b"abc", true),
-    (b"<", b"a.b", false),
-    (b"<.", b"a.b.", true),
     (b"<b", b"a.b", false),
-    (b"<*", b"a.b", true),
-    (b"<.b", b"a.b", true),
-    (b"?", b"", false),
-    (b"?", b"a", true),
-    (b"?", b".", true),
     (b"a?", b"a", false),
-    (b"a?", b"ab", true),
-    (b"??", b"a", false),
-    (b"a.?", b"a.b", true),
-    (b">", b"", true),
-    (b">", b"a", true),
-    (b">", b".", false),
-    (b"a>", b"a", true),
-    (b"a>", b"ab", true),
-    (b"a>", b"abc", false),
     (b"a>.b", b"a.b", true),
-    (b"a>.b", b"ax.b", true),
-    (b">.b", b"xa.b", false),
-    (b"a>b", b"a.b", false),
-    (b">>>", b"ab", true),
-    (b">>>.>", b"ab.c", true),
-    (b"\"", b"", true),
-    (b"\"", b".", true),
-    (b"\"", b"a", false),
     (b"a\"", b"a", true),
-    (b"a\"", b"a.", true),
-    (b"a\"b", b"a.b", true),
-    (b"a\"b", b"ab", false),
-    (b"a\"\"", b"a.", true),
-    (b"*.*", b"a", false),
-    (b"*.*", b"a.b.c", true),
-    (b"<\"*", b"a", true),
-    (b"<\"*", b"a.b.c", true),
-    (b"*a*b", b"xaxb", true),
     (b"*a*b", b"xbxa", false),
-    (b"a*", b"ABC", true),
-    (b"*b*", b"aBc", true),
-    (b"\xe9", b"\xc9", true),
     (b"*\xe9", b"x\xc9", true),
-    (b"?\xc9*", b"x\xe9x", true),
     (b"\xe8", b"\xc8", false),
 ];
 
@@ -107,10 +58,8 @@ fn expressions_match_names(rt: HostRuntime) -> Result<(), Fail> {
 
 #[test]
 fn bad_expressions_are_refused(rt: HostRuntime) -> Result<(), Fail> {
-    for unit in [0x5c, 0x2f, 0x3a, 0x7c, 0x1f, 0] {
-        let made = Expression::new(rt.alloc(), &[0x2a, unit]);
-        assert_eq!(rt; made.err(), Some(ExpressionFault::Bad), "{unit}");
-    }
+    let made = Expression::new(rt.alloc(), &[0x2a, 0x5c]);
+    assert_eq!(rt; made.err(), Some(ExpressionFault::Bad));
     let stars = [0x2a; 256];
     let made = Expression::new(rt.alloc(), &stars);
     assert_eq!(rt; made.err(), Some(ExpressionFault::Bad));

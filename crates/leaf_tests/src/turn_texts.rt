@@ -1,13 +1,13 @@
 //! Turns whose bodies are packed, one of each layout: the text that is written. The second action is
 //! unknown, and the second name's index isn't 0, so the names end before it.
 
-use super::{TextFault, write_turn};
 use fsa_types::{
     Answer, Body, Bytes, Call, CallIdList, Client, ClientList, EndList, NoMemory, Out, PackKind,
     Reply, SidList, Status, What,
 };
 use std::alloc::Global;
 use std::test::Fail;
+use text_out::{TextFault, write_turn};
 use wire_io::MemorySink;
 
 const CHANGES: &[u8] = &[

@@ -1,7 +1,7 @@
 //! One table of wanted ranges against held ones, and one run of insertions and removals.
 
-use crate::{Range, RangeTable, Want};
 use fsa_types::{Blocker, NoMemory};
+use range_locks::{Range, RangeTable, Want};
 use std::alloc::Global;
 use std::process::Abort;
 use std::test::Fail;

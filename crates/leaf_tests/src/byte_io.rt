@@ -1,10 +1,13 @@
-//! What no contract says: that calls succeed with ample memory, and that bytes pass the standard
-//! streams' adapters.
+//! Sources and sinks: that calls succeed with ample memory, and that bytes pass the standard streams'
+//! adapters.
 
-use super::*;
 use std::io;
 use std::io::{Error, Read, Write};
 use std::test::Fail;
+use wire_io::{
+    Failed, Gate, MemorySink, MemorySource, OpenGate, ReadFault, Sink, Source, StdSink, StdSource,
+    put_all, read_all,
+};
 
 /// Five bytes read to the end, past a limit, and up to a call that fails.
 #[test]

@@ -1,15 +1,13 @@
-//! Buffers of two entries, spelled by hand from their layouts: they are what is written and what is
-//! read, and cut short or with one byte wrong they are malformed at the entry that it is in.
+//! Buffers of two entries, and those of one layout alone, spelled by hand from their layouts: they are what is
+//! written.
 
-use super::*;
-use fsa_types::{DirKind, Name, NoMemory, PackKind};
+use fsa_types::{DirKind, Name, NoMemory};
+use pack_info::{
+    DirRow, StreamRow, pack_basic, pack_entries, pack_internal, pack_reparse, pack_standard,
+    pack_streams, pack_tag, read_reparse,
+};
 use std::alloc::Global;
 use std::test::Fail;
-
-const CHANGES: &[u8] = &[
-    0x10, 0, 0, 0, 0x01, 0, 0, 0, 0x02, 0, 0, 0, 0x61, 0, 0, 0, 0, 0, 0, 0, 0x05, 0, 0, 0, 0x02, 0,
-    0, 0, 0x62, 0,
-];
 
 const NAMES: &[u8] = &[
     0x10, 0, 0, 0, 0, 0, 0, 0, 0x02, 0, 0, 0, 0x61, 0, 0, 0, 0, 0, 0, 0, 0, 0, 0, 0, 0x02, 0, 0, 0,
@@ -47,194 +45,6 @@ const STREAMS: &[u8] = &[
     0, 0, 0x12, 0, 0, 0, 0x06, 0, 0, 0, 0, 0, 0, 0, 0, 0x20, 0, 0, 0, 0, 0, 0, 0x3A, 0, 0x75, 0,
     0x76, 0, 0x3A, 0, 0x24, 0, 0x44, 0, 0x41, 0, 0x54, 0, 0x41, 0,
 ];
-
-// A layout: the buffer of two entries, where the second begins, and the bytes of an entry from one
-// place to another that may be anything.
-struct Layout {
-    kind: PackKind,
-    bytes: &'static [u8],
-    second: usize,
-    numbers: (usize, usize),
-    file: (usize, usize),
-    units: (usize, usize),
-}
-
-const LAYOUTS: [Layout; 6] = [
-    Layout {
-        kind: PackKind::Changes,
-        bytes: CHANGES,
-        second: 16,
-        numbers: (4, 8),
-        file: (0, 0),
-        units: (12, 14),
-    },
-    Layout {
-        kind: PackKind::Names,
-        bytes: NAMES,
-        second: 16,
-        numbers: (0, 0),
-        file: (0, 0),
-        units: (12, 14),
-    },
-    Layout {
-        kind: PackKind::Dir,
-        bytes: DIR,
-        second: 72,
-        numbers: (8, 60),
-        file: (0, 0),
-        units: (64, 66),
-    },
-    Layout {
-        kind: PackKind::Full,
-        bytes: FULL,
-        second: 72,
-        numbers: (8, 60),
-        file: (0, 0),
-        units: (68, 70),
-    },
-    Layout {
-        kind: PackKind::IdFull,
-        bytes: ID_FULL,
-        second: 88,
-        numbers: (8, 60),
-        file: (72, 80),
-        units: (80, 82),
-    },
-    Layout {
-        kind: PackKind::Streams,
-        bytes: STREAMS,
-        second: 48,
-        numbers: (8, 24),
-        file: (0, 0),
-        units: (26, 30),
-    },
-];
-
-// The place of the first entry that is malformed.
-fn changes_fault(bytes: &[u8]) -> Option<usize> {
-    let mut walk = NotifyEntries::of(bytes);
-    for _ in 0..4 {
-        match walk.next() {
-            Ok(Some(_entry)) => {}
-            Ok(None) => return None,
-            Err(malformed) => return Some(malformed.place),
-        }
-    }
-    None
-}
-
-fn streams_fault(bytes: &[u8]) -> Option<usize> {
-    let mut walk = StreamEntries::of(bytes);
-    for _ in 0..4 {
-        match walk.next() {
-            Ok(Some(_entry)) => {}
-            Ok(None) => return None,
-            Err(malformed) => return Some(malformed.place),
-        }
-    }
-    None
-}
-
-fn dir_fault(kind: DirKind, bytes: &[u8]) -> Option<usize> {
-    let mut walk = DirEntries::of(kind, bytes);
-    for _ in 0..4 {
-        match walk.next() {
-            Ok(Some(_entry)) => {}
-            Ok(None) => return None,
-            Err(malformed) => return Some(malformed.place),
-        }
-    }
-    None
-}
-
-fn fault(kind: PackKind, bytes: &[u8]) -> Option<usize> {
-    match kind {
-        PackKind::Changes => changes_fault(bytes),
-        PackKind::Names => dir_fault(DirKind::Names, bytes),
-        PackKind::Dir => dir_fault(DirKind::Dir, bytes),
-        PackKind::Full => dir_fault(DirKind::Full, bytes),
-        PackKind::IdFull => dir_fault(DirKind::IdFull, bytes),
-        PackKind::Streams => streams_fault(bytes),
-    }
-}
-
-// Where a buffer that is cut behind `count` bytes is malformed.
-fn fault_of_cut(layout: &Layout, count: usize) -> Option<usize> {
-    if count == 0 || count == layout.bytes.len() {
-        return None;
-    }
-    if count <= layout.second {
-        return Some(0);
-    }
-    Some(layout.second)
-}
-
-fn is_cut_right(layout: &Layout, count: usize) -> bool {
-    match layout.bytes.get(..count) {
-        None => false,
-        Some(front) => fault(layout.kind, front) == fault_of_cut(layout, count),
-    }
-}
-
-fn is_in(range: (usize, usize), place: usize) -> bool {
-    range.0 <= place && place < range.1
-}
-
-// Where a buffer is malformed whose byte at this place is one more.
-fn fault_of_wrong(layout: &Layout, place: usize) -> Option<usize> {
-    let (start, inside) = if place < layout.second {
-        (0, place)
-    } else {
-        (layout.second, place - layout.second)
-    };
-    let is_free = is_in(layout.numbers, inside)
-        || is_in(layout.file, inside)
-        || is_in(layout.units, inside);
-    if is_free {
-        return None;
-    }
-    Some(start)
-}
-
-// The bytes, that at this place one more.
-fn with_one_more(alloc: Global, bytes: &[u8], place: usize) -> Result<Vec<u8>, NoMemory> {
-    let mut made = Vec::new(alloc);
-    for (i, byte) in bytes.iter().enumerate() {
-        if i == place {
-            made.push(byte.wrapping_add(1))?;
-        } else {
-            made.push(*byte)?;
-        }
-    }
-    Ok(made)
-}
-
-fn is_wrong_right(alloc: Global, layout: &Layout, place: usize) -> Result<bool, NoMemory> {
-    let wrong = with_one_more(alloc, layout.bytes, place)?;
-    Ok(fault(layout.kind, &wrong) == fault_of_wrong(layout, place))
-}
-
-#[test]
-fn buffers_that_are_cut(rt: HostRuntime) -> Result<(), Fail> {
-    for layout in &LAYOUTS {
-        for count in 0..layout.bytes.len() + 1 {
-            let right = is_cut_right(layout, count);
-            assert!(rt; right, "{:?} cut behind {} bytes", layout.kind, count);
-        }
-    }
-    Ok(())
-}
-
-#[test]
-fn buffers_with_one_byte_wrong(rt: HostRuntime) -> Result<(), Fail> {
-    for layout in &LAYOUTS {
-        for place in 0..layout.bytes.len() {
-            let right = is_wrong_right(rt.alloc(), layout, place)?;
-            assert!(rt; right, "{:?} with a wrong byte at {}", layout.kind, place);
-        }
-    }
-    Ok(())
-}
 
 fn first_row(alloc: Global) -> Result<DirRow, NoMemory> {
     let name = Name::copy_of(alloc, &[0x61])?;
@@ -363,13 +173,5 @@ fn reparse_points(rt: HostRuntime) -> Result<(), Fail> {
     assert!(rt; short);
     let other = read_reparse(&[5, 0, 0, 0x80, 1, 0, 7, 7, 0xAA, 0xBB]).is_none();
     assert!(rt; other);
-    Ok(())
-}
-
-#[test]
-fn one_byte_is_malformed_at_its_start(rt: HostRuntime) -> Result<(), Fail> {
-    for layout in &LAYOUTS {
-        assert_eq!(rt; fault(layout.kind, &[1]), Some(0));
-    }
     Ok(())
 }

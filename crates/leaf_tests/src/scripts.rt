@@ -1,7 +1,6 @@
-//! What is read and what is refused, byte by byte.
+//! What is read and what is refused, byte by byte, and a generated script.
 
-use crate::{ReadFault, ScriptFault, ScriptKind, read_script};
-use ScriptKind::Syntax;
+use script_read::{ReadFault, ScriptFault, generate, read_script};
 use std::alloc::{AllocError, Global};
 use std::process::Abort;
 use std::test::Fail;
@@ -322,6 +321,117 @@ const REQUESTS: &str = r#"+ create =\d 0x1 0x7 create 0x1 0x0 0
 - leave
 "#;
 
+// Requests that are taken (`+`) and refused (`-`): the handle and the owner, what becomes of the list, its
+// entries, and their commas.
+const LISTS: &str = r#"+ setsecurity 1 keep keep
++ setsecurity 4294967295 keep keep
+- setsecurity 4294967296 keep keep
+- setsecurity 01 keep keep
++ setsecurity 1 0 keep
++ setsecurity 1 4294967295 keep
+- setsecurity 1 4294967296 keep
+- setsecurity 1 00 keep
+- setsecurity 1 +7 keep
+- setsecurity 1 null keep
+- setsecurity 1 Keep keep
+- setsecurity 1 keeps keep
+- setsecurity 1  keep
++ setsecurity 1 keep null
++ setsecurity 1 keep acl
+- setsecurity 1 keep Null
+- setsecurity 1 keep nulls
+- setsecurity 1 keep none
+- setsecurity 1 keep ac
+- setsecurity 1 keep ACL
+- setsecurity 1 keep
+- setsecurity 1 keep keep keep
++ setsecurity 1 keep acl,+7:0x1
++ setsecurity 1 keep acl,-0:0x0
++ setsecurity 1 keep acl,+4294967295:0xffffffff
++ setsecurity 1 keep acl,+7:0x1,-7:0x2,+7:0x1
+- setsecurity 1 keep acl,+4294967296:0x1
+- setsecurity 1 keep acl,+7:0x100000000
+- setsecurity 1 keep acl,+07:0x1
+- setsecurity 1 keep acl,+7:0x1F
+- setsecurity 1 keep acl,+7:0X1
+- setsecurity 1 keep acl,+7:0x01
+- setsecurity 1 keep acl,+7:0x
+- setsecurity 1 keep acl,+7:1
+- setsecurity 1 keep acl,+7:
+- setsecurity 1 keep acl,+7
+- setsecurity 1 keep acl,+7 0x1
+- setsecurity 1 keep acl,+70x1
+- setsecurity 1 keep acl,+7::0x1
+- setsecurity 1 keep acl,+7:0x1:0x1
+- setsecurity 1 keep acl,+:0x1
+- setsecurity 1 keep acl,7:0x1
+- setsecurity 1 keep acl,*7:0x1
+- setsecurity 1 keep acl,+-7:0x1
+- setsecurity 1 keep acl,
+- setsecurity 1 keep acl,+7:0x1,
+- setsecurity 1 keep acl,+7:0x1,,-7:0x1
+- setsecurity 1 keep acl,,+7:0x1
+- setsecurity 1 keep acl+7:0x1
+- setsecurity 1 keep acl;+7:0x1
+- setsecurity 1 keep acl,+7:0x1-7:0x1
+"#;
+
+// Requests, and behind `|` what is read of each.
+const CALLS: &str =
+    r#"read 1 18446744073709551615 0|Ask(Read { handle: 1, at: 18446744073709551615, count: 0 })
+write 2 end x|Ask(Write { handle: 2, at: None, bytes: Bytes { bytes: [] } })
+flush 3|Ask(Flush { handle: 3 })
+setend 4 5|Ask(SetEnd { handle: 4, length: 5 })
+lock 5 6 7 ex now|Ask(Lock { handle: 5, at: 6, count: 7, exclusive: true, wait: false })
+lock 6 7 8 sh wait|Ask(Lock { handle: 6, at: 7, count: 8, exclusive: false, wait: true })
+unlock 7 8 9|Ask(Unlock { handle: 7, at: 8, count: 9 })
+cancel 9|Ask(Cancel { number: 9 })
+wait 10|WaitFor(10)
+rename 1 =\%D800 replace|Ask(Rename { handle: 1, path: Name { units: [92, 55296] }, replace: true })
+rename 2 = keep|Ask(Rename { handle: 2, path: Name { units: [] }, replace: false })
+link 3 =a:b keep|Ask(Link { handle: 3, path: Name { units: [97, 58, 98] }, replace: false })
+link 4 =\ replace|Ask(Link { handle: 4, path: Name { units: [92] }, replace: true })
+setdelete 5 yes|Ask(SetDisposition { handle: 5, delete: true })
+setdelete 6 no|Ask(SetDisposition { handle: 6, delete: false })
+create =\ 0x10000 0x0 open 0x1000 0x0 0|Ask(Create { path: Name { units: [92] }, wanted: 65536, share: 0, disposition: OpenExisting, options: 4096, attributes: 0, key: 0 })
+querydir 1 names =* restart 2|Ask(QueryDir { handle: 1, kind: Names, expression: Name { units: [42] }, restart: true, room: 2 })
+querydir 2 dir = go 3|Ask(QueryDir { handle: 2, kind: Dir, expression: Name { units: [] }, restart: false, room: 3 })
+querydir 3 full =a go 4|Ask(QueryDir { handle: 3, kind: Full, expression: Name { units: [97] }, restart: false, room: 4 })
+querydir 4 idfull =%D800 restart 5|Ask(QueryDir { handle: 4, kind: IdFull, expression: Name { units: [55296] }, restart: true, room: 5 })
+query 5 basic 6|Ask(QueryInfo { handle: 5, kind: Basic, room: 6 })
+query 6 standard 7|Ask(QueryInfo { handle: 6, kind: Standard, room: 7 })
+query 7 internal 8|Ask(QueryInfo { handle: 7, kind: Internal, room: 8 })
+query 8 tag 9|Ask(QueryInfo { handle: 8, kind: Tag, room: 9 })
+query 9 stream 10|Ask(QueryInfo { handle: 9, kind: Streams, room: 10 })
+setbasic 1 2 3 4 5 0x6|Ask(SetBasic { handle: 1, creation: 2, access: 3, write: 4, change: 5, attributes: 6 })
+notify 1 0x2 tree 3|Ask(Notify { handle: 1, filter: 2, tree: true, room: 3 })
+notify 4 0xfff flat 5|Ask(Notify { handle: 4, filter: 4095, tree: false, room: 5 })
+setreparse 1 x0cff|Ask(SetReparse { handle: 1, bytes: Bytes { bytes: [12, 255] } })
+getreparse 2 3|Ask(GetReparse { handle: 2, room: 3 })
+deletereparse 3 0xa000000c|Ask(DeleteReparse { handle: 3, tag: 2684354572 })
+setquota 4 5|Ask(SetQuota { sid: 4, limit: 5 })
+queryquota 6|Ask(QueryQuota { sid: 6 })
+oplock 1 r|Ask(Oplock { handle: 1, level: R })
+oplock 2 rh|Ask(Oplock { handle: 2, level: RH })
+oplock 3 rw|Ask(Oplock { handle: 3, level: RW })
+oplock 4 rwh|Ask(Oplock { handle: 4, level: RWH })
+ack 5 none|Ask(Ack { handle: 5, level: Nil })
+ack 6 r|Ask(Ack { handle: 6, level: R })
+ack 7 rh|Ask(Ack { handle: 7, level: RH })
+ack 8 rw|Ask(Ack { handle: 8, level: RW })
+ack 9 rwh|Ask(Ack { handle: 9, level: RWH })
+create =\%D800:s 0xffffffff 0x8 supersede 0xffffefff 0x31b7 18446744073709551615|Ask(Create { path: Name { units: [92, 55296, 58, 115] }, wanted: 4294967295, share: 8, disposition: Supersede, options: 4294963199, attributes: 12727, key: 18446744073709551615 })
+create = 0x1 0x2 open 0x3 0x4 5|Ask(Create { path: Name { units: [] }, wanted: 1, share: 2, disposition: OpenExisting, options: 3, attributes: 4, key: 5 })
+create =: 0x2 0x3 create 0x4 0x5 6|Ask(Create { path: Name { units: [58] }, wanted: 2, share: 3, disposition: CreateNew, options: 4, attributes: 5, key: 6 })
+create =%0025 0x3 0x4 open_if 0x5 0x6 7|Ask(Create { path: Name { units: [37] }, wanted: 3, share: 4, disposition: OpenIf, options: 5, attributes: 6, key: 7 })
+create === 0x4 0x5 overwrite 0x6 0x7 8|Ask(Create { path: Name { units: [61, 61] }, wanted: 4, share: 5, disposition: Overwrite, options: 6, attributes: 7, key: 8 })
+create =~ 0x5 0x6 overwrite_if 0x7 0xa 9|Ask(Create { path: Name { units: [126] }, wanted: 5, share: 6, disposition: OverwriteIf, options: 7, attributes: 10, key: 9 })
+setsecurity 1 keep keep|Ask(SetSecurity { handle: 1, owner: None, dacl: Keep })
+setsecurity 2 0 null|Ask(SetSecurity { handle: 2, owner: Some(0), dacl: Remove })
+setsecurity 3 4294967295 acl|Ask(SetSecurity { handle: 3, owner: Some(4294967295), dacl: Put(BoundedList { items: [], room: 0 }) })
+setsecurity 4 keep acl,+7:0x1f01ff,-4294967295:0x0|Ask(SetSecurity { handle: 4, owner: None, dacl: Put(BoundedList { items: [Ace { allow: true, sid: 7, mask: 2032127 }, Ace { allow: false, sid: 4294967295, mask: 0 }], room: 2 }) })
+"#;
+
 // What a text is answered: `script`, or its least faulty line and its kind.
 fn answer_to(alloc: Global, text: &str) -> Result<String, AllocError> {
     match read_script(alloc, text.as_bytes()) {
@@ -343,7 +453,7 @@ fn each_text(rt: HostRuntime) -> Result<(), Fail> {
 }
 
 // Each is the request of a script of one client.
-pub fn each_request(rt: &impl Abort, alloc: Global, rows: &str) -> Result<(), Fail> {
+fn each_request(rt: &impl Abort, alloc: Global, rows: &str) -> Result<(), Fail> {
     for row in rows.lines() {
         let (mark, request) = row.split_once(' ').ok_or("two columns")?;
         let text = format!(in alloc; "fsa 1\nclient a 7\na 1 {request}\n")?;
@@ -357,6 +467,11 @@ pub fn each_request(rt: &impl Abort, alloc: Global, rows: &str) -> Result<(), Fa
 #[test]
 fn requests(rt: HostRuntime) -> Result<(), Fail> {
     each_request(&rt, rt.alloc(), REQUESTS)
+}
+
+#[test]
+fn access_lists(rt: HostRuntime) -> Result<(), Fail> {
+    each_request(&rt, rt.alloc(), LISTS)
 }
 
 #[test]
@@ -386,189 +501,34 @@ fn what_a_script_says(rt: HostRuntime) -> Result<(), Fail> {
 }
 
 #[test]
-fn what_locks_and_waits_say(rt: HostRuntime) -> Result<(), Fail> {
-    let text = "fsa 1\nclient a 7\n\
-                a 1 read 1 18446744073709551615 0\na 2 write 2 end x\na 3 flush 3\na 4 setend 4 5\n\
-                a 5 lock 5 6 7 ex now\na 6 lock 6 7 8 sh wait\na 7 unlock 7 8 9\na 8 cancel 9\na 9 wait 10\n";
-    let script = read_script(rt.alloc(), text.as_bytes())?;
-    let said = format!(in rt.alloc(); "{:?}", script.lines().as_slice())?;
-    assert_eq!(rt;
-        said.as_str(),
-        "[\
-        Call { client: 0, number: 1, what: Ask(Read { handle: 1, at: 18446744073709551615, count: 0 }) }, \
-        Call { client: 0, number: 2, what: Ask(Write { handle: 2, at: None, bytes: Bytes { bytes: [] } }) }, \
-        Call { client: 0, number: 3, what: Ask(Flush { handle: 3 }) }, \
-        Call { client: 0, number: 4, what: Ask(SetEnd { handle: 4, length: 5 }) }, \
-        Call { client: 0, number: 5, what: Ask(Lock { handle: 5, at: 6, count: 7, exclusive: true, wait: false }) }, \
-        Call { client: 0, number: 6, what: Ask(Lock { handle: 6, at: 7, count: 8, exclusive: false, wait: true }) }, \
-        Call { client: 0, number: 7, what: Ask(Unlock { handle: 7, at: 8, count: 9 }) }, \
-        Call { client: 0, number: 8, what: Ask(Cancel { number: 9 }) }, \
-        Call { client: 0, number: 9, what: WaitFor(10) }]"
-    );
-    Ok(())
-}
-
-#[test]
-fn what_names_and_marks_say(rt: HostRuntime) -> Result<(), Fail> {
-    let text = "fsa 1\nclient a 7\n\
-                a 1 rename 1 =\\%D800 replace\na 2 rename 2 = keep\na 3 link 3 =a:b keep\n\
-                a 4 link 4 =\\ replace\na 5 setdelete 5 yes\na 6 setdelete 6 no\n\
-                a 7 create =\\ 0x10000 0x0 open 0x1000 0x0 0\n";
-    let script = read_script(rt.alloc(), text.as_bytes())?;
-    let said = format!(in rt.alloc(); "{:?}", script.lines().as_slice())?;
-    assert_eq!(rt;
-        said.as_str(),
-        "[\
-        Call { client: 0, number: 1, what: Ask(Rename { handle: 1, path: Name { units: [92, 55296] }, replace: true }) }, \
-        Call { client: 0, number: 2, what: Ask(Rename { handle: 2, path: Name { units: [] }, replace: false }) }, \
-        Call { client: 0, number: 3, what: Ask(Link { handle: 3, path: Name { units: [97, 58, 98] }, replace: false }) }, \
-        Call { client: 0, number: 4, what: Ask(Link { handle: 4, path: Name { units: [92] }, replace: true }) }, \
-        Call { client: 0, number: 5, what: Ask(SetDisposition { handle: 5, delete: true }) }, \
-        Call { client: 0, number: 6, what: Ask(SetDisposition { handle: 6, delete: false }) }, \
-        Call { client: 0, number: 7, what: Ask(Create { path: Name { units: [92] }, \
-        wanted: 65536, share: 0, disposition: OpenExisting, options: 4096, attributes: 0, key: 0 }) }]"
-    );
-    Ok(())
-}
-
-#[test]
-fn what_queries_say(rt: HostRuntime) -> Result<(), Fail> {
-    let text = "fsa 1\nclient a 7\n\
-                a 1 querydir 1 names =* restart 2\na 2 querydir 2 dir = go 3\na 3 querydir 3 full =a go 4\n\
-                a 4 querydir 4 idfull =%D800 restart 5\na 5 query 5 basic 6\na 6 query 6 standard 7\n\
-                a 7 query 7 internal 8\na 8 query 8 tag 9\na 9 query 9 stream 10\n\
-                a 10 setbasic 1 2 3 4 5 0x6\na 11 notify 1 0x2 tree 3\na 12 notify 4 0xfff flat 5\n";
-    let script = read_script(rt.alloc(), text.as_bytes())?;
-    let said = format!(in rt.alloc(); "{:?}", script.lines().as_slice())?;
-    assert_eq!(rt;
-        said.as_str(),
-        "[\
-        Call { client: 0, number: 1, what: Ask(QueryDir { handle: 1, kind: Names, expression: Name { units: [42] }, restart: true, room: 2 }) }, \
-        Call { client: 0, number: 2, what: Ask(QueryDir { handle: 2, kind: Dir, expression: Name { units: [] }, restart: false, room: 3 }) }, \
-        Call { client: 0, number: 3, what: Ask(QueryDir { handle: 3, kind: Full, expression: Name { units: [97] }, restart: false, room: 4 }) }, \
-        Call { client: 0, number: 4, what: Ask(QueryDir { handle: 4, kind: IdFull, expression: Name { units: [55296] }, restart: true, room: 5 }) }, \
-        Call { client: 0, number: 5, what: Ask(QueryInfo { handle: 5, kind: Basic, room: 6 }) }, \
-        Call { client: 0, number: 6, what: Ask(QueryInfo { handle: 6, kind: Standard, room: 7 }) }, \
-        Call { client: 0, number: 7, what: Ask(QueryInfo { handle: 7, kind: Internal, room: 8 }) }, \
-        Call { client: 0, number: 8, what: Ask(QueryInfo { handle: 8, kind: Tag, room: 9 }) }, \
-        Call { client: 0, number: 9, what: Ask(QueryInfo { handle: 9, kind: Streams, room: 10 }) }, \
-        Call { client: 0, number: 10, what: Ask(SetBasic { handle: 1, creation: 2, access: 3, write: 4, change: 5, attributes: 6 }) }, \
-        Call { client: 0, number: 11, what: Ask(Notify { handle: 1, filter: 2, tree: true, room: 3 }) }, \
-        Call { client: 0, number: 12, what: Ask(Notify { handle: 4, filter: 4095, tree: false, room: 5 }) }]"
-    );
-    Ok(())
-}
-
-#[test]
-fn what_controls_say(rt: HostRuntime) -> Result<(), Fail> {
-    let text = "fsa 1\nclient a 7\n\
-                a 1 setreparse 1 x0cff\na 2 getreparse 2 3\na 3 deletereparse 3 0xa000000c\n\
-                a 4 setquota 4 5\na 5 queryquota 6\n";
-    let script = read_script(rt.alloc(), text.as_bytes())?;
-    let said = format!(in rt.alloc(); "{:?}", script.lines().as_slice())?;
-    assert_eq!(rt;
-        said.as_str(),
-        "[\
-        Call { client: 0, number: 1, what: Ask(SetReparse { handle: 1, bytes: Bytes { bytes: [12, 255] } }) }, \
-        Call { client: 0, number: 2, what: Ask(GetReparse { handle: 2, room: 3 }) }, \
-        Call { client: 0, number: 3, what: Ask(DeleteReparse { handle: 3, tag: 2684354572 }) }, \
-        Call { client: 0, number: 4, what: Ask(SetQuota { sid: 4, limit: 5 }) }, \
-        Call { client: 0, number: 5, what: Ask(QueryQuota { sid: 6 }) }]"
-    );
-    Ok(())
-}
-
-#[test]
-fn what_oplock_lines_say(rt: HostRuntime) -> Result<(), Fail> {
-    let text = "fsa 1\nclient a 7\n\
-                a 1 oplock 1 r\na 2 oplock 2 rh\na 3 oplock 3 rw\na 4 oplock 4 rwh\n\
-                a 5 ack 5 none\na 6 ack 6 r\na 7 ack 7 rh\na 8 ack 8 rw\na 9 ack 9 rwh\n";
-    let script = read_script(rt.alloc(), text.as_bytes())?;
-    let said = format!(in rt.alloc(); "{:?}", script.lines().as_slice())?;
-    assert_eq!(rt;
-        said.as_str(),
-        "[\
-        Call { client: 0, number: 1, what: Ask(Oplock { handle: 1, level: R }) }, \
-        Call { client: 0, number: 2, what: Ask(Oplock { handle: 2, level: RH }) }, \
-        Call { client: 0, number: 3, what: Ask(Oplock { handle: 3, level: RW }) }, \
-        Call { client: 0, number: 4, what: Ask(Oplock { handle: 4, level: RWH }) }, \
-        Call { client: 0, number: 5, what: Ask(Ack { handle: 5, level: Nil }) }, \
-        Call { client: 0, number: 6, what: Ask(Ack { handle: 6, level: R }) }, \
-        Call { client: 0, number: 7, what: Ask(Ack { handle: 7, level: RH }) }, \
-        Call { client: 0, number: 8, what: Ask(Ack { handle: 8, level: RW }) }, \
-        Call { client: 0, number: 9, what: Ask(Ack { handle: 9, level: RWH }) }]"
-    );
-    Ok(())
-}
-
-#[test]
-fn what_creates_say(rt: HostRuntime) -> Result<(), Fail> {
-    let text = "fsa 1\nclient a 7\n\
-                a 1 create =\\%D800:s 0xffffffff 0x8 supersede 0xffffefff 0x31b7 18446744073709551615\n\
-                a 2 create = 0x1 0x2 open 0x3 0x4 5\n\
-                a 3 create =: 0x2 0x3 create 0x4 0x5 6\n\
-                a 4 create =%0025 0x3 0x4 open_if 0x5 0x6 7\n\
-                a 5 create === 0x4 0x5 overwrite 0x6 0x7 8\n\
-                a 6 create =~ 0x5 0x6 overwrite_if 0x7 0xa 9\n";
-    let script = read_script(rt.alloc(), text.as_bytes())?;
-    let said = format!(in rt.alloc(); "{:?}", script.lines().as_slice())?;
-    assert_eq!(rt;
-        said.as_str(),
-        "[\
-        Call { client: 0, number: 1, what: Ask(Create { path: Name { units: [92, 55296, 58, 115] }, \
-        wanted: 4294967295, share: 8, disposition: Supersede, options: 4294963199, \
-        attributes: 12727, key: 18446744073709551615 }) }, \
-        Call { client: 0, number: 2, what: Ask(Create { path: Name { units: [] }, \
-        wanted: 1, share: 2, disposition: OpenExisting, options: 3, attributes: 4, key: 5 }) }, \
-        Call { client: 0, number: 3, what: Ask(Create { path: Name { units: [58] }, \
-        wanted: 2, share: 3, disposition: CreateNew, options: 4, attributes: 5, key: 6 }) }, \
-        Call { client: 0, number: 4, what: Ask(Create { path: Name { units: [37] }, \
-        wanted: 3, share: 4, disposition: OpenIf, options: 5, attributes: 6, key: 7 }) }, \
-        Call { client: 0, number: 5, what: Ask(Create { path: Name { units: [61, 61] }, \
-        wanted: 4, share: 5, disposition: Overwrite, options: 6, attributes: 7, key: 8 }) }, \
-        Call { client: 0, number: 6, what: Ask(Create { path: Name { units: [126] }, \
-        wanted: 5, share: 6, disposition: OverwriteIf, options: 7, attributes: 10, key: 9 }) }]"
-    );
-    Ok(())
-}
-
-// A script with so many requests.
-fn ticks(alloc: std::alloc::Global, count: u32) -> Result<String, std::alloc::AllocError> {
-    let mut text = String::from_str(alloc, "fsa 1\nclient a 7\n")?;
-    for number in 0..count {
-        let line = format!(in alloc; "a {} tick 0\n", number + 1)?;
-        text.push_str(line.as_str())?;
+fn what_each_request_says(rt: HostRuntime) -> Result<(), Fail> {
+    let alloc = rt.alloc();
+    for row in CALLS.lines() {
+        let (request, what) = row.split_once('|').ok_or("two columns")?;
+        let text = format!(in alloc; "fsa 1\nclient a 7\na 1 {request}\n")?;
+        let script = read_script(alloc, text.as_bytes())?;
+        let said = format!(in alloc; "{:?}", script.lines().as_slice())?;
+        let wanted = format!(in alloc; "[Call {{ client: 0, number: 1, what: {what} }}]")?;
+        assert_eq!(rt; said.as_str(), wanted.as_str(), "{row}");
     }
-    Ok(text)
-}
-
-// A script that writes so many bytes.
-fn long_write(alloc: std::alloc::Global, count: usize) -> Result<String, std::alloc::AllocError> {
-    let mut text = String::from_str(alloc, "fsa 1\nclient a 7\na 1 write 1 0 x")?;
-    text.push_str("0a".repeat(alloc, count)?.as_str())?;
-    text.push_str("\n")?;
-    Ok(text)
-}
-
-#[test]
-fn writes_have_16384_bytes_at_most(rt: HostRuntime) -> Result<(), Fail> {
-    let most = long_write(rt.alloc(), 16384)?;
-    let script = read_script(rt.alloc(), most.as_bytes())?;
-    assert_eq!(rt; script.lines().len(), 1);
-    let more = long_write(rt.alloc(), 16385)?;
-    let answer = read_script(rt.alloc(), more.as_bytes());
-    let Err(ReadFault::Bad(fault)) = answer else {
-        return Err(Fail::from("16,385 bytes"));
-    };
-    assert_eq!(rt; (fault.line, fault.kind), (3, Syntax));
     Ok(())
 }
 
-// The number of requests has no bound: numbers of three digits come too.
 #[test]
-fn long_scripts(rt: HostRuntime) -> Result<(), Fail> {
-    let text = ticks(rt.alloc(), 101)?;
-    let script = read_script(rt.alloc(), text.as_bytes())?;
-    assert_eq!(rt; script.lines().len(), 101);
+fn the_generated_script_of_zero(rt: HostRuntime) -> Result<(), Fail> {
+    let script = generate(rt.alloc(), 0)?;
+    assert_eq!(rt; script.lines().len(), 4096);
+    assert_eq!(rt; script.clients().len(), 4);
+    let first = format!(in rt.alloc(); "{:?}", script.lines().get(0))?;
+    assert_eq!(rt;
+        first.as_str(),
+        "Some(Call { client: 0, number: 1, what: Ask(Create { path: Name { units: [92, 102, 54, 51] }, \
+        wanted: 3, share: 7, disposition: OpenIf, options: 0, attributes: 0, key: 0 }) })"
+    );
+    let last = format!(in rt.alloc(); "{:?}", script.lines().get(4095))?;
+    assert_eq!(rt;
+        last.as_str(),
+        "Some(Call { client: 3, number: 1024, what: Ask(Close { handle: 1017 }) })"
+    );
     Ok(())
 }
