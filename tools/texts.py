@@ -45,8 +45,11 @@ def cases_of(document, faults):
         found.append((kind, source, line))
     for number, (kind, source, line) in enumerate(found):
         if kind not in ("fsa", "python", "words"):
+            before = found[number - 1][0] if number else ""
             if kind not in ("text", "why"):
                 faults.append(f"{document}:{line}: a block fenced as {kind!r} isn't run; indent it instead")
+            elif before not in (("fsa", "python", "words") if kind == "text" else ("text",)):
+                faults.append(f"{document}:{line}: a block fenced as `{kind}` follows nothing that is run, so it isn't compared")
             continue
         following = found[number + 1 : number + 3] + [("", "", 0)] * 2
         if following[0][0] != "text":
@@ -59,12 +62,19 @@ def cases_of(document, faults):
 def scripts_in(folder, faults):
     names = sorted(os.listdir(f"{TOP}/{folder}"))
     for name in names:
+        if name.endswith(".txt") and name[: -len("txt")] + "fsa" not in names:
+            faults.append(f"{folder}/{name} is a text without a script")
         if name.endswith(".fsa"):
             text = name[: -len("fsa")] + "txt"
             if text in names:
                 yield Case(f"{folder}/{name}", "fsa", read(f"{folder}/{name}"), read(f"{folder}/{text}"))
             else:
                 faults.append(f"{folder}/{name} has no text {folder}/{text}")
+
+
+def lines_of(text):
+    """Returns the lines of a text, and what stands behind its last line feed, which is nothing where it ends with one."""
+    return text.split("\n")
 
 
 def agree(wanted, printed):
@@ -122,8 +132,8 @@ def main(program):
                 faults.append(f"{case.place}: status {ran.returncode} doesn't go with what is printed")
         else:
             printed = by_try.get(scripts.index(case), "")
-        if not agree(case.text.splitlines(), printed.splitlines()):
-            faults.append(f"{case.place}: {first_difference(case.text.splitlines(), printed.splitlines())}")
+        if not agree(lines_of(case.text), lines_of(printed)):
+            faults.append(f"{case.place}: {first_difference(lines_of(case.text), lines_of(printed))}")
         if case.why is not None:
             line = re.match(r"bad line (\d+)$", printed)
             with tempfile.NamedTemporaryFile("w", encoding="utf-8") as it:
