@@ -18,7 +18,7 @@ FENCE = re.compile(r"^```(\w*) *([^\n]*)\n(.*?)^```[ \t]*$", re.M | re.S)
 
 
 def documents():
-    for at in (TOP, f"{TOP}/docs"):
+    for at in (TOP, f"{TOP}/docs", f"{TOP}/checks/rows"):
         for name in sorted(os.listdir(at)):
             if name.endswith(".md"):
                 yield os.path.relpath(f"{at}/{name}", TOP)
@@ -43,6 +43,9 @@ def cases_of(document, faults):
         if path and (not os.path.isfile(f"{TOP}/{path}") or read(path) != source):
             faults.append(f"{document}:{line}: this isn't what {path} has")
         found.append((kind, source, line))
+    for line in FENCE.sub("", read(document)).splitlines():
+        if re.match(r"\s*(```|~~~)", line):
+            faults.append(f"{document}: the fence {line.strip()!r} doesn't begin its line, or has no end, so its block isn't run")
     for number, (kind, source, line) in enumerate(found):
         if kind not in ("fsa", "python", "words"):
             before = found[number - 1][0] if number else ""
