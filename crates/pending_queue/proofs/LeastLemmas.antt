@@ -1,10 +1,10 @@
 -- The least of some numbers: found one by one, and as the first in order.
-use Rattle.std.proofs.Common.{◌≡◌, ℕ, Bool, ◌+◌, ◌<◌, List, [], ◌∷◌, length, drop, get_or, min, refl, ap, sym, ◌∙◌, arith, inl, inr, Option, Some, None}
-use Rattle.std.specs.Prelude.{filter, map, nat_lt, option_map, slice_get, if◌then◌else◌}
+use Rattle.std.proofs.Common.{◌≡◌, ℕ, ◌+◌, ◌<◌, List, [], ◌∷◌, length, drop, get_or, min, refl, ap, sym, ◌∙◌, arith, inl, inr, Option, Some, None}
+use Rattle.std.specs.Prelude.{◌==◌, map, nat_lt, option_map, slice_get, if◌then◌else◌}
 use Rattle.std.proofs.lemmas.Bool.{cases_Bool, ltb-true, ltb-false}
 use Rattle.std.proofs.lemmas.List.{drop_more}
 use Rattle.fsa_types.specs.Sorting.{put_in_order, in_order}
-use Rattle.pending_queue.specs.Lists.{least, least_of}
+use Rattle.pending_queue.specs.Lists.{least, least_of, ready_turns}
 
 -- the least of what was found and of these
 abbrev pub least_from : Option ℕ → List ℕ → Option ℕ
@@ -19,13 +19,13 @@ least_from-first : (found : Option ℕ) (number : ℕ) (numbers : List ℕ) → 
 least_from-first None number numbers = refl
 least_from-first (Some found) number numbers = least_turned (least numbers) found number
 
--- a number that passes is one of them
-pub least_from-more : (test : ℕ → Bool) (numbers : List ℕ) (i number : ℕ) (found : Option ℕ) → i < length numbers → number ≡ get_or numbers i number
-    → least_from (if test number then Some (least_of found number) else found) (filter test (drop (i + 1) numbers)) ≡ least_from found (filter test (drop i numbers))
-least_from-more test numbers i number found within read =
-    let here : drop i numbers ≡ number ∷ drop (i + 1) numbers = drop_more numbers i number within ∙ ap (λ first. first ∷ drop (i + 1) numbers) (sym read) in
-    elim (cases_Bool (test number)) [
-      | inl passes ↦ rw (here, passes) (least_from-first found number (filter test (drop (i + 1) numbers)))
+-- a call none of whose blockers lives is one of them
+pub least_from-more : (calls : List (ℕ × ℕ)) (i : ℕ) (call : ℕ × ℕ) (found : Option ℕ) → i < length calls → call ≡ get_or calls i call
+    → least_from (if call.1 == 0 then Some (least_of found call.0) else found) (ready_turns (drop (i + 1) calls)) ≡ least_from found (ready_turns (drop i calls))
+least_from-more calls i call found within read =
+    let here : drop i calls ≡ call ∷ drop (i + 1) calls = drop_more calls i call within ∙ ap (λ first. first ∷ drop (i + 1) calls) (sym read) in
+    elim (cases_Bool (call.1 == 0)) [
+      | inl passes ↦ rw (here, passes) (least_from-first found call.0 (ready_turns (drop (i + 1) calls)))
       | inr fails ↦ rw (here, fails) refl
     ]
 

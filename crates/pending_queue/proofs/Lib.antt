@@ -1,3 +1,4 @@
+pub mod CountLemmas
 pub mod HeldLaws
 pub mod LeastLemmas
 pub mod QueueLemmas

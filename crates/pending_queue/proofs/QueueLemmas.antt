@@ -1,16 +1,14 @@
 -- What a change of the turns and of the blockers under turns leaves of the calls that are held.
-use Rattle.std.proofs.Common.{◌≡◌, ℕ, Bool, suc, true, false, not, ◌+◌, ◌<◌, List, [], ◌∷◌, ◌++◌, length, get_or, refl, ap, sym, ◌∙◌, arith, inl, inr, eq-eqb}
+use Rattle.std.proofs.Common.{◌≡◌, ℕ, true, false, not, ◌<◌, List, [], ◌∷◌, ◌++◌, length, refl, ap, sym, ◌∙◌, arith, inl, inr, eq-eqb, Option}
 use Rattle.std.specs.List.{list_any, AllPairs}
 use Rattle.std.specs.Prelude.{◌==◌, ◌||◌, map, filter}
 use Rattle.std.proofs.lemmas.Bool.{cases_Bool, ne_eqb, eqb-true, eqb-false, false≢true}
-use Rattle.std.proofs.lemmas.List.{map-append, append-nil, length-append, length-map, get_or-map}
-use Rattle.std.proofs.lemmas.List.Folds.{list_any_at}
-use Rattle.std.proofs.lemmas.List.Quantifiers.{all_pairs_push}
+use Rattle.std.proofs.lemmas.List.{map-append, append-nil, length-map, get_or-map}
 use Rattle.std.proofs.lemmas.List.Elements.{filter-append}
 use Rattle.fsa_types.specs.Rows.{lives, without_row, with_row_changed}
 use Rattle.fsa_types.specs.declared.reply.Blocker.{Blocker}
-use Rattle.pending_queue.specs.Lists.{with_turn, is_free, least}
-use Rattle.pending_queue.specs.PendingQueue.{blockers_of, held_of, is_same, with_held, with_ended, calls_added, next_ready}
+use Rattle.pending_queue.specs.Lists.{AreCounted, counted, least, ready_turns, turns_of, with_turn}
+use Rattle.pending_queue.specs.PendingQueue.{blockers_of, held_of, is_same, with_held, with_ended, next_ready}
 use Rattle.pending_queue.proofs.LeastLemmas.{in_order-first}
 
 -- ---- the blockers of one turn
@@ -19,7 +17,7 @@ other_way : (a b : ℕ) → (a == b) ≡ false → (b == a) ≡ false
 other_way a b differ = ne_eqb b a (λ same. eqb-false a b differ (sym same))
 
 -- those of another turn stay where one turn's are taken out, and its own go
-blockers-kept : (waited : List (ℕ × Blocker)) (turn other : ℕ) → (other == turn) ≡ false
+pub blockers-kept : (waited : List (ℕ × Blocker)) (turn other : ℕ) → (other == turn) ≡ false
     → blockers_of (filter (λ e. not (e.0 == turn)) waited) other ≡ blockers_of waited other
 blockers-kept [] turn other differ = refl
 blockers-kept (e ∷ es) turn other differ =
@@ -42,7 +40,7 @@ blockers-gone (e ∷ es) turn =
     ]
 
 -- those that are put under one turn are its own, and no other's
-blockers-own : (blockers : List Blocker) (turn : ℕ) → blockers_of (map (λ blocker. (turn, blocker)) blockers) turn ≡ blockers
+pub blockers-own : (blockers : List Blocker) (turn : ℕ) → blockers_of (map (λ blocker. (turn, blocker)) blockers) turn ≡ blockers
 blockers-own [] turn = refl
 blockers-own (b ∷ bs) turn = rw (eq-eqb turn turn refl) (ap (λ rest. b ∷ rest) (blockers-own bs turn))
 
@@ -50,7 +48,7 @@ blockers-others : (blockers : List Blocker) (turn other : ℕ) → (other == tur
 blockers-others [] turn other differ = refl
 blockers-others (b ∷ bs) turn other differ = rw (other_way other turn differ) (blockers-others bs turn other differ)
 
-blockers-append : (some more : List (ℕ × Blocker)) (turn : ℕ) → blockers_of (some ++ more) turn ≡ blockers_of some turn ++ blockers_of more turn
+pub blockers-append : (some more : List (ℕ × Blocker)) (turn : ℕ) → blockers_of (some ++ more) turn ≡ blockers_of some turn ++ blockers_of more turn
 blockers-append some more turn =
     ap (map (λ (e : ℕ × Blocker). e.1)) (filter-append (λ (e : ℕ × Blocker). e.0 == turn) some more)
     ∙ map-append (λ (e : ℕ × Blocker). e.1) (filter (λ e. e.0 == turn) some) (filter (λ e. e.0 == turn) more)
@@ -59,11 +57,11 @@ blockers-append some more turn =
 abbrev pub put : List (ℕ × Blocker) → ℕ → List Blocker → List (ℕ × Blocker)
 put waited turn blockers = filter (λ e. not (e.0 == turn)) waited ++ map (λ blocker. (turn, blocker)) blockers
 
-put-own : (waited : List (ℕ × Blocker)) (turn : ℕ) (blockers : List Blocker) → blockers_of (put waited turn blockers) turn ≡ blockers
+pub put-own : (waited : List (ℕ × Blocker)) (turn : ℕ) (blockers : List Blocker) → blockers_of (put waited turn blockers) turn ≡ blockers
 put-own waited turn blockers = blockers-append (filter (λ e. not (e.0 == turn)) waited) (map (λ blocker. (turn, blocker)) blockers) turn
     ∙ ap (λ front. front ++ blockers_of (map (λ blocker. (turn, blocker)) blockers) turn) (blockers-gone waited turn) ∙ blockers-own blockers turn
 
-put-others : (waited : List (ℕ × Blocker)) (turn : ℕ) (blockers : List Blocker) (other : ℕ) → (other == turn) ≡ false
+pub put-others : (waited : List (ℕ × Blocker)) (turn : ℕ) (blockers : List Blocker) (other : ℕ) → (other == turn) ≡ false
     → blockers_of (put waited turn blockers) other ≡ blockers_of waited other
 put-others waited turn blockers other differ = blockers-append (filter (λ e. not (e.0 == turn)) waited) (map (λ blocker. (turn, blocker)) blockers) other
     ∙ ap (λ back. blockers_of (filter (λ e. not (e.0 == turn)) waited) other ++ back) (blockers-others blockers turn other differ)
@@ -137,53 +135,28 @@ held-held turns waited turn blockers =
           ∙ ap (λ its. held_of turns waited ++ (turn, its) ∷ []) (put-own waited turn blockers))
     ]
 
--- how many turns there are then
-pub length-with_turn : (turns : List ℕ) (waited : List (ℕ × Blocker)) (turn : ℕ) → length (with_turn turns turn) ≡ length turns + calls_added (held_of turns waited) turn
-length-with_turn turns waited turn =
-    elim (cases_Bool (list_any (λ other. other == turn) turns)) [
-      | inl there ↦ rw (held-lives turns waited turn, there) (omega arith)
-      | inr none ↦ rw (held-lives turns waited turn, none) (length-append turns (turn ∷ []))
-    ]
-
 -- ---- the calls none of whose blockers lives
 
-free-none : (waited : List (ℕ × Blocker)) (turn : ℕ) → (length (blockers_of waited turn) == 0) ≡ is_free waited turn
-free-none [] turn = refl
-free-none (e ∷ es) turn =
-    elim (cases_Bool (e.0 == turn)) [
-      | inl own ↦ rw own (ne_eqb (suc (length (blockers_of es turn))) 0 (λ none. absurd (omega arith)))
-      | inr other ↦ rw other (free-none es turn)
+ready-held : (turns : List ℕ) (waited : List (ℕ × Blocker)) → map (λ e. e.0) (filter (λ e. length e.1 == 0) (held_of turns waited)) ≡ ready_turns (counted turns waited)
+ready-held [] waited = refl
+ready-held (t ∷ ts) waited =
+    elim (cases_Bool (length (blockers_of waited t) == 0)) [
+      | inl free ↦ rw free (ap (λ rest. t ∷ rest) (ready-held ts waited))
+      | inr blocked ↦ rw blocked (ready-held ts waited)
     ]
 
-free-turns : (turns : List ℕ) (waited : List (ℕ × Blocker)) → map (λ e. e.0) (filter (λ e. length e.1 == 0) (held_of turns waited)) ≡ filter (is_free waited) turns
-free-turns [] waited = refl
-free-turns (t ∷ ts) waited =
-    elim (cases_Bool (is_free waited t)) [
-      | inl free ↦ rw (free-none waited t, free) (ap (λ rest. t ∷ rest) (free-turns ts waited))
-      | inr blocked ↦ rw (free-none waited t, blocked) (free-turns ts waited)
-    ]
-
-pub next_ready-least : (turns : List ℕ) (waited : List (ℕ × Blocker)) → next_ready (held_of turns waited) ≡ least (filter (is_free waited) turns)
-next_ready-least turns waited = in_order-first (filter (λ e. length e.1 == 0) (held_of turns waited)) ∙ ap least (free-turns turns waited)
+pub next_ready-first : (calls : List (ℕ × ℕ)) (waited : List (ℕ × Blocker)) (first : Option ℕ) → AreCounted calls waited first → next_ready (held_of (turns_of calls) waited) ≡ first
+next_ready-first calls waited first are = in_order-first (filter (λ e. length e.1 == 0) (held_of (turns_of calls) waited))
+    ∙ ap least (ready-held (turns_of calls) waited) ∙ ap (λ its. least (ready_turns its)) (sym are.counts) ∙ sym are.is_first
 
 -- ---- no two turns are the same
 
-none-at : (test : ℕ → Bool) (turns : List ℕ) → list_any test turns ≡ false → (k d : ℕ) → k < length turns → test (get_or turns k d) ≡ false
-none-at test turns none k d within =
-    elim (cases_Bool (test (get_or turns k d))) [
-      | inl passes ↦ absurd (false≢true (sym none ∙ list_any_at test turns k d within passes))
-      | inr fails ↦ fails
-    ]
-
-pub differ-with_turn : (turns : List ℕ) (turn : ℕ) → AllPairs (λ a b. (a == b) ≡ false) turns → AllPairs (λ a b. (a == b) ≡ false) (with_turn turns turn)
-differ-with_turn turns turn differ =
-    elim (cases_Bool (list_any (λ other. other == turn) turns)) [
-      | inl there ↦ rw there differ
-      | inr none ↦ rw none (all_pairs_push (λ a b. (a == b) ≡ false) turns turn differ (none-at (λ other. other == turn) turns none))
-    ]
-
-pub differ-held_of : (turns : List ℕ) (waited : List (ℕ × Blocker)) → AllPairs (λ a b. (a == b) ≡ false) turns → AllPairs (λ a b. (a.0 == b.0) ≡ false) (held_of turns waited)
-differ-held_of turns waited differ i j d below within =
+pub differ-held_of : (calls : List (ℕ × ℕ)) (waited : List (ℕ × Blocker)) → AllPairs (λ a b. (a.0 == b.0) ≡ false) calls → AllPairs (λ a b. (a.0 == b.0) ≡ false) (held_of (turns_of calls) waited)
+differ-held_of calls waited differ i j d below within =
     let view : ℕ → ℕ × List Blocker = λ turn. (turn, blockers_of waited turn) in
-    let few : j < length turns = (let len = length-map turns view in omega arith) in
-    rw (get_or-map view turns i 0 d (omega arith), get_or-map view turns j 0 d few) (differ i j 0 below few)
+    let turn : ℕ × ℕ → ℕ = λ call. call.0 in
+    let many = length-map (turns_of calls) view in
+    let calls_many = length-map calls turn in
+    let few : j < length calls = omega arith in
+    rw (get_or-map view (turns_of calls) i 0 d (omega arith), get_or-map view (turns_of calls) j 0 d (omega arith), get_or-map turn calls i (0, 0) 0 (omega arith), get_or-map turn calls j (0, 0) 0 (omega arith))
+    (differ i j (0, 0) below few)

@@ -1,15 +1,10 @@
--- Turns, and blockers with the turns that wait for them.
-use Rattle.std.specs.Prelude.{ℕ, Bool, List, [], ◌∷◌, ◌++◌, ◌==◌, not, min, Option, Some, None, if◌then◌else◌}
+-- Calls with how many of their blockers live, and blockers with the turns that wait for them.
+use Rattle.std.specs.Prelude.{ℕ, Bool, false, ◌≡◌, List, [], ◌∷◌, ◌++◌, ◌==◌, ◌-◌, min, map, filter, length, slice_get, Option, Some, None, AllPairs, if◌then◌else◌}
 use Rattle.std.specs.List.{list_any}
+use Rattle.std.specs.Option.{option_map_or}
+use Rattle.fsa_types.specs.Rows.{lives, with_row_changed}
 use Rattle.fsa_types.specs.declared.reply.Blocker.{Blocker}
-
--- the turns with this one among them
-abbrev pub with_turn : List ℕ → ℕ → List ℕ
-with_turn turns turn = if list_any (λ other. other == turn) turns then turns else turns ++ turn ∷ []
-
--- no blocker stands under this turn
-abbrev pub is_free : List (ℕ × Blocker) → ℕ → Bool
-is_free waited turn = not (list_any (λ entry. entry.0 == turn) waited)
+use Rattle.pending_queue.specs.PendingQueue.{blockers_of, is_same}
 
 -- the lesser of a number, where there is one, and another
 abbrev pub least_of : Option ℕ → ℕ → ℕ
@@ -20,3 +15,40 @@ least_of (Some other) number = min other number
 abbrev pub least : List ℕ → Option ℕ
 least [] = None
 least (number ∷ numbers) = Some (least_of (least numbers) number)
+
+-- the turns with this one among them
+abbrev pub with_turn : List ℕ → ℕ → List ℕ
+with_turn turns turn = if list_any (λ other. other == turn) turns then turns else turns ++ turn ∷ []
+
+-- ---- calls, each its turn and how many of its blockers live
+
+abbrev pub turns_of : List (ℕ × ℕ) → List ℕ
+turns_of calls = map (λ call. call.0) calls
+
+-- the turns of those none of whose blockers lives
+abbrev pub ready_turns : List (ℕ × ℕ) → List ℕ
+ready_turns calls = map (λ call. call.0) (filter (λ call. call.1 == 0) calls)
+
+-- the call at this place is the one of this turn
+abbrev pub is_at : List (ℕ × ℕ) → ℕ → ℕ → Bool
+is_at calls place turn = option_map_or (λ call. call.0 == turn) (slice_get calls place) false
+
+-- so many blockers of the call of this turn live: in its place where it is there already, else behind all others
+abbrev pub with_count : List (ℕ × ℕ) → ℕ → ℕ → List (ℕ × ℕ)
+with_count calls turn count = if lives calls turn then with_row_changed (λ _. count) calls turn else calls ++ (turn, count) ∷ []
+
+-- one less for each of these entries that is of this blocker
+abbrev pub discounted : Blocker → List (ℕ × Blocker) → List (ℕ × ℕ) → List (ℕ × ℕ)
+discounted blocker [] calls = calls
+discounted blocker (entry ∷ entries) calls = discounted blocker entries (if is_same blocker entry.1 then with_row_changed (λ count. count - 1) calls entry.0 else calls)
+
+-- the turns, each with how many blockers stand under it
+abbrev pub counted : List ℕ → List (ℕ × Blocker) → List (ℕ × ℕ)
+counted turns waited = map (λ turn. (turn, length (blockers_of waited turn))) turns
+
+-- no two calls have one turn; their counts are those of the blockers that stand under their turns; and the first that
+-- may be taken up
+pub record AreCounted (calls : List (ℕ × ℕ)) (waited : List (ℕ × Blocker)) (first : Option ℕ) : Type 0 where
+  pub differ : AllPairs (λ a b. (a.0 == b.0) ≡ false) calls
+  pub counts : calls ≡ counted (turns_of calls) waited
+  pub is_first : first ≡ least (ready_turns calls)

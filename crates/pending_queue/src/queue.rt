@@ -4,9 +4,8 @@ ghost use Rattle.std.specs.Prelude.{◌≡◌, ◌≤◌, ◌+◌, ◌==◌, [],
 ghost use Rattle.fsa_types.specs.Rows.{lives, without_row};
 ghost use Rattle.pending_queue.specs.PendingQueue.{with_held, with_ended, next_ready, calls_added};
 
-use crate::lists::{
-    add_turn, drop_blocker, drop_blockers_of, drop_turn, has_turn, least_ready, put_blockers,
-};
+use crate::calls::{count_down_each, least_ready, put_count, take_call};
+use crate::lists::{drop_blocker, drop_rest, is_waited_for, put_blockers};
 use fsa_types::{Blocker, BlockerList, NoMemory};
 use std::alloc::Global;
 use std::marker::Model;
@@ -15,26 +14,29 @@ use std::marker::Model;
 /// which they were held.
 #[derive(Debug, Drop)]
 pub struct PendingQueue {
-    // The turns of the calls.
-    turns: Vec<u64>,
+    // The calls, each its turn and how many of its blockers live.
+    calls: Vec<(u64, usize)>,
     // The blockers that live, each with the turn of the call that waits for it.
     waited: Vec<(u64, Blocker)>,
+    // The least turn of a call none of whose blockers lives.
+    first: Option<u64>,
 }
 
 impl Model for PendingQueue {
+    ghost use Rattle.pending_queue.specs.Lists.{AreCounted, turns_of};
     ghost use Rattle.pending_queue.specs.PendingQueue.{Queue, held_of};
-    ghost use Rattle.std.specs.Prelude.{◌≡◌, ◌==◌, ◌-◌, false, AllPairs};
+    ghost use Rattle.std.specs.Prelude.{◌-◌};
     ghost use Rattle.std.specs.Vec.{vec_capacity, vec_len};
 
     ghost Value = { Queue };
 
     ghost view = { λ q. record {
-      held = held_of q.turns.items q.waited.items;
-      room_for_calls = vec_capacity q.turns - vec_len q.turns;
+      held = held_of (turns_of q.calls.items) q.waited.items;
+      room_for_calls = vec_capacity q.calls - vec_len q.calls;
       room_for_blockers = vec_capacity q.waited - vec_len q.waited;
     } };
 
-    ghost invariant = { λ q. AllPairs (λ a b. (a == b) ≡ false) q.turns.items };
+    ghost invariant = { λ q. AreCounted q.calls.items q.waited.items q.first };
 }
 
 impl PendingQueue {
@@ -43,8 +45,9 @@ impl PendingQueue {
         ensures { result.held ≡ [] }
     {
         PendingQueue {
-            turns: Vec::new(alloc),
+            calls: Vec::new(alloc),
             waited: Vec::new(alloc),
+            first: None,
         }
     }
 
@@ -57,7 +60,7 @@ impl PendingQueue {
         ensures calls_kept { self.old.room_for_calls ≤ self.new.room_for_calls }
         ensures blockers_kept { self.old.room_for_blockers ≤ self.new.room_for_blockers }
     {
-        self.turns.reserve(calls)?;
+        self.calls.reserve(calls)?;
         self.waited.reserve(blockers)?;
         Ok(())
     }
@@ -84,8 +87,9 @@ impl PendingQueue {
         ensures blockers_left { self.old.room_for_blockers ≤ self.new.room_for_blockers + length blockers.now }
     {
         self.waited.reserve(blockers.len())?;
-        add_turn(&mut self.turns, turn)?;
+        put_count(&mut self.calls, turn, blockers.len())?;
         put_blockers(&mut self.waited, turn, blockers);
+        self.first = least_ready(&self.calls);
         Ok(())
     }
 
@@ -96,7 +100,12 @@ impl PendingQueue {
         ensures calls_kept { self.old.room_for_calls ≤ self.new.room_for_calls }
         ensures blockers_kept { self.old.room_for_blockers ≤ self.new.room_for_blockers }
     {
+        if !is_waited_for(&self.waited, blocker) {
+            return;
+        }
+        count_down_each(&mut self.calls, &self.waited, blocker);
         drop_blocker(&mut self.waited, blocker);
+        self.first = least_ready(&self.calls);
     }
 
     /// The least turn of a call none of whose blockers lives; `None` exactly where there is none.
@@ -104,7 +113,7 @@ impl PendingQueue {
         ensures turn { result ≡ next_ready self.now.held }
         ensures differ { AllPairs (λ a b. (a.0 == b.0) ≡ false) self.now.held }
     {
-        least_ready(&self.turns, &self.waited)
+        self.first
     }
 
     /// Holds the call of this turn no more; `false` exactly where it isn't held. It takes no memory, and
@@ -115,9 +124,11 @@ impl PendingQueue {
         ensures calls_kept { self.old.room_for_calls ≤ self.new.room_for_calls }
         ensures blockers_kept { self.old.room_for_blockers ≤ self.new.room_for_blockers }
     {
-        let found = has_turn(&self.turns, turn);
-        drop_turn(&mut self.turns, turn);
-        drop_blockers_of(&mut self.waited, turn);
-        found
+        let Some(count) = take_call(&mut self.calls, turn) else {
+            return false;
+        };
+        drop_rest(&mut self.waited, turn, count);
+        self.first = least_ready(&self.calls);
+        true
     }
 }

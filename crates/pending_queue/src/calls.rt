@@ -1,0 +1,132 @@
+//! What is done to the list of calls, each its turn and how many of its blockers live.
+
+ghost use Rattle.std.specs.Prelude.{◌≡◌, ◌≤◌, ◌-◌, ◌==◌, false, Some, IfNone, IsOk, OnOk, OnErr, AllPairs, length, position, if◌then◌else◌};
+ghost use Rattle.std.specs.Vec.{vec_capacity, vec_len};
+ghost use Rattle.fsa_types.specs.Rows.{lives, row_of, with_row_changed, without_row};
+ghost use Rattle.pending_queue.specs.Lists.{discounted, is_at, least, least_of, ready_turns, turns_of, with_count};
+
+use crate::lists::is_same;
+use fsa_types::{Blocker, NoMemory};
+
+// Whether the call at this place is the one of this turn.
+fn is_at(calls: &[(u64, usize)], place: usize, turn: u64) -> bool
+    ensures { result ≡ is_at calls.now place turn }
+{
+    match calls.get(place) {
+        None => false,
+        Some(call) => call.0 == turn,
+    }
+}
+
+// The place of the call of this turn. It is found by halves where the turns rise, as they do where no call is held
+// again after it was let go; else by a look at each.
+fn place_of(calls: &[(u64, usize)], turn: u64) -> Option<usize>
+    requires differ { AllPairs (λ a b. (a.0 == b.0) ≡ false) calls.now }
+    ensures place { result ≡ position (λ call. call.0 == turn) calls.now }
+    ensures none { IfNone result (lives calls.now turn ≡ false) }
+{
+    let place = calls.partition_point(|call| call.0 < turn);
+    if is_at(calls, place, turn) {
+        return Some(place);
+    }
+    look_for(calls, turn)
+}
+
+// The same by a look at each.
+fn look_for(calls: &[(u64, usize)], turn: u64) -> Option<usize>
+    ensures { result ≡ position (λ call. call.0 == turn) calls.now }
+{
+    calls.iter().position(|call| call.0 == turn)
+}
+
+/// So many blockers of the call of this turn live. It takes memory only where the turn is new and there is no spare
+/// room.
+pub fn put_count(calls: &mut Vec<(u64, usize)>, turn: u64, count: usize) -> Result<(), NoMemory>
+    requires differ { AllPairs (λ a b. (a.0 == b.0) ≡ false) calls.old.items }
+    ensures ok { OnOk result (calls.new.items ≡ with_count calls.old.items turn count) }
+    ensures err { OnErr result (calls.new.items ≡ calls.old.items) }
+    ensures len { OnOk result (vec_len calls.new ≡ length (with_count calls.old.items turn count)) }
+    ensures succeeds { length (with_count calls.old.items turn count) ≤ vec_capacity calls.old → IsOk result }
+    ensures room { vec_capacity calls.old ≤ vec_capacity calls.new }
+{
+    match place_of(calls, turn) {
+        Some(place) => calls[place] = (turn, count),
+        None => calls.push((turn, count))?,
+    }
+    Ok(())
+}
+
+// One blocker of the call of this turn lives no more.
+fn count_down(calls: &mut Vec<(u64, usize)>, turn: u64)
+    requires differ { AllPairs (λ a b. (a.0 == b.0) ≡ false) calls.old.items }
+    ensures items { calls.new.items ≡ with_row_changed (λ count. count - 1) calls.old.items turn }
+    ensures turns { turns_of calls.new.items ≡ turns_of calls.old.items }
+    ensures len { vec_len calls.new ≡ vec_len calls.old }
+    ensures room { vec_capacity calls.new ≡ vec_capacity calls.old }
+{
+    if let Some(place) = place_of(calls, turn) {
+        lower(&mut calls[place]);
+    }
+}
+
+// One less.
+fn lower(call: &mut (u64, usize))
+    ensures { call.new ≡ (call.old.0, call.old.1 - 1) }
+{
+    call.1 = call.1.saturating_sub(1);
+}
+
+/// This blocker, of whatever call, lives no more.
+pub fn count_down_each(calls: &mut Vec<(u64, usize)>, waited: &[(u64, Blocker)], blocker: Blocker)
+    requires differ { AllPairs (λ a b. (a.0 == b.0) ≡ false) calls.old.items }
+    ensures items { calls.new.items ≡ discounted blocker waited.now calls.old.items }
+    ensures len { vec_len calls.new ≡ vec_len calls.old }
+    ensures room { vec_capacity calls.new ≡ vec_capacity calls.old }
+{
+    for entry in waited {
+        if is_same(blocker, entry.1) {
+            count_down(calls, entry.0);
+        }
+    }
+}
+
+/// Takes the call of this turn out, and gives how many of its blockers live; `None` exactly where it isn't there.
+pub fn take_call(calls: &mut Vec<(u64, usize)>, turn: u64) -> Option<usize>
+    requires differ { AllPairs (λ a b. (a.0 == b.0) ≡ false) calls.old.items }
+    ensures count { result ≡ row_of calls.old.items turn }
+    ensures items { calls.new.items ≡ without_row calls.old.items turn }
+    ensures few { vec_len calls.new ≤ vec_len calls.old }
+    ensures room { vec_capacity calls.new ≡ vec_capacity calls.old }
+{
+    match place_of(calls, turn) {
+        None => None,
+        Some(place) => {
+            let call = calls.remove(place);
+            Some(call.1)
+        }
+    }
+}
+
+/// The least turn of a call none of whose blockers lives.
+pub fn least_ready(calls: &[(u64, usize)]) -> Option<u64>
+    ensures { result ≡ least (ready_turns calls.now) }
+{
+    let mut ready = None;
+    for call in calls {
+        ready = least_with(ready, call.0, call.1 == 0);
+    }
+    ready
+}
+
+// The lesser of what was found and this turn, where it counts.
+fn least_with(found: Option<u64>, turn: u64, counts: bool) -> Option<u64>
+    ensures { result ≡ (if counts then Some (least_of found turn) else found) }
+{
+    if !counts {
+        return found;
+    }
+    match found {
+        None => Some(turn),
+        Some(other) => Some(other.min(turn)),
+    }
+}
