@@ -14,9 +14,9 @@
 //! ```
 //!
 //! The calls group so: links (`find_child`, `find_child_after`, `find_link_of`, `find_link_number`, `has_link`,
-//! `has_child`, `count_links`, `count_unmarked_links`, `is_at_or_below`); files (`has_directory`, `FileRow::set_basic`,
-//! `set_owner`, `set_dacl`, `set_point`); handles (`find_handle`, `find_next`,
-//! `count_on`, `is_one_of`, `some_clashes`, `is_open_by_others`) and their enumerations (`Enumeration`, `Cursor`); streams (`find_stream`, `is_stream_of`, and `StreamRow` with
+//! `has_child`, `count_links`, `count_unmarked_links`, `is_at_or_below`); files (`FileRow::set_basic`,
+//! `set_owner`, `set_dacl`, `set_point`); handles (`is_opened_by`, `find_next`,
+//! `count_on`, `is_one_of`, `is_clashing`, `some_clashes`, `is_open_by_others`) and their enumerations (`Enumeration`, `Cursor`); streams (`find_stream`, `is_stream_of`, and `StreamRow` with
 //! its bytes); the space that streams take (`clusters_of`, `clusters_of_file`) and what an owner may be
 //! charged (`find_limit`); oplocks (`effect`, `is_awaited`, `in_both`, `is_within`, `is_same_key`, `is_oplock_of`,
 //! `find_break`, `find_target`);
@@ -40,7 +40,6 @@ mod cursors;
 mod effects;
 mod growth;
 mod handles;
-mod kinds;
 mod links;
 mod noting;
 mod opens;
@@ -55,14 +54,15 @@ pub use effects::{
     BreakEffect, effect, has_read, has_write, in_both, is_awaited, is_same_key, is_within,
 };
 pub use growth::{clusters_of, clusters_of_file};
-pub use handles::find_handle;
-pub use kinds::has_directory;
+pub use handles::is_opened_by;
 pub use links::{
     count_links, count_unmarked_links, find_child, find_link_number, find_link_of, has_child,
     has_link,
 };
 pub use noting::Changes;
-pub use opens::{count_on, find_next, is_at_or_below, is_one_of, is_open_by_others, some_clashes};
+pub use opens::{
+    count_on, find_next, is_at_or_below, is_clashing, is_one_of, is_open_by_others, some_clashes,
+};
 pub use rows::{FileRow, HandleRow, LinkRow, Need, StreamInfo, StreamRow};
 pub use streams::{find_stream, is_stream_of};
 pub use waiting::{

@@ -76,8 +76,8 @@ pub fn count_on(handles: &[(u64, HandleRow)], links: &[(u64, LinkRow)], on: Hand
         .count()
 }
 
-// Whether a handle is of the set and clashes.
-fn is_clashing(
+/// Whether a handle is of the set and clashes with these access and share masks.
+pub fn is_clashing(
     links: &[(u64, LinkRow)],
     on: HandleSet,
     access: u32,

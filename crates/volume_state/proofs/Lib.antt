@@ -3,6 +3,7 @@ pub mod DropLaws
 pub mod GrantLaws
 pub mod GrowthLemmas
 pub mod HandleLaws
+pub mod KindLaws
 pub mod MarkLaws
 pub mod MovedLaws
 pub mod OpenLaws

@@ -11,7 +11,7 @@ ghost use Rattle.volume_state.specs.Room.{IsNoLess};
 
 use crate::volume::Volume;
 use volume_breaks::{SpareList, release_breaks, release_locks};
-use volume_rows::{HandleRow, WatchRow, find_handle, is_watch_of};
+use volume_rows::{HandleRow, WatchRow, is_watch_of};
 
 impl Volume {
     /// The handle of this number; `None` exactly where there is none.
@@ -34,7 +34,7 @@ impl Volume {
         ensures lives { IfSome result (λ id. IsTrue (lives self.now.content.handles id)) }
         ensures opened { IfSome result (λ id. IfSome (row_of self.now.content.handles id) (λ row. IsTrue (is_opened_by client number row))) }
     {
-        find_handle(self.handles.as_slice(), client, number)
+        self.handles.opened_by(client, number)
     }
 
     /// Adds a handle, and gives its number.

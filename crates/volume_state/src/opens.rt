@@ -8,24 +8,22 @@ ghost use Rattle.fsa_model.specs.Lookups.{handles_on, has_row, is_after, is_belo
 
 use crate::volume::Volume;
 use fsa_types::HandleSet;
-use volume_rows::{count_on, find_next, some_clashes};
+use volume_rows::find_next;
 
 impl Volume {
     /// How many handles of the set there are.
     pub fn handles_on(&self, on: HandleSet) -> u32
         ensures { result ≡ length (handles_on self.now.content on) }
     {
-        let handles = self.handles.as_slice();
-        let links = self.links.as_slice();
-        count_on(handles, links, on) as u32
+        self.handles.count_on(self.links.as_slice(), on) as u32
     }
 
     /// Whether an open with these access and share masks clashes with some handle of the set.
     pub fn clashes(&self, on: HandleSet, access: u32, share: u32) -> bool
         ensures { result ≡ clashes_on self.now.content on access share }
     {
-        let handles = self.handles.as_slice();
-        some_clashes(handles, self.links.as_slice(), on, access, share)
+        self.handles
+            .some_clashes(self.links.as_slice(), on, access, share)
     }
 
     /// That client's handle with the least number above `after`; `None` exactly where there is none.

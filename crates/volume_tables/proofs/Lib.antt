@@ -1,3 +1,4 @@
+pub mod IndexLaws
 pub mod LockLemmas
 pub mod PlaceLemmas
 pub mod RangeLemmas

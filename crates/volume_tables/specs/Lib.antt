@@ -1,3 +1,4 @@
+pub mod HandleIndex
 pub mod HandleTable
 pub mod LinkTable
 pub mod Ranges

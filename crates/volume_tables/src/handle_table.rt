@@ -1,25 +1,29 @@
 //! The handles of a volume with the byte-range locks that they hold.
 
-ghost use Rattle.std.specs.Prelude.{ℕ, ◌≡◌, ◌≤◌, ◌<◌, ◌+◌, ◌^◌, ◌++◌, ◌∷◌, [], ◌==◌, not, false, Some, IsSome, IfSome, IfNone, OnOk, filter};
+ghost use Rattle.std.specs.Prelude.{ℕ, ◌≡◌, ◌≤◌, ◌<◌, ◌+◌, ◌^◌, ◌++◌, ◌∷◌, [], ◌==◌, ◌&&◌, not, false, Some, IsSome, IfSome, IfNone, OnOk, filter, length};
 ghost use Rattle.std.specs.Option.{option_copied, option_map_or, ForSome};
 ghost use Rattle.fsa_types.specs.Rows.{row_of, with_row_changed, without_row, IsNumbered};
 ghost use Rattle.fsa_model.specs.Edits.{is_lock_on};
-ghost use Rattle.fsa_model.specs.Lookups.{number_of};
+ghost use Rattle.fsa_model.specs.Lookups.{has_row, is_one_of, is_opened_by, number_of};
+ghost use Rattle.fsa_types.specs.Sharing.{clash};
 ghost use Rattle.fsa_types.specs.Ranges.{without_first};
 ghost use Rattle.range_locks.specs.RangeTable.{is_of, is_range};
+ghost use Rattle.volume_tables.specs.HandleIndex.{AreIndexed};
 ghost use Rattle.volume_tables.specs.HandleTable.{stream_of_handle, ranges_on};
 ghost use Rattle.volume_tables.specs.Ranges.{ranges_in, room_at, AreSetIn};
 ghost use Rattle.volume_tables.specs.Rooms.{room_in};
 
+use crate::among::{count_among, find_opened, some_clash_among};
+use crate::handle_index::HandleIndex;
 use crate::lock_row::LockRow;
 use crate::ranges::StreamRanges;
 use crate::room_list::RoomList;
-use fsa_types::NoMemory;
+use fsa_types::{HandleSet, NoMemory};
 use object_tables::Table;
 use range_locks::{Range, RangeTable};
 use std::alloc::Global;
 use std::marker::Model;
-use volume_rows::{Enumeration, HandleRow};
+use volume_rows::{Enumeration, HandleRow, LinkRow, count_on, some_clashes};
 
 /// Handles under numbers that rise from 1, the byte-range locks that they hold, under numbers of their
 /// own, and for each stream how many more locks can be added on it without taking memory. A lock is on
@@ -27,6 +31,8 @@ use volume_rows::{Enumeration, HandleRow};
 #[derive(Debug, Drop)]
 pub struct HandleTable {
     table: Table<HandleRow>,
+    // The handles by the calls that opened them, by streams and by links; what was promised is its room.
+    index: HandleIndex,
     locks: Table<LockRow>,
     // The locks once more, stream by stream.
     ranges: StreamRanges,
@@ -35,13 +41,15 @@ pub struct HandleTable {
 }
 
 impl Model for HandleTable {
+    ghost use Rattle.std.specs.Prelude.{◌≤◌};
+    ghost use Rattle.volume_tables.specs.HandleIndex.{AreIndexed};
     ghost use Rattle.volume_tables.specs.HandleTable.{HandleRows, AreTabled, HaveRoom};
 
     ghost Value = { HandleRows };
 
-    ghost view = { λ t. record { rows = t.table.rows; last = t.table.last; room = t.table.room; locks = t.locks.rows; last_lock = t.locks.last; rooms = t.rooms } };
+    ghost view = { λ t. record { rows = t.table.rows; last = t.table.last; room = t.index.room; locks = t.locks.rows; last_lock = t.locks.last; rooms = t.rooms } };
 
-    ghost invariant = { λ t. AreTabled t.table.rows t.locks.rows t.ranges × HaveRoom t.rooms t.ranges t.locks.room };
+    ghost invariant = { λ t. AreTabled t.table.rows t.locks.rows t.ranges × HaveRoom t.rooms t.ranges t.locks.room × AreIndexed t.table.rows t.index × t.index.room ≤ t.table.room };
 }
 
 impl HandleTable {
@@ -55,6 +63,7 @@ impl HandleTable {
     {
         HandleTable {
             table: Table::new(alloc),
+            index: HandleIndex::new(alloc),
             locks: Table::new(alloc),
             ranges: StreamRanges::new(alloc),
             rooms: RoomList::new(alloc),
@@ -67,7 +76,8 @@ impl HandleTable {
         ensures room { OnOk result (more ≤ self.new.room) }
         ensures kept { self.old.room ≤ self.new.room }
     {
-        self.table.reserve(more)
+        self.table.reserve(more)?;
+        self.index.reserve(more)
     }
 
     /// Takes room for so many locks on the stream of this handle, in all that it has room for. Where
@@ -116,10 +126,61 @@ impl HandleTable {
         ensures left { self.old.room ≤ self.new.room + 1 }
         ensures id { result ≡ self.old.last + 1 }
     {
-        let Ok(id) = self.table.add(row) else {
+        let id = self.table.last() + 1;
+        self.index.add(id, &row);
+        let Ok(_) = self.table.add(row) else {
             unreachable!()
         };
         id
+    }
+
+    /// The handle that this call of this client opened; `None` exactly where there is none. It looks at those
+    /// alone that calls of this number opened.
+    pub fn opened_by(&self, client: u32, number: u32) -> Option<u64>
+        ensures { result ≡ number_of (is_opened_by client number) self.now.rows }
+    {
+        let _numbered = self.table.as_slice();
+        find_opened(&self.table, self.index.of_call(number), client, number)
+    }
+
+    /// How many handles are of the set. Of those on a stream or by a link it looks at these alone.
+    pub fn count_on(&self, links: &[(u64, LinkRow)], on: HandleSet) -> usize
+        ensures count { result ≡ length (filter (λ entry. is_one_of links.now on entry.1) self.now.rows) }
+        ensures numbered { IsNumbered self.now.rows self.now.last }
+    {
+        let rows = self.table.as_slice();
+        match on {
+            HandleSet::Stream(stream) => {
+                count_among(&self.table, self.index.on_stream(stream), links, on)
+            }
+            HandleSet::Link(link) => count_among(&self.table, self.index.by_link(link), links, on),
+            HandleSet::Below(_) => count_on(rows, links, on),
+        }
+    }
+
+    /// Whether some handle of the set clashes with these access and share masks. Of those on a stream or by a
+    /// link it looks at these alone.
+    pub fn some_clashes(
+        &self,
+        links: &[(u64, LinkRow)],
+        on: HandleSet,
+        access: u32,
+        share: u32,
+    ) -> bool
+        ensures { result ≡ has_row (λ handle. is_one_of links.now on handle && clash access share handle.access handle.share) self.now.rows }
+    {
+        let rows = self.table.as_slice();
+        match on {
+            HandleSet::Stream(stream) => {
+                let entries = self.index.on_stream(stream);
+                some_clash_among(&self.table, entries, links, on, access, share)
+            }
+            HandleSet::Link(link) => {
+                let entries = self.index.by_link(link);
+                some_clash_among(&self.table, entries, links, on, access, share)
+            }
+            HandleSet::Below(_) => some_clashes(rows, links, on, access, share),
+        }
     }
 
     /// Sets the enumeration of a handle; where there is no such handle nothing changes. It takes no memory.
@@ -138,7 +199,7 @@ impl HandleTable {
         let stream = stream_of(&self.table, id);
         remove_ranges_of(&mut self.ranges, stream, id);
         remove_locks_of(&mut self.locks, id);
-        let _ = self.table.remove(id);
+        remove_row(&mut self.table, &mut self.index, id);
     }
 
     /// The byte-range locks on a stream, in the order in which they were granted. The numbers of all
@@ -218,6 +279,20 @@ fn stream_of(table: &Table<HandleRow>, handle: u64) -> Option<u64>
 {
     let row = table.get(handle)?;
     row.stream
+}
+
+// Takes a handle out of the table and of the index.
+fn remove_row(table: &mut Table<HandleRow>, index: &mut HandleIndex, id: u64)
+    ensures rows { table.new.rows ≡ without_row table.old.rows id }
+    ensures last { table.new.last ≡ table.old.last }
+    ensures room { table.old.room ≤ table.new.room }
+    ensures indexed { AreIndexed table.old.rows index.old → AreIndexed table.new.rows index.new }
+    ensures promised { index.new.room ≡ index.old.room }
+{
+    let _numbered = table.as_slice();
+    if let Some(row) = table.remove(id) {
+        index.remove(id, &row);
+    }
 }
 
 // Sets the enumeration of a handle.

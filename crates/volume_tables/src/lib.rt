@@ -31,6 +31,8 @@
 //!   admitted. A stream's table stays once it has been made, and so does an owner.
 #![tactic(auto)]
 
+mod among;
+mod handle_index;
 mod handle_table;
 mod link_table;
 mod lock_row;

@@ -1,4 +1,4 @@
-use Rattle.std.proofs.Common.{◌≡◌, ℕ, Bool, ◌≤◌, ◌+◌, ap, length, arith}
+use Rattle.std.proofs.Common.{◌≡◌, ℕ, Bool, ◌≤◌, ◌+◌, length, arith}
 use Rattle.std.specs.Prelude.{filter}
 use Rattle.fsa_types.proofs.RowLemmas.{length-numbered, length-filter_le}
 use Rattle.fsa_model.specs.Lookups.{is_one_of}
@@ -8,10 +8,9 @@ use Rattle.volume_state.proofs.volume.Volume.handles_on.Goals as goal
 pub overflow_cast-result : goal.overflow_cast-result
 overflow_cast-result c =
     let few : length c.self.inside.handles.rows ≤ c.self.inside.handles.last + 1
-    = length-numbered c.self.inside.handles.rows c.self.inside.handles.last c.as_slice-handles.ensures.numbered in
-    let same : length c.as_slice-handles.result.now ≡ length c.self.inside.handles.rows = ap length c.as_slice-handles.ensures.rows in
+    = length-numbered c.self.inside.handles.rows c.self.inside.handles.last c.count_on.ensures.numbered in
     let bound = c.self.invariant.0.bounded.handles in
-    let test : ℕ × Handle → Bool = λ entry. is_one_of c.as_slice-links.result.now c.args.on entry.1 in
-    let count : c.count_on.result ≡ length (filter test c.as_slice-handles.result.now) = c.count_on.ensures in
-    let kept : length (filter test c.as_slice-handles.result.now) ≤ length c.as_slice-handles.result.now = length-filter_le test c.as_slice-handles.result.now in
+    let test : ℕ × Handle → Bool = λ entry. is_one_of c.as_slice.result.now c.args.on entry.1 in
+    let count : c.count_on.result ≡ length (filter test c.self.inside.handles.rows) = c.count_on.ensures.count in
+    let kept : length (filter test c.self.inside.handles.rows) ≤ length c.self.inside.handles.rows = length-filter_le test c.self.inside.handles.rows in
     omega arith

@@ -40,4 +40,6 @@ invariant_of-self c =
           (c.in-Ok.id, record { handle = c.args.handle; at = c.args.at; count = c.args.count; exclusive = c.args.exclusive }) c.self.invariant.0 own c.insert.ensures.ranges),
       HaveRoom-taken i.rooms c.take_one.new.self i.ranges new i.locks.room c.add.new.self.room c.in-Some.stream c.self.invariant.1 c.take_one.ensures c.insert.ensures.left
           c.insert.ensures.others c.add.ensures.left,
+      c.self.invariant.2,
+      c.self.invariant.3,
     )

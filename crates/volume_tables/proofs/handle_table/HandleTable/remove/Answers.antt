@@ -1,4 +1,4 @@
-use Rattle.std.proofs.Common.{◌∙◌}
+use Rattle.std.proofs.Common.{◌∙◌, arith}
 use Rattle.volume_tables.proofs.LockLemmas.{AreTabled-gone, HaveRoom-kept}
 use Rattle.volume_tables.proofs.handle_table.HandleTable.remove.Goals as goal
 
@@ -7,8 +7,10 @@ invariant_of-self c =
     let i = c.self.inside in
     let new = c.remove_ranges_of.new.ranges in
     let stream = c.stream_of-stream.ensures in (
-      rw (c.remove.ensures.rows, c.remove_locks_of.ensures.rows) (
+      rw (c.remove_row.ensures.rows, c.remove_locks_of.ensures.rows) (
           AreTabled-gone i.table.rows i.locks.rows i.ranges new c.args.id c.self.invariant.0
           (λ own is. rw (stream ∙ is) at c.remove_ranges_of.ensures.own) (λ none. rw (stream ∙ none) at c.remove_ranges_of.ensures.none)),
       HaveRoom-kept i.rooms i.ranges new i.locks.room c.remove_locks_of.new.locks.room c.self.invariant.1 c.remove_ranges_of.ensures.room c.remove_locks_of.ensures.room,
+      c.remove_row.ensures.indexed c.self.invariant.2,
+      (let promised = c.self.invariant.3 in let kept = c.remove_row.ensures.room in let same = c.remove_row.ensures.promised in omega arith),
     )

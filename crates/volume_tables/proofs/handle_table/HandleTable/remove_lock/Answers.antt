@@ -13,4 +13,6 @@ invariant_of-self c =
           AreTabled-unlock i.table.rows i.locks.rows i.locks.last i.ranges new c.args.handle c.args.at c.args.count c.in-Some.id c.self.invariant.0 numbered found
           (λ own is. rw (stream ∙ is) at c.remove_range.ensures.own) (λ none. rw (stream ∙ none) at c.remove_range.ensures.none)),
       HaveRoom-kept i.rooms i.ranges new i.locks.room c.remove.new.self.room c.self.invariant.1 c.remove_range.ensures.room c.remove.ensures.room,
+      c.self.invariant.2,
+      c.self.invariant.3,
     )

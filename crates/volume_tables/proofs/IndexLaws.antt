@@ -1,0 +1,84 @@
+-- What is asked of all rows, where those that pass have one key, is asked of the rows of that key alone.
+use Rattle.std.proofs.Common.{◌≡◌, ℕ, true, false, Bool, List, Option, [], ◌∷◌, ◌∙◌, length, refl, ap, sym, inl, inr, Some, None}
+use Rattle.std.specs.Prelude.{filter, find, option_map, ◌==◌, ◌&&◌, ◌||◌}
+use Rattle.std.specs.List.{list_any}
+use Rattle.std.specs.Option.{option_map_or}
+use Rattle.std.proofs.lemmas.Bool.{cases_Bool, and_parts, false≢true}
+use Rattle.fsa_types.specs.Rows.{IsNumbered, with_row_changed}
+use Rattle.fsa_types.specs.Sharing.{clash}
+use Rattle.fsa_model.specs.Lookups.{is_one_of, is_open_on, is_opened_by, number_of}
+use Rattle.fsa_model.specs.Volume.{Handle, Link}
+use Rattle.fsa_types.specs.declared.oplock.HandleSet.TheVariants as set
+use Rattle.key_index.specs.Index.{entries_of}
+use Rattle.key_index.specs.RowsByKey.{IsIndexOf, row_passes}
+use Rattle.key_index.proofs.RowLaws.{index-any, index-changed, index-counted, index-found}
+use Rattle.volume_tables.specs.HandleIndex.{AreIndexed, IndexedHandles, call_key, stream_key, link_key}
+
+module _ {R : Type 0} (key : R → ℕ) (k : ℕ) (p : R → Bool) (only : (row : R) → p row ≡ true → (key row == k) ≡ true) where
+  also : (row : R) → (key row == k && p row) ≡ p row
+  also row = elim (cases_Bool (p row)) [
+    | inl passes ↦ (let here : (key row == k) ≡ true = only row passes in rw (here, passes) refl)
+    | inr fails ↦ elim (cases_Bool (key row == k)) [
+      | inl here ↦ rw here refl
+      | inr other ↦ rw (other, fails) refl
+    ]
+  ]
+
+  find-also : (rows : List (ℕ × R)) → find (λ row. key row.1 == k && p row.1) rows ≡ find (λ row. p row.1) rows
+  find-also [] = refl
+  find-also (x ∷ rows) = elim (cases_Bool (p x.1)) [
+    | inl passes ↦ rw (also x.1, passes) refl
+    | inr fails ↦ rw (also x.1, fails) (find-also rows)
+  ]
+
+  any-also : (rows : List (ℕ × R)) → list_any (λ row. key row.1 == k && p row.1) rows ≡ list_any (λ row. p row.1) rows
+  any-also [] = refl
+  any-also (x ∷ rows) = rw (also x.1) (ap (λ rest. p x.1 || rest) (any-also rows))
+
+  filter-also : (rows : List (ℕ × R)) → filter (λ row. key row.1 == k && p row.1) rows ≡ filter (λ row. p row.1) rows
+  filter-also [] = refl
+  filter-also (x ∷ rows) = elim (cases_Bool (p x.1)) [
+    | inl passes ↦ rw (also x.1, passes) (ap (λ (rest : List (ℕ × R)). x ∷ rest) (filter-also rows))
+    | inr fails ↦ rw (also x.1, fails) (filter-also rows)
+  ]
+
+  module _ (rows : List (ℕ × R)) (last : ℕ) (entries : List (ℕ × ℕ)) (numbered : IsNumbered rows last) (index : IsIndexOf key rows entries) where
+    pub number-by_key : number_of p rows ≡ option_map (λ (entry : ℕ × ℕ). entry.1) (find (row_passes rows (λ row. p row.1)) (entries_of entries k))
+    number-by_key = ap (option_map (λ (row : ℕ × R). row.0)) (sym (find-also rows)) ∙ index-found key rows last entries k (λ row. p row.1) numbered index
+
+    pub any-by_key : list_any (λ row. p row.1) rows ≡ list_any (row_passes rows (λ row. p row.1)) (entries_of entries k)
+    any-by_key = sym (any-also rows) ∙ index-any key rows last entries k (λ row. p row.1) numbered index
+
+    pub count-by_key : length (filter (λ row. p row.1) rows) ≡ length (filter (row_passes rows (λ row. p row.1)) (entries_of entries k))
+    count-by_key = ap length (sym (filter-also rows)) ∙ index-counted key rows last entries k (λ row. p row.1) numbered index
+
+-- ---- keys of handles
+
+pub call-only : (client number : ℕ) (row : Handle) → is_opened_by client number row ≡ true → (call_key row == number) ≡ true
+call-only client number row is = (and_parts (row.client == client) (row.number == number) is).1
+
+stream-at : (stream : ℕ) (own : Option ℕ) → option_map_or (λ s. s == stream) own false ≡ true → (option_map_or (λ (s : ℕ). s) own 0 == stream) ≡ true
+stream-at stream None is = absurd (false≢true is)
+stream-at stream (Some s) is = is
+
+pub stream-only : (links : List (ℕ × Link)) (stream : ℕ) (row : Handle) → is_one_of links (set.Stream stream) row ≡ true → (stream_key row == stream) ≡ true
+stream-only links stream row is = stream-at stream row.stream is
+
+pub link-only : (links : List (ℕ × Link)) (link : ℕ) (row : Handle) → is_one_of links (set.Link link) row ≡ true → (link_key row == link) ≡ true
+link-only links link row is = is
+
+-- and what passes besides
+pub stream-clashing : (links : List (ℕ × Link)) (stream access share : ℕ) (row : Handle) → (is_one_of links (set.Stream stream) row && clash access share row.access row.share) ≡ true → (stream_key row == stream) ≡ true
+stream-clashing links stream access share row is = stream-only links stream row (and_parts (is_one_of links (set.Stream stream) row) (clash access share row.access row.share) is).0
+
+pub link-clashing : (links : List (ℕ × Link)) (link access share : ℕ) (row : Handle) → (is_one_of links (set.Link link) row && clash access share row.access row.share) ≡ true → (link_key row == link) ≡ true
+link-clashing links link access share row is = link-only links link row (and_parts (is_one_of links (set.Link link) row) (clash access share row.access row.share) is).0
+
+-- a row changes but for its keys
+pub AreIndexed-changed : (change : Handle → Handle) (rows : List (ℕ × Handle)) (id : ℕ) (index : IndexedHandles) → ((row : Handle) → call_key (change row) ≡ call_key row)
+    → ((row : Handle) → stream_key (change row) ≡ stream_key row) → ((row : Handle) → link_key (change row) ≡ link_key row) → AreIndexed rows index → AreIndexed (with_row_changed change rows id) index
+AreIndexed-changed change rows id index calls streams links is = record {
+  calls = index-changed call_key change rows index.calls id calls is.calls;
+  streams = index-changed stream_key change rows index.streams id streams is.streams;
+  links = index-changed link_key change rows index.links id links is.links;
+}

@@ -1,0 +1,94 @@
+//! What is asked of the handles that an index names.
+
+ghost use Rattle.std.specs.Prelude.{◌≡◌, ◌&&◌, false, filter, find, length, option_map};
+ghost use Rattle.std.specs.List.{list_any};
+ghost use Rattle.std.specs.Option.{option_map_or};
+ghost use Rattle.fsa_types.specs.Rows.{row_of};
+ghost use Rattle.fsa_types.specs.Sharing.{clash};
+ghost use Rattle.fsa_model.specs.Lookups.{is_one_of, is_opened_by};
+ghost use Rattle.key_index.specs.RowsByKey.{row_passes};
+
+use fsa_types::HandleSet;
+use object_tables::Table;
+use volume_rows::{HandleRow, LinkRow, is_clashing, is_one_of, is_opened_by};
+
+// Whether the handle of this number is there, and this call of this client opened it.
+fn opened_at(table: &Table<HandleRow>, id: u64, client: u32, number: u32) -> bool
+    ensures { result ≡ option_map_or (λ row. is_opened_by client number row) (row_of table.now.rows id) false }
+{
+    match table.get(id) {
+        None => false,
+        Some(row) => is_opened_by(client, number, row),
+    }
+}
+
+/// The first of these handles that this call of this client opened.
+pub fn find_opened(
+    table: &Table<HandleRow>,
+    entries: &[(u64, u64)],
+    client: u32,
+    number: u32,
+) -> Option<u64>
+    ensures { result ≡ option_map (λ entry. entry.1) (find (row_passes table.now.rows (λ entry. is_opened_by client number entry.1)) entries.now) }
+{
+    entries
+        .iter()
+        .find(|entry| opened_at(table, entry.1, client, number))
+        .map(|entry| entry.1)
+}
+
+// Whether the handle of this number is there, and of the set.
+fn is_one_at(table: &Table<HandleRow>, id: u64, links: &[(u64, LinkRow)], on: HandleSet) -> bool
+    ensures { result ≡ option_map_or (λ row. is_one_of links.now on row) (row_of table.now.rows id) false }
+{
+    match table.get(id) {
+        None => false,
+        Some(row) => is_one_of(links, on, row),
+    }
+}
+
+/// How many of these handles are of the set.
+pub fn count_among(
+    table: &Table<HandleRow>,
+    entries: &[(u64, u64)],
+    links: &[(u64, LinkRow)],
+    on: HandleSet,
+) -> usize
+    ensures { result ≡ length (filter (row_passes table.now.rows (λ entry. is_one_of links.now on entry.1)) entries.now) }
+{
+    entries
+        .iter()
+        .filter(|entry| is_one_at(table, entry.1, links, on))
+        .count()
+}
+
+// Whether the handle of this number is there, of the set, and clashes.
+fn clashes_at(
+    table: &Table<HandleRow>,
+    id: u64,
+    links: &[(u64, LinkRow)],
+    on: HandleSet,
+    access: u32,
+    share: u32,
+) -> bool
+    ensures { result ≡ option_map_or (λ row. is_one_of links.now on row && clash access share row.access row.share) (row_of table.now.rows id) false }
+{
+    match table.get(id) {
+        None => false,
+        Some(row) => is_clashing(links, on, access, share, row),
+    }
+}
+
+/// Whether some of these handles is of the set and clashes.
+pub fn some_clash_among(
+    table: &Table<HandleRow>,
+    entries: &[(u64, u64)],
+    links: &[(u64, LinkRow)],
+    on: HandleSet,
+    access: u32,
+    share: u32,
+) -> bool
+    ensures { result ≡ list_any (row_passes table.now.rows (λ entry. is_one_of links.now on entry.1 && clash access share entry.1.access entry.1.share)) entries.now }
+{
+    entries.iter().any(|entry| clashes_at(table, entry.1, links, on, access, share))
+}

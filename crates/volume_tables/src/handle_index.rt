@@ -1,0 +1,116 @@
+//! Which handles a call opened, and which are open on a stream or by a link.
+
+ghost use Rattle.std.specs.Prelude.{ℕ, ◌≡◌, ◌≤◌, ◌+◌, ◌++◌, ◌∷◌, [], List, OnOk, Some};
+ghost use Rattle.fsa_types.specs.Rows.{row_of, without_row, IsNumbered};
+ghost use Rattle.fsa_model.specs.Volume.{Handle};
+ghost use Rattle.key_index.specs.Index.{entries_of};
+ghost use Rattle.volume_tables.specs.HandleIndex.{AreIndexed, stream_key};
+
+use fsa_types::NoMemory;
+use key_index::KeyIndex;
+use std::alloc::Global;
+use std::marker::Model;
+use volume_rows::HandleRow;
+
+/// The numbers of handles, each under the number of the call that opened it, under its stream and under its
+/// link, with room for more of them.
+#[derive(Debug, Drop)]
+pub struct HandleIndex {
+    calls: KeyIndex,
+    streams: KeyIndex,
+    links: KeyIndex,
+    // How many more handles were promised.
+    room: usize,
+}
+
+impl Model for HandleIndex {
+    ghost use Rattle.std.specs.Prelude.{◌≤◌};
+    ghost use Rattle.volume_tables.specs.HandleIndex.{IndexedHandles};
+
+    ghost Value = { IndexedHandles };
+
+    ghost view = { λ i. record { calls = i.calls.entries; streams = i.streams.entries; links = i.links.entries; room = i.room } };
+
+    ghost invariant = { λ i. i.room ≤ i.calls.room × i.room ≤ i.streams.room × i.room ≤ i.links.room };
+}
+
+impl HandleIndex {
+    /// An index without handles and without room. It takes no memory.
+    pub fn new(alloc: Global) -> HandleIndex
+        ensures { result ≡ record { calls = []; streams = []; links = []; room = 0 } }
+    {
+        HandleIndex {
+            calls: KeyIndex::new(alloc),
+            streams: KeyIndex::new(alloc),
+            links: KeyIndex::new(alloc),
+            room: 0,
+        }
+    }
+
+    /// Takes room for `more` handles beside those that are there. `NoMemory` where there is none.
+    pub fn reserve(&mut self, more: usize) -> Result<(), NoMemory>
+        ensures handles { self.new ≡ record self.old { room = self.new.room } }
+        ensures room { OnOk result (more ≤ self.new.room) }
+        ensures kept { self.old.room ≤ self.new.room }
+        ensures no_more { (bound : ℕ) → self.old.room ≤ bound → more ≤ bound → self.new.room ≤ bound }
+    {
+        if more <= self.room {
+            return Ok(());
+        }
+        self.calls.reserve(more)?;
+        self.streams.reserve(more)?;
+        self.links.reserve(more)?;
+        self.room = more;
+        Ok(())
+    }
+
+    /// Puts a handle behind all others. There has to be room for it. It takes no memory.
+    pub fn add(&mut self, id: u64, row: &HandleRow)
+        requires { 1 ≤ self.old.room }
+        ensures handles { (rows : List (ℕ × Handle)) → AreIndexed rows self.old → AreIndexed (rows ++ (id, row.now) ∷ []) self.new }
+        ensures left { self.old.room ≡ self.new.room + 1 }
+    {
+        self.calls.add(row.number as u64, id);
+        self.streams.add(stream_key(row), id);
+        self.links.add(row.link, id);
+        self.room -= 1;
+    }
+
+    /// Takes a handle out. It takes no memory, and leaves the room as it was.
+    pub fn remove(&mut self, id: u64, row: &HandleRow)
+        ensures handles { (rows : List (ℕ × Handle)) (last : ℕ) → IsNumbered rows last → row_of rows id ≡ Some row.now → AreIndexed rows self.old → AreIndexed (without_row rows id) self.new }
+        ensures room { self.new.room ≡ self.old.room }
+    {
+        self.calls.remove(row.number as u64, id);
+        self.streams.remove(stream_key(row), id);
+        self.links.remove(row.link, id);
+    }
+
+    /// The handles that calls of this number opened, each with its number as the second.
+    pub fn of_call(&self, number: u32) -> &[(u64, u64)]
+        ensures { result.now ≡ entries_of self.now.calls number }
+    {
+        self.calls.of(number as u64)
+    }
+
+    /// The handles on this stream, each with its number as the second; under 0 those without a stream too.
+    pub fn on_stream(&self, stream: u64) -> &[(u64, u64)]
+        ensures { result.now ≡ entries_of self.now.streams stream }
+    {
+        self.streams.of(stream)
+    }
+
+    /// The handles that were opened by this link, each with its number as the second.
+    pub fn by_link(&self, link: u64) -> &[(u64, u64)]
+        ensures { result.now ≡ entries_of self.now.links link }
+    {
+        self.links.of(link)
+    }
+}
+
+// The stream of a handle; 0 where it has none.
+fn stream_key(row: &HandleRow) -> u64
+    ensures { result ≡ stream_key row.now }
+{
+    row.stream.unwrap_or(0)
+}
