@@ -1,6 +1,4 @@
-use Rattle.std.proofs.Common.{◌∙◌, sym}
-use Rattle.std.specs.Prelude.{false}
-use Rattle.std.specs.Option.{option_map_or}
+use Rattle.std.proofs.Common.{◌∙◌, ap, sym}
 use Rattle.fsa_model.specs.Volume.{File}
 use Rattle.volume_state.proofs.KindLaws.{is_directory-row}
 use Rattle.volume_state.proofs.volume.Volume.is_directory.Goals as goal
@@ -11,4 +9,5 @@ returns-in-None c =
 
 pub returns-in-Some : goal.returns-in-Some
 returns-in-Some c =
-    rw (← c.self.view_is) (sym (rw (← c.in-Some.ensures) at (is_directory-row c.self.inside.files.rows c.self.inside.files.last c.args.file c.self.invariant.0.files_numbered)))
+    let found = rw (← c.in-Some.ensures) at (is_directory-row c.self.inside.files.rows c.self.inside.files.last c.args.file c.self.invariant.0.files_numbered) in
+    rw (← c.self.view_is) (ap (λ (file : File). file.directory) c.row.view_is ∙ sym found)
