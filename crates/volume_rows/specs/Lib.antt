@@ -3,5 +3,6 @@ pub mod Cursors
 pub mod Effects
 pub mod Enumerated
 pub mod Infos
+pub mod NextHandle
 pub mod Noting
 pub mod Streams

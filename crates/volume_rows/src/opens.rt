@@ -6,6 +6,7 @@ ghost use Rattle.std.specs.Option.{option_copied};
 ghost use Rattle.fsa_types.specs.Oplocks.{is_same_key};
 ghost use Rattle.fsa_types.specs.Rows.{row_of};
 ghost use Rattle.fsa_types.specs.Sharing.{clash};
+ghost use Rattle.volume_rows.specs.NextHandle.{lesser_of, next_of, next_with};
 ghost use Rattle.fsa_model.specs.Lookups.{has_row, is_after, is_at_or_below, is_below, is_one_of, is_open_on, leads_to};
 
 use crate::effects::is_same_key;
@@ -134,35 +135,52 @@ fn is_after(client: u32, after: u32, handle: &HandleRow) -> bool
     handle.client == client && handle.number > after
 }
 
-// Whether a handle is the client's, with a number above `after` and below `before`.
-fn is_between(client: u32, after: u32, before: u32, handle: &HandleRow) -> bool
-    ensures { result ≡ (is_after client after handle.now && nat_lt handle.now.number before) }
+// Of a handle and that one, where there is one, the one of the lesser number.
+fn lesser_of<'a>(
+    entry: &'a (u64, HandleRow),
+    first: Option<&'a (u64, HandleRow)>,
+) -> &'a (u64, HandleRow)
+    ensures { result.now ≡ lesser_of entry.now (option_copied first.entry) }
 {
-    is_after(client, after, handle) && handle.number < before
+    match first {
+        Some(other) if other.1.number < entry.1.number => other,
+        _ => entry,
+    }
 }
 
-// Whether there is such a handle.
-fn has_between(handles: &[(u64, HandleRow)], client: u32, after: u32, before: u32) -> bool
-    ensures { result ≡ has_row (λ other. is_after client after other && nat_lt other.number before) handles.now }
+// The next so far, and this handle where it is one of the client's above `after`.
+fn next_with<'a>(
+    client: u32,
+    after: u32,
+    entry: &'a (u64, HandleRow),
+    first: Option<&'a (u64, HandleRow)>,
+) -> Option<&'a (u64, HandleRow)>
+    ensures { option_copied result ≡ next_with client after entry.now (option_copied first.entry) }
 {
-    handles
-        .iter()
-        .any(|entry| is_between(client, after, before, &entry.1))
+    if is_after(client, after, &entry.1) {
+        Some(lesser_of(entry, first))
+    } else {
+        first
+    }
 }
 
-// Whether a handle is the client's first above `after`.
-fn is_next(handles: &[(u64, HandleRow)], client: u32, after: u32, handle: &HandleRow) -> bool
-    ensures { result ≡ (is_after client after handle.now && not (has_row (λ other. is_after client after other && nat_lt other.number handle.now.number) handles.now)) }
+// The client's handle of the least number above `after`, with its own number.
+fn next_of(handles: &[(u64, HandleRow)], client: u32, after: u32) -> Option<&(u64, HandleRow)>
+    ensures { option_copied result ≡ next_of client after handles.now }
 {
-    is_after(client, after, handle) && !has_between(handles, client, after, handle.number)
+    let mut first = None;
+    for place in (0..handles.len()).rev() {
+        first = next_with(client, after, &handles[place], first);
+    }
+    first
 }
 
 /// The client's first handle above `after`.
 pub fn find_next(handles: &[(u64, HandleRow)], client: u32, after: u32) -> Option<u64>
     ensures { result ≡ option_map (λ entry. entry.0) (find (λ entry. is_after client after entry.1 && not (has_row (λ other. is_after client after other && nat_lt other.number entry.1.number) handles.now)) handles.now) }
 {
-    handles
-        .iter()
-        .find(|entry| is_next(handles, client, after, &entry.1))
-        .map(|entry| entry.0)
+    match next_of(handles, client, after) {
+        None => None,
+        Some(entry) => Some(entry.0),
+    }
 }
