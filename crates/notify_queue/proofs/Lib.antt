@@ -1,2 +1,3 @@
 pub mod DueLaws
 pub mod LogLemmas
+pub mod QuietLaws

@@ -23,14 +23,19 @@
 //!
 //! - Room for changes has to be reserved. A change that is begun is seen by no watch until `finish`.
 //! - Every change is kept: there is no call yet that takes out those that no watch waits for.
+//! - Of watches to which nothing is due a list can be kept beside the log (`put_quiet`): each change is looked at
+//!   once for each of them, as it is noted (`finish_beside`), and `is_covered` tells by the list alone that nothing
+//!   is due to another watch of the same directory and filter.
 //! - `due_size` and `take` take time linear in the changes from the watch's place on and in their ancestors,
 //!   and `take` also in what it gives. Only `take` takes memory, and only where what is due fits the room.
 #![tactic(auto)]
 
 mod log;
+mod quiet;
 #[cfg(test)]
 mod tests;
 mod watch;
 
 pub use log::{ChangeLog, Entry};
+pub use quiet::{finish_beside, is_covered, put_quiet};
 pub use watch::Watch;

@@ -4,12 +4,13 @@ ghost use Rattle.std.specs.Prelude.{ℕ, ◌≡◌, ◌≤◌, ◌<◌, ◌+◌,
 ghost use Rattle.std.specs.Option.{option_copied, option_map_or};
 ghost use Rattle.fsa_model.specs.Changes.{ancestors, path_units, stream_suffix};
 ghost use Rattle.fsa_model.specs.Lookups.{link_of_file};
+ghost use Rattle.notify_queue.specs.Due.{due_of, size_due};
 ghost use Rattle.volume_rows.specs.Noting.{suffix_of};
 
 use crate::links::find_link_of;
 use crate::rows::LinkRow;
 use fsa_types::NoMemory;
-use notify_queue::ChangeLog;
+use notify_queue::{ChangeLog, Watch, finish_beside, is_covered, put_quiet};
 use std::alloc::Global;
 use std::marker::Model;
 
@@ -17,21 +18,25 @@ const BACKSLASH: u16 = 92;
 
 const COLON: u16 = 58;
 
-/// The changes that were noted: a log with no change begun.
+/// The changes that were noted: a log with no change begun. Beside it stand watches to which nothing is due, so
+/// that what each watch is asked for in every turn isn't looked for in the log again.
 #[derive(Debug, Drop)]
 pub struct Changes {
     log: ChangeLog,
+    // Watches to which nothing is due.
+    quiet: Vec<Watch>,
 }
 
 impl Model for Changes {
     ghost use Rattle.std.specs.Prelude.{◌≡◌, []};
+    ghost use Rattle.notify_queue.specs.Quiet.{AreQuiet};
     ghost use Rattle.volume_rows.specs.Noting.{Noted};
 
     ghost Value = { Noted };
 
     ghost view = { λ c. record { changes = c.log.changes; room = c.log.room; units = c.log.units; dirs = c.log.dirs } };
 
-    ghost invariant = { λ c. (c.log.path ≡ []) × (c.log.seen ≡ []) };
+    ghost invariant = { λ c. (c.log.path ≡ []) × (c.log.seen ≡ []) × AreQuiet c.log.changes c.quiet.items };
 }
 
 impl Changes {
@@ -41,15 +46,18 @@ impl Changes {
     {
         Changes {
             log: ChangeLog::new(alloc),
+            quiet: Vec::new(alloc),
         }
     }
 
-    /// Takes room for so many changes, units and ancestors in all. `NoMemory` where there is none.
+    /// Takes room for so many changes, units and ancestors in all, and for one watch to be kept. `NoMemory` where
+    /// there is none.
     pub fn reserve(&mut self, changes: usize, units: usize, dirs: usize) -> Result<(), NoMemory>
         ensures changes { self.new.changes ≡ self.old.changes }
         ensures room { OnOk result ((changes ≤ self.new.room) × (units ≤ self.new.units) × (dirs ≤ self.new.dirs)) }
         ensures kept { (self.old.room ≤ self.new.room) × (self.old.units ≤ self.new.units) × (self.old.dirs ≤ self.new.dirs) }
     {
+        self.quiet.reserve(1)?;
         self.log.reserve(changes, units, dirs)
     }
 
@@ -82,7 +90,32 @@ impl Changes {
         add_suffix(&mut self.log, stream);
         add_name(&mut self.log, name);
         add_ancestors(&mut self.log, links, parent);
-        self.log.finish(action, bits);
+        finish_beside(&mut self.log, &mut self.quiet, action, bits);
+    }
+
+    /// A watch of this directory with this filter begins here: whether something is due to it is kept from now on,
+    /// where there is room for it. It takes no memory.
+    pub fn expect(&mut self, dir: u64, filter: u32, tree: bool)
+        ensures { self.new ≡ self.old }
+    {
+        let watch = Watch {
+            dir,
+            filter,
+            tree,
+            from: self.log.len() as u64,
+        };
+        put_quiet(&mut self.quiet, watch);
+    }
+
+    /// How many bytes a report of what is due to a watch takes; `None` exactly where nothing is due. It takes no
+    /// memory.
+    pub fn due_size(&self, watch: &Watch) -> Option<u64>
+        ensures { result ≡ size_due (due_of self.now.changes watch.now) }
+    {
+        if is_covered(&self.quiet, watch) {
+            return None;
+        }
+        watch.due_size(&self.log)
     }
 }
 
