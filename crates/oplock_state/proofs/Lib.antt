@@ -1,1 +1,3 @@
 pub mod OplockCounts
+pub mod SortLemmas
+pub mod TableLemmas

@@ -31,6 +31,7 @@
 #![tactic(auto)]
 
 mod stream_oplocks;
+mod stream_tables;
 
 pub use stream_oplocks::{Grant, StreamOplocks};
 pub use volume_breaks::Told;

@@ -106,6 +106,7 @@ impl StreamOplocks {
         ensures grants { Grants self.old handle key level turn others locked self.new result }
         ensures left { self.old.room ≤ self.new.room + 1 }
         ensures last { self.new.last ≡ self.old.last }
+        ensures marked { self.old.marked ≡ [] → self.new.marked ≡ [] }
     {
         if is_refused(handle, key, level, others, locked, self.list.as_slice()) {
             return Grant::Refused;
@@ -150,7 +151,7 @@ impl StreamOplocks {
     /// begin are numbered from `first`, which is above all numbers given here. None is chosen then.
     pub fn begin(&mut self, class: Class, key: u64, acting: Option<u64>, first: u64)
         requires rising { self.old.last < first }
-        requires numbers { first + length self.old.rows < 2 ^ 64 }
+        requires numbers { first + length (taken_up self.old acting key) ≤ 2 ^ 64 }
         ensures rows { self.new.rows ≡ (after_breaks class (record { oplocks = self.old.rows; last_break = first - 1 }) (taken_up self.old acting key)).oplocks }
         ensures last { self.new.last ≡ (after_breaks class (record { oplocks = self.old.rows; last_break = first - 1 }) (taken_up self.old acting key)).last_break }
         ensures marked { self.new.marked ≡ [] }

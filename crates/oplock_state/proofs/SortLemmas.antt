@@ -1,0 +1,380 @@
+-- One list of all oplocks and the tables of streams: what is done to the oplock of one handle in both leaves them in
+-- step.
+use Rattle.std.proofs.Common.{◌≡◌, ℕ, zero, suc, ◌+◌, ◌<◌, ◌≤◌, Bool, true, false, not, List, [], ◌∷◌, ◌++◌, length, get_or, refl, ap, sym, subst, ◌∙◌, arith, inl, inr, ◌⊎◌, Option, Some, None, IsSome}
+use Rattle.std.specs.List.{list_any, All, AllPairs}
+use Rattle.std.specs.Option.{option_map_or}
+use Rattle.std.specs.Prelude.{◌==◌, ◌&&◌, filter, map}
+use Rattle.std.proofs.lemmas.Bool.{cases_Bool, eq-eqb, eqb-true, both_ways}
+use Rattle.std.proofs.lemmas.List.{append-nil}
+use Rattle.std.proofs.lemmas.List.Elements.{All-cons, All-filter, All-map, All-push, filter-append}
+use Rattle.fsa_types.proofs.OplockLemmas.{All-in_order}
+use Rattle.fsa_types.specs.OplockGrants.{after_answer, after_grant, after_switches, as_answered, as_granted, is_of_key, switched_among}
+use Rattle.fsa_types.specs.OplockLists.{OplockState, after_effect, begun, effect_on, left_by, lowered, without_oplock_of}
+use Rattle.fsa_types.specs.Oplocks.{Begins, Effect, Ends, Lowers, Oplock, Stays, has_read}
+use Rattle.fsa_types.specs.Rows.{row_of}
+use Rattle.fsa_types.specs.Sorting.{in_order, put_in_order}
+use Rattle.fsa_types.specs.declared.oplock.Class.{Class}
+use Rattle.fsa_types.specs.declared.request.Level.{Level}
+use Rattle.fsa_model.specs.Lookups.{is_open_on}
+use Rattle.fsa_model.specs.Volume.{Handle}
+use Rattle.fsa_model.proofs.RowLaws.{eqb-swap, option_cases}
+use Rattle.oplock_state.specs.State.{State}
+use Rattle.oplock_state.specs.Tables.{AreSorted, AreThere, IsStep, is_at, rows_at}
+use Rattle.volume_breaks.proofs.GrantLemmas.{NoneOf, switched-on}
+use Rattle.volume_tables.specs.HandleTable.{stream_of_handle}
+
+-- ---- lists
+
+filter-swap : {X : Type 0} (p q : X → Bool) (xs : List X) → filter p (filter q xs) ≡ filter q (filter p xs)
+filter-swap p q [] = refl
+filter-swap p q (x ∷ xs) = elim (cases_Bool (p x)) [
+  | inl a ↦ elim (cases_Bool (q x)) [
+    | inl b ↦ rw (a, b, a) (ap (λ rest. x ∷ rest) (filter-swap p q xs))
+    | inr b ↦ rw (a, b) (filter-swap p q xs)
+  ]
+  | inr a ↦ elim (cases_Bool (q x)) [
+    | inl b ↦ rw (a, b, a) (filter-swap p q xs)
+    | inr b ↦ rw (a, b) (filter-swap p q xs)
+  ]
+]
+
+filter-map : {X : Type 0} (p : X → Bool) (f : X → X) (xs : List X) → ((x : X) → p (f x) ≡ p x) → filter p (map f xs) ≡ map f (filter p xs)
+filter-map p f [] same = refl
+filter-map p f (x ∷ xs) same = elim (cases_Bool (p x)) [
+  | inl passes ↦ rw (same x, passes) (ap (λ rest. f x ∷ rest) (filter-map p f xs same))
+  | inr fails ↦ rw (same x, fails) (filter-map p f xs same)
+]
+
+filter-all : {X : Type 0} (p : X → Bool) (xs : List X) → All (λ x. p x ≡ true) xs → filter p xs ≡ xs
+filter-all p [] all = refl
+filter-all p (x ∷ xs) all =
+    let here : p x ≡ true = all 0 x (omega arith) in
+    rw here (ap (λ rest. x ∷ rest) (filter-all p xs (λ k d within. all (suc k) d (omega arith))))
+
+filter-none : {X : Type 0} (p : X → Bool) (xs : List X) → All (λ x. p x ≡ false) xs → filter p xs ≡ []
+filter-none p [] all = refl
+filter-none p (x ∷ xs) all =
+    let here : p x ≡ false = all 0 x (omega arith) in
+    rw here (filter-none p xs (λ k d within. all (suc k) d (omega arith)))
+
+-- what passes one test passes the other
+filter-within : {X : Type 0} (p q : X → Bool) (xs : List X) → ((x : X) → p x ≡ true → q x ≡ true) → filter p (filter q xs) ≡ filter p xs
+filter-within p q [] within = refl
+filter-within p q (x ∷ xs) within = elim (cases_Bool (q x)) [
+  | inl kept ↦ rw kept (elim (cases_Bool (p x)) [
+    | inl passes ↦ rw passes (ap (λ rest. x ∷ rest) (filter-within p q xs within))
+    | inr fails ↦ rw fails (filter-within p q xs within)
+  ])
+  | inr gone ↦ rw gone (elim (cases_Bool (p x)) [
+    | inl passes ↦ absurd (both_ways (q x) gone (within x passes))
+    | inr fails ↦ rw fails (filter-within p q xs within)
+  ])
+]
+
+map-same : {X : Type 0} (f : X → X) (xs : List X) → All (λ x. f x ≡ x) xs → map f xs ≡ xs
+map-same f [] all = refl
+map-same f (x ∷ xs) all =
+    let here : f x ≡ x = all 0 x (omega arith) in
+    rw here (ap (λ rest. x ∷ rest) (map-same f xs (λ k d within. all (suc k) d (omega arith))))
+
+-- all that pass a test do
+filter-passes : {X : Type 0} (p : X → Bool) (P : X → Type 0) (xs : List X) → ((x : X) → p x ≡ true → P x) → All P (filter p xs)
+filter-passes p P [] each = λ k d within. absurd (omega arith)
+filter-passes p P (x ∷ xs) each = elim (cases_Bool (p x)) [
+  | inl passes ↦ rw passes (All-cons P x (filter p xs) (each x passes) (filter-passes p P xs each))
+  | inr fails ↦ rw fails (filter-passes p P xs each)
+]
+
+-- ---- what is done to the oplock of one handle
+
+abbrev pub HaveHomes : List (ℕ × Handle) → List Oplock → Type 0
+HaveHomes handles rows = All (λ (o : Oplock). IsSome (stream_of_handle handles o.handle)) rows
+
+-- it is done alike to those on one stream, and leaves the oplocks of all other handles
+pub record IsLocal (handle : ℕ) (change : List Oplock → List Oplock) : Type 0 where
+  pub sorts : (handles : List (ℕ × Handle)) (stream : ℕ) (rows : List Oplock) → filter (is_at handles stream) (change rows) ≡ change (filter (is_at handles stream) rows)
+  pub stays : (rows : List Oplock) → NoneOf handle rows → change rows ≡ rows
+  pub keeps : (other : ℕ) (rows : List Oplock) → (handle == other) ≡ false → filter (λ (o : Oplock). o.handle == other) (change rows) ≡ filter (λ (o : Oplock). o.handle == other) rows
+  pub homes : (handles : List (ℕ × Handle)) (rows : List Oplock) → HaveHomes handles rows → HaveHomes handles (change rows)
+
+kept-by : (a b : ℕ) → (a == b) ≡ false → not (a == b) ≡ true
+kept-by a b differ = rw differ refl
+
+-- an oplock of another handle isn't of this one
+other-handle : (o handle other : ℕ) → (o == other) ≡ true → (handle == other) ≡ false → (o == handle) ≡ false
+other-handle o handle other is differ =
+    let same : o ≡ other = eqb-true o other is in
+    ap (λ n. n == handle) same ∙ eqb-swap other handle ∙ differ
+
+pub local-without : (handle : ℕ) → IsLocal handle (without_oplock_of handle)
+local-without handle = record {
+  sorts = λ handles stream rows. filter-swap (is_at handles stream) (λ (o : Oplock). not (o.handle == handle)) rows;
+  stays = λ rows none. filter-all (λ (o : Oplock). not (o.handle == handle)) rows (λ k d within. kept-by (get_or rows k d).handle handle (none k d within));
+  keeps = λ other rows differ. filter-within (λ (o : Oplock). o.handle == other) (λ (o : Oplock). not (o.handle == handle)) rows
+      (λ o is. kept-by o.handle handle (other-handle o.handle handle other is differ));
+  homes = λ handles rows homes. All-filter (λ (o : Oplock). not (o.handle == handle)) (λ (o : Oplock). IsSome (stream_of_handle handles o.handle)) rows homes;
+}
+
+pub local-map : (handle : ℕ) (f : Oplock → Oplock) → ((o : Oplock) → (f o).handle ≡ o.handle) → ((o : Oplock) → (o.handle == handle) ≡ false → f o ≡ o) → IsLocal handle (map f)
+local-map handle f same leaves = record {
+  sorts = λ handles stream rows. filter-map (is_at handles stream) f rows (λ o. ap (λ (h : ℕ). option_map_or (is_open_on stream) (row_of handles h) false) (same o));
+  stays = λ rows none. map-same f rows (λ k d within. leaves (get_or rows k d) (none k d within));
+  keeps = λ other rows differ. filter-map (λ (o : Oplock). o.handle == other) f rows (λ o. ap (λ (h : ℕ). h == other) (same o))
+      ∙ map-same f (filter (λ (o : Oplock). o.handle == other) rows)
+      (filter-passes (λ (o : Oplock). o.handle == other) (λ o. f o ≡ o) rows (λ o is. leaves o (other-handle o.handle handle other is differ)));
+  homes = λ handles rows homes. All-map (λ (o : Oplock). IsSome (stream_of_handle handles o.handle)) f rows
+      (λ k d within. subst (λ (h : ℕ). IsSome (stream_of_handle handles h)) (sym (same (get_or rows k d))) (homes k d within));
+}
+
+pub local-left : (done : Effect) (handle number : ℕ) → IsLocal handle (left_by done handle number)
+local-left Stays handle number = record { sorts = λ handles stream rows. refl; stays = λ rows none. refl; keeps = λ other rows differ. refl; homes = λ handles rows homes. homes }
+local-left Ends handle number =
+    let one = local-without handle in
+    record { sorts = one.sorts; stays = one.stays; keeps = one.keeps; homes = one.homes }
+local-left (Begins level) handle number =
+    let one = local-map handle (begun handle level number)
+        (λ o. elim (cases_Bool (o.handle == handle)) [ inl here ↦ rw here refl | inr other ↦ rw other refl ])
+        (λ o other. rw other refl) in
+    record { sorts = one.sorts; stays = one.stays; keeps = one.keeps; homes = one.homes }
+local-left (Lowers level) handle number =
+    let one = local-map handle (lowered handle level)
+        (λ o. elim (cases_Bool (o.handle == handle)) [ inl here ↦ rw here refl | inr other ↦ rw other refl ])
+        (λ o other. rw other refl) in
+    record { sorts = one.sorts; stays = one.stays; keeps = one.keeps; homes = one.homes }
+
+pub local-answer : (handle : ℕ) (level : Level) (turn : ℕ) → IsLocal handle (after_answer handle level turn)
+local-answer handle level turn =
+    let kept = local-map handle (as_answered handle level turn)
+        (λ o. elim (cases_Bool (o.handle == handle)) [ inl here ↦ rw here refl | inr other ↦ rw other refl ])
+        (λ o other. rw other refl) in
+    let gone = local-without handle in
+    record {
+      sorts = λ handles stream rows. elim (cases_Bool (has_read level)) [ inl some ↦ rw some (kept.sorts handles stream rows) | inr none ↦ rw none (gone.sorts handles stream rows) ];
+      stays = λ rows none. elim (cases_Bool (has_read level)) [ inl some ↦ rw some (kept.stays rows none) | inr not ↦ rw not (gone.stays rows none) ];
+      keeps = λ other rows differ. elim (cases_Bool (has_read level)) [ inl some ↦ rw some (kept.keeps other rows differ) | inr none ↦ rw none (gone.keeps other rows differ) ];
+      homes = λ handles rows homes. elim (cases_Bool (has_read level)) [ inl some ↦ rw some (kept.homes handles rows homes) | inr none ↦ rw none (gone.homes handles rows homes) ];
+    }
+
+-- ---- where a handle is at home
+
+-- a handle of a stream is on it, and on no other
+pub own-stream : (handles : List (ℕ × Handle)) (handle stream : ℕ) → stream_of_handle handles handle ≡ Some stream → option_map_or (is_open_on stream) (row_of handles handle) false ≡ true
+own-stream handles handle stream found = elim (option_cases (row_of handles handle)) [
+  | inl none ↦ (let impossible : None ≡ Some stream = rw none at found in cc)
+  | inr some ↦ (let its : some.0.stream ≡ Some stream = rw some.1 at found in rw (some.1, its) (eq-eqb stream stream refl))
+]
+
+pub other-stream : (handles : List (ℕ × Handle)) (handle stream other : ℕ) → stream_of_handle handles handle ≡ Some stream → (other == stream) ≡ false
+    → option_map_or (is_open_on other) (row_of handles handle) false ≡ false
+other-stream handles handle stream other found differ = elim (option_cases (row_of handles handle)) [
+  | inl none ↦ rw none refl
+  | inr some ↦ (let its : some.0.stream ≡ Some stream = rw some.1 at found in rw (some.1, its) (eqb-swap stream other ∙ differ))
+]
+
+-- none of the oplocks of another stream is its handle's
+none-at : (handles : List (ℕ × Handle)) (rows : List Oplock) (handle stream other : ℕ) → stream_of_handle handles handle ≡ Some stream → (other == stream) ≡ false
+    → NoneOf handle (filter (is_at handles other) rows)
+none-at handles rows handle stream other found differ =
+    filter-passes (is_at handles other) (λ (o : Oplock). (o.handle == handle) ≡ false) rows
+    (λ o at. elim (cases_Bool (o.handle == handle)) [
+      | inl is ↦ (let same : o.handle ≡ handle = eqb-true o.handle handle is in
+          absurd (both_ways _ (rw (← same) at (other-stream handles handle stream other found differ)) at))
+      | inr not ↦ not
+    ])
+
+-- ---- in step
+
+-- what is done to the oplock of a handle in the list, and in the table of its stream
+pub sorted-local : (handles : List (ℕ × Handle)) (rows : List Oplock) (old new : List (ℕ × State)) (handle stream last taken : ℕ) (change : List Oplock → List Oplock) → IsLocal handle change
+    → stream_of_handle handles handle ≡ Some stream → AreSorted handles rows old → IsStep old new stream (change (rows_at old stream)) last taken → AreSorted handles (change rows) new
+sorted-local handles rows old new handle stream last taken change local found sorted step = record {
+  each = λ other. elim (cases_Bool (other == stream)) [
+    | inl here ↦ (let is : other ≡ stream = eqb-true other stream here in
+        rw is (step.here ∙ ap change (sorted.each stream) ∙ sym (local.sorts handles stream rows)))
+    | inr differ ↦ step.other_rows other differ ∙ sorted.each other
+        ∙ sym (local.stays (filter (is_at handles other) rows) (none-at handles rows handle stream other found differ))
+        ∙ sym (local.sorts handles other rows)
+  ];
+  homes = local.homes handles rows sorted.homes;
+}
+
+-- a handle that is at home nowhere has no oplock
+pub none-homeless : (handles : List (ℕ × Handle)) (rows : List Oplock) (handle : ℕ) → HaveHomes handles rows → stream_of_handle handles handle ≡ None → NoneOf handle rows
+none-homeless handles rows handle homes none k d within = elim (cases_Bool ((get_or rows k d).handle == handle)) [
+  | inl is ↦ (let same : (get_or rows k d).handle ≡ handle = eqb-true _ _ is in
+      let home : IsSome (stream_of_handle handles handle) = subst (λ (h : ℕ). IsSome (stream_of_handle handles h)) same (homes k d within) in
+      absurd (no_home (stream_of_handle handles handle) none home))
+  | inr other ↦ other
+]
+  where
+    no_home : (home : Option ℕ) → home ≡ None → IsSome home → ⊥
+    no_home None none some = (let impossible : false ≡ true = some in cc)
+    no_home (Some stream) none some = (let impossible : Some stream ≡ None = none in cc)
+
+pub sorted-homeless : (handles : List (ℕ × Handle)) (rows : List Oplock) (tables : List (ℕ × State)) (handle : ℕ) (change : List Oplock → List Oplock) → IsLocal handle change
+    → stream_of_handle handles handle ≡ None → AreSorted handles rows tables → AreSorted handles (change rows) tables
+sorted-homeless handles rows tables handle change local none sorted =
+    rw (local.stays rows (none-homeless handles rows handle sorted.homes none)) sorted
+
+-- ---- one that is broken
+
+-- it has a home
+pub there-home : (handles : List (ℕ × Handle)) (rows : List Oplock) (o : Oplock) → HaveHomes handles rows → filter (λ (x : Oplock). x.handle == o.handle) rows ≡ o ∷ []
+    → IsSome (stream_of_handle handles o.handle)
+there-home handles rows o homes there =
+    subst (HaveHomes handles) there (All-filter (λ (x : Oplock). x.handle == o.handle) (λ (x : Oplock). IsSome (stream_of_handle handles x.handle)) rows homes) 0 o (omega arith)
+
+-- it is there in the table of its stream
+pub there-at : (handles : List (ℕ × Handle)) (rows : List Oplock) (o : Oplock) (stream : ℕ) → stream_of_handle handles o.handle ≡ Some stream
+    → filter (λ (x : Oplock). x.handle == o.handle) rows ≡ o ∷ [] → filter (λ (x : Oplock). x.handle == o.handle) (filter (is_at handles stream) rows) ≡ o ∷ []
+there-at handles rows o stream found there =
+    let here : is_at handles stream o ≡ true = own-stream handles o.handle stream found in
+    filter-swap (λ (x : Oplock). x.handle == o.handle) (is_at handles stream) rows
+    ∙ ap (filter (is_at handles stream)) there
+    ∙ rw here refl
+
+-- ---- those that are chosen
+
+pairs-cons : {X : Type 0} (R : X → X → Type 0) (x : X) (xs : List X) → All (R x) xs → AllPairs R xs → AllPairs R (x ∷ xs)
+pairs-cons R x xs first pairs zero zero d below within = absurd (omega arith)
+pairs-cons R x xs first pairs zero (suc j) d below within = first j d (omega arith)
+pairs-cons R x xs first pairs (suc i) zero d below within = absurd (omega arith)
+pairs-cons R x xs first pairs (suc i) (suc j) d below within = pairs i j d (omega arith) (omega arith)
+
+put-all : {X : Type 0} (P : X → Type 0) (before : X → X → Bool) (x : X) (xs : List X) → P x → All P xs → All P (put_in_order before x xs)
+put-all P before x [] here all = All-cons P x [] here all
+put-all P before x (y ∷ ys) here all = elim (cases_Bool (before x y)) [
+  | inl first ↦ rw first (All-cons P x (y ∷ ys) here all)
+  | inr later ↦ rw later (All-cons P y (put_in_order before x ys) (all 0 y (omega arith)) (put-all P before x ys here (λ k d within. all (suc k) d (omega arith))))
+]
+
+pairs-put : {X : Type 0} (R : X → X → Type 0) (before : X → X → Bool) → ((a b : X) → R a b → R b a) → (x : X) (xs : List X) → All (R x) xs → AllPairs R xs → AllPairs R (put_in_order before x xs)
+pairs-put R before swap x [] first pairs = pairs-cons R x [] first pairs
+pairs-put R before swap x (y ∷ ys) first pairs = elim (cases_Bool (before x y)) [
+  | inl comes ↦ rw comes (pairs-cons R x (y ∷ ys) first pairs)
+  | inr later ↦ rw later (pairs-cons R y (put_in_order before x ys)
+      (put-all (R y) before x ys (swap x y (first 0 y (omega arith))) (λ k d within. pairs 0 (suc k) d (omega arith) (omega arith)))
+      (pairs-put R before swap x ys (λ k d within. first (suc k) d (omega arith)) (λ i j d below within. pairs (suc i) (suc j) d (omega arith) (omega arith))))
+]
+
+pairs-in_order : {X : Type 0} (R : X → X → Type 0) (before : X → X → Bool) → ((a b : X) → R a b → R b a) → (xs : List X) → AllPairs R xs → AllPairs R (in_order before xs)
+pairs-in_order R before swap [] pairs = pairs
+pairs-in_order R before swap (x ∷ xs) pairs =
+    pairs-put R before swap x (in_order before xs)
+    (All-in_order (R x) before xs (λ k d within. pairs 0 (suc k) d (omega arith) (omega arith)))
+    (pairs-in_order R before swap xs (λ i j d below within. pairs (suc i) (suc j) d (omega arith) (omega arith)))
+
+pairs-filter : {X : Type 0} (R : X → X → Type 0) (p : X → Bool) (xs : List X) → AllPairs R xs → AllPairs R (filter p xs)
+pairs-filter R p [] pairs = pairs
+pairs-filter R p (x ∷ xs) pairs = elim (cases_Bool (p x)) [
+  | inl passes ↦ rw passes (pairs-cons R x (filter p xs) (All-filter p (R x) xs (λ k d within. pairs 0 (suc k) d (omega arith) (omega arith)))
+      (pairs-filter R p xs (λ i j d below within. pairs (suc i) (suc j) d (omega arith) (omega arith))))
+  | inr fails ↦ rw fails (pairs-filter R p xs (λ i j d below within. pairs (suc i) (suc j) d (omega arith) (omega arith)))
+]
+
+abbrev Apart : Oplock → Oplock → Type 0
+Apart a b = (a.handle == b.handle) ≡ false
+
+-- where no two are of one handle each is there once
+pub once : (rows : List Oplock) → AllPairs Apart rows → All (λ (o : Oplock). filter (λ (x : Oplock). x.handle == o.handle) rows ≡ o ∷ []) rows
+once [] differ k d within = absurd (omega arith)
+once (x ∷ rows) differ zero d within =
+    let none : NoneOf x.handle rows = λ k e inside. eqb-swap (get_or rows k e).handle x.handle ∙ differ 0 (suc k) e (omega arith) (omega arith) in
+    rw (eq-eqb x.handle x.handle refl) (rw (filter-none (λ (o : Oplock). o.handle == x.handle) rows none) refl)
+once (x ∷ rows) differ (suc k) d within =
+    let apart : (x.handle == (get_or rows k d).handle) ≡ false = differ 0 (suc k) d (omega arith) (omega arith) in
+    rw apart (once rows (λ i j e below inside. differ (suc i) (suc j) e (omega arith) (omega arith)) k d (omega arith))
+
+-- those that are chosen of a list are there
+pub chosen-there : (before : Oplock → Oplock → Bool) (p : Oplock → Bool) (rows : List Oplock) → AllPairs Apart rows → AreThere rows (in_order before (filter p rows))
+chosen-there before p rows differ = record {
+  each = All-in_order (λ (o : Oplock). filter (λ (x : Oplock). x.handle == o.handle) rows ≡ o ∷ []) before (filter p rows)
+      (All-filter p (λ (o : Oplock). filter (λ (x : Oplock). x.handle == o.handle) rows ≡ o ∷ []) rows (once rows differ));
+  differ = pairs-in_order Apart before (λ a b apart. eqb-swap b.handle a.handle ∙ apart) (filter p rows) (pairs-filter Apart p rows differ);
+}
+
+-- ---- a grant
+
+-- what switches leave of those on one stream
+switches-sort : (p : Oplock → Bool) (rows switched : List Oplock) → filter p (after_switches rows switched) ≡ after_switches (filter p rows) switched
+switches-sort p rows [] = refl
+switches-sort p rows (o ∷ switched) =
+    switches-sort p (without_oplock_of o.handle rows) switched
+    ∙ ap (λ (now : List Oplock). after_switches now switched) (filter-swap p (λ (x : Oplock). not (x.handle == o.handle)) rows)
+
+switches-stay : (rows switched : List Oplock) → All (λ (o : Oplock). NoneOf o.handle rows) switched → after_switches rows switched ≡ rows
+switches-stay rows [] none = refl
+switches-stay rows (o ∷ switched) none =
+    ap (λ (now : List Oplock). after_switches now switched) (IsLocal.stays (local-without o.handle) rows (none 0 o (omega arith)))
+    ∙ switches-stay rows switched (λ k d within. none (suc k) d (omega arith))
+
+switches-homes : (handles : List (ℕ × Handle)) (rows switched : List Oplock) → HaveHomes handles rows → HaveHomes handles (after_switches rows switched)
+switches-homes handles rows [] homes = homes
+switches-homes handles rows (o ∷ switched) homes = switches-homes handles (without_oplock_of o.handle rows) switched (IsLocal.homes (local-without o.handle) handles rows homes)
+
+-- two tests by streams that differ aren't both passed
+not-both : (handles : List (ℕ × Handle)) (o x : Oplock) (stream other : ℕ) → is_at handles stream o ≡ true → is_at handles other x ≡ true → (other == stream) ≡ false → (x.handle == o.handle) ≡ false
+not-both handles o x stream other at at_other differ = elim (cases_Bool (x.handle == o.handle)) [
+  | inr not ↦ not
+  | inl is ↦ (let same : x.handle ≡ o.handle = eqb-true x.handle o.handle is in
+      let here : option_map_or (is_open_on other) (row_of handles o.handle) false ≡ true = rw same at at_other in
+      absurd (clash here at (option_cases (row_of handles o.handle))))
+]
+  where
+    no_two : (s : Option ℕ) → option_map_or (λ t. t == other) s false ≡ true → option_map_or (λ t. t == stream) s false ≡ true → ⊥
+    no_two None a b = (let impossible : false ≡ true = a in cc)
+    no_two (Some s) a b =
+        let is : s ≡ other = eqb-true s other a in
+        both_ways (other == stream) differ (ap (λ (t : ℕ). t == stream) (sym is) ∙ b)
+
+    clash : option_map_or (is_open_on other) (row_of handles o.handle) false ≡ true → option_map_or (is_open_on stream) (row_of handles o.handle) false ≡ true
+        → (row_of handles o.handle ≡ None) ⊎ ((row : Handle) × (row_of handles o.handle ≡ Some row)) → ⊥
+    clash a b (inl none) = (let impossible : false ≡ true = rw none at a in cc)
+    clash a b (inr some) = no_two some.0.stream (rw some.1 at a) (rw some.1 at b)
+
+and-left : (a b : Bool) → (a && b) ≡ true → a ≡ true
+and-left true b is = refl
+and-left false b is = is
+
+-- one that is granted in the list, and in the table of its stream
+pub sorted-grant : (handles : List (ℕ × Handle)) (rows : List Oplock) (old new : List (ℕ × State)) (handle key stream : ℕ) (level : Level) (turn last taken : ℕ) → stream_of_handle handles handle ≡ Some stream
+    → AreSorted handles rows old → IsStep old new stream (after_grant (λ _. true) handle key level turn (rows_at old stream)) last taken
+    → AreSorted handles (after_grant (is_at handles stream) handle key level turn rows) new
+sorted-grant handles rows old new handle key stream level turn last taken found sorted step = record {
+  each = λ other. elim (cases_Bool (other == stream)) [
+    | inl here ↦ (let is : other ≡ stream = eqb-true other stream here in rw is own)
+    | inr differ ↦ step.other_rows other differ ∙ sorted.each other ∙ sym (beside other differ)
+  ];
+  homes = All-push (λ (o : Oplock). IsSome (stream_of_handle handles o.handle)) (after_switches rows switched) granted (switches-homes handles rows switched sorted.homes) (rw found refl);
+}
+  where
+    switched : List Oplock
+    switched = switched_among (is_at handles stream) handle key rows
+
+    granted : Oplock
+    granted = as_granted handle key level turn
+
+    parts : (other : ℕ) → filter (is_at handles other) (after_switches rows switched ++ granted ∷ []) ≡ after_switches (filter (is_at handles other) rows) switched ++ filter (is_at handles other) (granted ∷ [])
+    parts other = filter-append (is_at handles other) (after_switches rows switched) (granted ∷ [])
+        ∙ ap (λ (now : List Oplock). now ++ filter (is_at handles other) (granted ∷ [])) (switches-sort (is_at handles other) rows switched)
+
+    own : rows_at new stream ≡ filter (is_at handles stream) (after_switches rows switched ++ granted ∷ [])
+    own =
+        let at : is_at handles stream granted ≡ true = own-stream handles handle stream found in
+        let last_one : filter (is_at handles stream) (granted ∷ []) ≡ granted ∷ [] = rw at refl in
+        step.here ∙ ap (after_grant (λ _. true) handle key level turn) (sorted.each stream)
+        ∙ ap (λ (s : List Oplock). after_switches (filter (is_at handles stream) rows) s ++ granted ∷ []) (switched-on (is_at handles stream) handle key rows)
+        ∙ ap (λ (end : List Oplock). after_switches (filter (is_at handles stream) rows) switched ++ end) (sym last_one)
+        ∙ sym (parts stream)
+
+    beside : (other : ℕ) → (other == stream) ≡ false → filter (is_at handles other) (after_switches rows switched ++ granted ∷ []) ≡ filter (is_at handles other) rows
+    beside other differ =
+        let at : is_at handles other granted ≡ false = other-stream handles handle stream other found differ in
+        let no_one : filter (is_at handles other) (granted ∷ []) ≡ [] = rw at refl in
+        let apart = filter-passes (λ (o : Oplock). is_at handles stream o && is_of_key handle key o) (λ (o : Oplock). NoneOf o.handle (filter (is_at handles other) rows)) rows
+            (λ o passes. filter-passes (is_at handles other) (λ (x : Oplock). (x.handle == o.handle) ≡ false) rows
+            (λ x at_other. not-both handles o x stream other (and-left _ _ passes) at_other differ)) in
+        parts other
+        ∙ ap (λ (end : List Oplock). after_switches (filter (is_at handles other) rows) switched ++ end) no_one
+        ∙ append-nil _
+        ∙ switches-stay (filter (is_at handles other) rows) switched apart

@@ -1,0 +1,125 @@
+-- The tables of streams, where one of them changes.
+use Rattle.std.proofs.Common.{◌≡◌, ℕ, ◌+◌, ◌≤◌, Bool, true, false, not, List, [], ◌∷◌, ◌++◌, refl, ap, ◌∙◌, take, drop, arith, inl, inr, Option, Some, None}
+use Rattle.std.specs.Prelude.{◌==◌, ◌&&◌, ◌||◌, filter, if◌then◌else◌, option_map}
+use Rattle.std.specs.List.{list_any}
+use Rattle.std.proofs.lemmas.Bool.{cases_Bool}
+use Rattle.std.proofs.lemmas.List.Elements.{All-append, All-drop, All-take}
+use Rattle.fsa_types.specs.Oplocks.{Oplock, in_both, is_same_key}
+use Rattle.fsa_types.specs.Rows.{row_of}
+use Rattle.fsa_types.specs.Sorting.{in_order}
+use Rattle.fsa_types.specs.declared.request.Level.{Level}
+use Rattle.fsa_model.proofs.RowLaws.{eqb-swap}
+use Rattle.oplock_state.specs.State.{Grants, State, has_oplock, taken_up}
+use Rattle.oplock_state.specs.Tables.{AreQuiet, GrantsAmong, rows_at, room_at, last_at, IsStep}
+use Rattle.oplock_state.specs.declared.stream_oplocks.Grant.{Grant}
+use Rattle.oplock_state.specs.declared.stream_oplocks.Grant.TheVariants as grant
+use Rattle.oplock_state.specs.declared.stream_tables.Asked.{Asked}
+use Rattle.volume_breaks.specs.Marks.{is_marked, is_opened_before}
+use Rattle.volume_tables.proofs.PlaceLemmas.{IsPut}
+
+-- ---- what a key has where its table is known, and where it has none
+
+pub rows_at-some : (tables : List (ℕ × State)) (key : ℕ) (table : State) → row_of tables key ≡ Some table → rows_at tables key ≡ table.rows
+rows_at-some tables key table some = rw some refl
+
+pub room_at-some : (tables : List (ℕ × State)) (key : ℕ) (table : State) → row_of tables key ≡ Some table → room_at tables key ≡ table.room
+room_at-some tables key table some = rw some refl
+
+pub last_at-some : (tables : List (ℕ × State)) (key : ℕ) (table : State) → row_of tables key ≡ Some table → last_at tables key ≡ table.last
+last_at-some tables key table some = rw some refl
+
+pub rows_at-none : (tables : List (ℕ × State)) (key : ℕ) → row_of tables key ≡ None → rows_at tables key ≡ []
+rows_at-none tables key none = rw none refl
+
+pub room_at-none : (tables : List (ℕ × State)) (key : ℕ) → row_of tables key ≡ None → room_at tables key ≡ 0
+room_at-none tables key none = rw none refl
+
+pub last_at-none : (tables : List (ℕ × State)) (key : ℕ) → row_of tables key ≡ None → last_at tables key ≡ 0
+last_at-none tables key none = rw none refl
+
+-- ---- one table changes
+
+-- with another table put
+pub step-put : (old new : List (ℕ × State)) (key : ℕ) (table : State) (rows : List Oplock) (last taken : ℕ) → IsPut old new key table → table.rows ≡ rows → table.last ≡ last
+    → room_at old key ≤ table.room + taken → IsStep old new key rows last taken
+step-put old new key table rows last taken put same_rows same_last more = record {
+  here = rows_at-some new key table put.here ∙ same_rows;
+  number = last_at-some new key table put.here ∙ same_last;
+  room = (let now = room_at-some new key table put.here in omega arith);
+  other_rows = λ other differ. rw (put.others other differ) refl;
+  other_lasts = λ other differ. rw (put.others other differ) refl;
+  other_rooms = λ other differ. rw (put.others other differ) refl;
+}
+
+-- with none
+pub step-same : (tables : List (ℕ × State)) (key : ℕ) (rows : List Oplock) (last taken : ℕ) → rows_at tables key ≡ rows → last_at tables key ≡ last → IsStep tables tables key rows last taken
+step-same tables key rows last taken same_rows same_last = record {
+  here = same_rows;
+  number = same_last;
+  room = omega arith;
+  other_rows = λ other differ. refl;
+  other_lasts = λ other differ. refl;
+  other_rooms = λ other differ. refl;
+}
+
+-- ---- one handle is chosen
+
+filter-alike : (p q : Oplock → Bool) (rows : List Oplock) → ((o : Oplock) → p o ≡ q o) → filter p rows ≡ filter q rows
+filter-alike p q [] same = refl
+filter-alike p q (o ∷ rows) same = elim (cases_Bool (q o)) [
+  | inl passes ↦ rw (same o, passes) (rw (filter-alike p q rows same) refl)
+  | inr fails ↦ rw (same o, fails) (filter-alike p q rows same)
+]
+
+marked-alone : (handle : ℕ) (o : Oplock) → is_marked (handle ∷ []) None 0 o ≡ (o.handle == handle)
+marked-alone handle o = no_key (handle == o.handle) (o.key == 0) ∙ eqb-swap handle o.handle
+  where
+    no_key : (a b : Bool) → ((a || false) && not (false || (b && not b))) ≡ a
+    no_key true true = refl
+    no_key true false = refl
+    no_key false b = refl
+
+-- of the oplocks of a table a break that chooses one handle, and has none of its own, takes up that handle's
+pub taken-alone : (handle : ℕ) (rows : List Oplock) → filter (is_marked (handle ∷ []) None 0) rows ≡ filter (λ (o : Oplock). o.handle == handle) rows
+taken-alone handle rows = filter-alike (is_marked (handle ∷ []) None 0) (λ (o : Oplock). o.handle == handle) rows (marked-alone handle)
+
+-- what is there has an oplock
+pub has-there : (handle : ℕ) (o : Oplock) (rows : List Oplock) → filter (λ (x : Oplock). x.handle == handle) rows ≡ o ∷ [] → has_oplock handle rows ≡ true
+has-there handle o [] there = cc
+has-there handle o (x ∷ rows) there = elim (cases_Bool (x.handle == handle)) [
+  | inl here ↦ rw here refl
+  | inr other ↦ rw other (has-there handle o rows (rw other at there))
+]
+
+-- a break that chooses it takes it up alone
+pub taken-there : (old new : State) (handle : ℕ) (o : Oplock) (room : ℕ) → old.marked ≡ [] → filter (λ (x : Oplock). x.handle == handle) old.rows ≡ o ∷ []
+    → new ≡ record old { marked = if has_oplock handle old.rows && not (list_any (λ other. other == handle) old.marked) then old.marked ++ handle ∷ [] else old.marked; room = room }
+    → taken_up new None 0 ≡ o ∷ []
+taken-there old new handle o room quiet there is =
+    let has : has_oplock handle old.rows ≡ true = has-there handle o old.rows there in
+    let marked : new.marked ≡ handle ∷ [] = ap (λ (s : State). s.marked) is ∙ rw (quiet, has) refl in
+    let rows : new.rows ≡ old.rows = ap (λ (s : State). s.rows) is in
+    ap (λ (m : List ℕ). in_order is_opened_before (filter (is_marked m None 0) new.rows)) marked
+    ∙ ap (λ (r : List Oplock). in_order is_opened_before (filter (is_marked (handle ∷ []) None 0) r)) rows
+    ∙ ap (in_order is_opened_before) (taken-alone handle old.rows)
+    ∙ ap (in_order is_opened_before) there
+
+-- ---- what a table gives
+
+-- a table grants of its own rows
+pub grants-at : (old new : State) (asked : Asked) (was now : List Oplock) (result : Grant) → Grants old asked.handle asked.key asked.level asked.turn asked.others asked.locked new result → was ≡ old.rows → now ≡ new.rows
+    → GrantsAmong (λ _. true) asked was now result
+grants-at old new asked was now grant.Granted grants is_was is_now = rw (is_was, is_now) (grants.0, grants.1)
+grants-at old new asked was now grant.Refused grants is_was is_now = rw (is_was, is_now) (grants.0, ap (λ (s : State). s.rows) grants.1)
+
+pub first-kept : (level : Level) (number : ℕ) (target : Option Level) → option_map (λ (answer : Level × ℕ). answer.0) (option_map (λ told. (in_both level told, number)) target) ≡ option_map (λ told. in_both level told) target
+first-kept level number None = refl
+first-kept level number (Some told) = refl
+
+-- ---- no handle is chosen
+
+-- what stands in the place of the tables, and what is behind it
+pub quiet-seam : (n m : ℕ) (new old : List (ℕ × State)) → AreQuiet new → AreQuiet old → AreQuiet (take n (new ++ drop m old))
+quiet-seam n m new old quiet_new quiet_old =
+    All-take (λ entry. entry.1.marked ≡ []) n (new ++ drop m old)
+    (All-append (λ entry. entry.1.marked ≡ []) new (drop m old) quiet_new (All-drop (λ entry. entry.1.marked ≡ []) m old quiet_old))

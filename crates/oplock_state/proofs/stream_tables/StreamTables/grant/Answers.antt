@@ -1,0 +1,5 @@
+use Rattle.oplock_state.proofs.TableLemmas.{quiet-seam}
+use Rattle.oplock_state.proofs.stream_tables.StreamTables.grant.Goals as goal
+
+pub invariant_of-self : goal.invariant_of-self
+invariant_of-self c = quiet-seam _ _ c.grant.new.tables c.self.inside.tables.items c.grant.ensures.quiet c.self.invariant

@@ -1,0 +1,58 @@
+use Rattle.std.proofs.Common.{◌≡◌, ◌+◌, ◌-◌, ◌∷◌, ◌++◌, [], List, sym, ◌∙◌, ap, refl, arith, get_or, inl, inr, None, true, false}
+use Rattle.std.specs.Prelude.{filter, ◌==◌, option_map}
+use Rattle.std.proofs.Math.ListN.{set}
+use Rattle.std.proofs.lemmas.List.Elements.{All-push, All-set}
+use Rattle.fsa_types.proofs.RowLemmas.{row_of-none}
+use Rattle.fsa_types.specs.Oplocks.{Oplock}
+use Rattle.oplock_state.specs.State.{State}
+use Rattle.oplock_state.proofs.TableLemmas.{first-kept, grants-at, rows_at-some, room_at-some, last_at-some, rows_at-none, room_at-none, last_at-none, step-put, step-same}
+use Rattle.volume_tables.proofs.PlaceLemmas.{IsFirst-position, row_of-first, put-first, push-last, IsPut}
+use Rattle.fsa_types.specs.OplockLists.{effect_on, left_by}
+use Rattle.oplock_state.proofs.stream_tables.begin.Goals as goal
+
+pub unreachable-requires : goal.unreachable-requires
+unreachable-requires c =
+    let none = rows_at-none c.args.tables.now c.args.key (row_of-none c.args.tables.now c.args.key (sym c.place_of.ensures ∙ c.in_default.is)) in
+    let impossible : [] ≡ c.args.oplock ∷ [] = rw none at c.requires.there in
+    cc
+
+pub begin_one-requires-clause-quiet : goal.begin_one-requires-clause-quiet
+begin_one-requires-clause-quiet c =
+    let d = c.index-tables-place.result in
+    let first = IsFirst-position c.args.tables.now c.args.key c.in-Some.place d (sym (c.place_of.ensures) ∙ c.in-Some.is) in
+    let row = row_of-first c.args.tables.now c.args.key c.in-Some.place d first in
+    c.requires.quiet c.in-Some.place d first.within
+
+pub begin_one-requires-clause-rising : goal.begin_one-requires-clause-rising
+begin_one-requires-clause-rising c =
+    let d = c.index-tables-place.result in
+    let first = IsFirst-position c.args.tables.now c.args.key c.in-Some.place d (sym (c.place_of.ensures) ∙ c.in-Some.is) in
+    let row = row_of-first c.args.tables.now c.args.key c.in-Some.place d first in
+    let last = last_at-some c.args.tables.now c.args.key _ row in
+    let rising = c.requires.rising in
+    omega arith
+
+pub begin_one-requires-clause-there : goal.begin_one-requires-clause-there
+begin_one-requires-clause-there c =
+    let d = c.index-tables-place.result in
+    let first = IsFirst-position c.args.tables.now c.args.key c.in-Some.place d (sym (c.place_of.ensures) ∙ c.in-Some.is) in
+    let row = row_of-first c.args.tables.now c.args.key c.in-Some.place d first in
+    ap (filter (λ (x : Oplock). x.handle == c.args.oplock.handle)) (sym (rows_at-some c.args.tables.now c.args.key _ row)) ∙ c.requires.there
+
+pub returns-clause-step : goal.returns-clause-step
+returns-clause-step c =
+    let d = c.index-tables-place.result in
+    let first = IsFirst-position c.args.tables.now c.args.key c.in-Some.place d (sym (c.place_of.ensures) ∙ c.in-Some.is) in
+    let row = row_of-first c.args.tables.now c.args.key c.in-Some.place d first in
+    let put = put-first c.args.tables.now c.args.key c.in-Some.place d c.begin_one.new.table first in
+    let new = set c.args.tables.now c.in-Some.place ((get_or c.args.tables.now c.in-Some.place d).0, c.begin_one.new.table) in
+    let room = room_at-some c.args.tables.now c.args.key _ row in
+    let more = c.begin_one.ensures.room in
+    step-put c.args.tables.now new c.args.key c.begin_one.new.table _ _ 0 put
+    (c.begin_one.ensures.rows ∙ ap (λ (r : List Oplock). left_by (effect_on c.args.class c.args.oplock) c.args.oplock.handle (c.args.first - 1 + 1) r) (sym (rows_at-some c.args.tables.now c.args.key _ row)))
+    c.begin_one.ensures.last
+    (omega arith)
+
+pub returns-clause-quiet : goal.returns-clause-quiet
+returns-clause-quiet c =
+    All-set (λ entry. entry.1.marked ≡ []) c.args.tables.now c.in-Some.place _ c.begin_one.ensures.quiet c.requires.quiet

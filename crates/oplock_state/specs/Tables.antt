@@ -1,0 +1,87 @@
+-- The oplocks of a volume: one list of all, and for each stream or directory a table of its own, under a key.
+use Rattle.std.specs.Prelude.{◌≡◌, ℕ, Bool, true, false, List, [], ◌∷◌, ◌+◌, ◌≤◌, ◌==◌, filter, All, AllPairs, IsSome}
+use Rattle.std.specs.Option.{option_map_or}
+use Rattle.fsa_types.specs.OplockGrants.{after_grant, is_refused_among}
+use Rattle.fsa_types.specs.Oplocks.{Oplock}
+use Rattle.fsa_types.specs.Rows.{row_of}
+use Rattle.fsa_types.specs.declared.request.Level.{Level}
+use Rattle.fsa_model.specs.Lookups.{is_open_on}
+use Rattle.fsa_model.specs.Volume.{Handle}
+use Rattle.oplock_state.specs.State.{State}
+use Rattle.oplock_state.specs.declared.stream_oplocks.Grant.{Grant}
+use Rattle.oplock_state.specs.declared.stream_oplocks.Grant.TheVariants as grant
+use Rattle.oplock_state.specs.declared.stream_tables.Asked.{Asked}
+use Rattle.volume_breaks.specs.declared.telling.Told.{Told}
+use Rattle.volume_tables.specs.HandleTable.{stream_of_handle}
+use Rattle.volume_tables.specs.Rooms.{room_in}
+
+-- ---- the tables
+
+-- the oplocks in the table of this key, in order; none where it has no table
+abbrev pub rows_at : List (ℕ × State) → ℕ → List Oplock
+rows_at tables key = option_map_or (λ table. table.rows) (row_of tables key) []
+
+-- how many more it takes without taking memory
+abbrev pub room_at : List (ℕ × State) → ℕ → ℕ
+room_at tables key = option_map_or (λ table. table.room) (row_of tables key) 0
+
+-- the number of the last break that began in it
+abbrev pub last_at : List (ℕ × State) → ℕ → ℕ
+last_at tables key = option_map_or (λ table. table.last) (row_of tables key) 0
+
+-- the table of this key has these oplocks, this last number and at most so much room less; all others are as they
+-- were
+pub record IsStep (old new : List (ℕ × State)) (key : ℕ) (rows : List Oplock) (last taken : ℕ) : Type 0 where
+  pub here : rows_at new key ≡ rows
+  pub number : last_at new key ≡ last
+  pub room : room_at old key ≤ room_at new key + taken
+  pub other_rows : (other : ℕ) → (other == key) ≡ false → rows_at new other ≡ rows_at old other
+  pub other_lasts : (other : ℕ) → (other == key) ≡ false → last_at new other ≡ last_at old other
+  pub other_rooms : (other : ℕ) → (other == key) ≡ false → room_at new other ≡ room_at old other
+
+-- no handle is chosen in any of them
+abbrev pub AreQuiet : List (ℕ × State) → Type 0
+AreQuiet tables = All (λ entry. entry.1.marked ≡ []) tables
+
+-- of the oplocks that are on a stream by this test, one was granted exactly where it isn't refused, and else nothing
+-- has changed
+abbrev pub GrantsAmong : (Oplock → Bool) → Asked → List Oplock → List Oplock → Grant → Type 0
+GrantsAmong on asked old new grant.Granted =
+    (is_refused_among on asked.handle asked.key asked.level asked.others asked.locked old ≡ false)
+    × (new ≡ after_grant on asked.handle asked.key asked.level asked.turn old)
+GrantsAmong on asked old new grant.Refused =
+    (is_refused_among on asked.handle asked.key asked.level asked.others asked.locked old ≡ true) × (new ≡ old)
+
+-- ---- the list beside them
+
+-- all oplocks, in the order in which they were granted; those that the last break or grant took up, whom the last
+-- break told and for which breaks it waits; the number of the last break that began; how many more oplocks can be
+-- granted on each stream without taking memory, none where it isn't told; and the tables
+pub record Tabled : Type 0 where
+  pub rows : List Oplock
+  pub chosen : List Oplock
+  pub told : List Told
+  pub waited : List ℕ
+  pub last : ℕ
+  pub rooms : List (ℕ × ℕ)
+  pub tables : List (ℕ × State)
+
+-- each table has the room that was promised under its key, and no number of a break that wasn't given
+pub record FitTables (rooms : List (ℕ × ℕ)) (last : ℕ) (tables : List (ℕ × State)) : Type 0 where
+  pub room : (key : ℕ) → room_in rooms key ≤ room_at tables key
+  pub numbers : (key : ℕ) → last_at tables key ≤ last
+
+-- the oplock is of a handle on this stream
+abbrev pub is_at : List (ℕ × Handle) → ℕ → Oplock → Bool
+is_at handles stream oplock = option_map_or (is_open_on stream) (row_of handles oplock.handle) false
+
+-- each stream's table has the oplocks of the stream's handles, in the order of the list, and each oplock is of a
+-- handle on a stream
+pub record AreSorted (handles : List (ℕ × Handle)) (rows : List Oplock) (tables : List (ℕ × State)) : Type 0 where
+  pub each : (stream : ℕ) → rows_at tables stream ≡ filter (is_at handles stream) rows
+  pub homes : All (λ oplock. IsSome (stream_of_handle handles oplock.handle)) rows
+
+-- those that are to be broken are there, each once and as it is, and are of different handles
+pub record AreThere (rows chosen : List Oplock) : Type 0 where
+  pub each : All (λ oplock. filter (λ other. other.handle == oplock.handle) rows ≡ oplock ∷ []) chosen
+  pub differ : AllPairs (λ a b. (a.handle == b.handle) ≡ false) chosen
