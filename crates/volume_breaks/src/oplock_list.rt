@@ -1,6 +1,6 @@
 //! The oplocks of a volume, with room for what a break of them sets aside.
 
-ghost use Rattle.std.specs.Prelude.{ℕ, ◌≡◌, ◌≤◌, ◌<◌, ◌+◌, ◌++◌, ◌∷◌, ◌^◌, ◌==◌, ◌-◌, not, true, false, All, [], List, Some, None, length, map, filter, OnOk, if◌then◌else◌, slice_index_or};
+ghost use Rattle.std.specs.Prelude.{ℕ, ◌≡◌, ◌≤◌, ◌<◌, ◌+◌, ◌++◌, ◌∷◌, ◌^◌, ◌==◌, ◌-◌, not, true, false, All, [], List, Some, None, length, map, filter, OnOk, if◌then◌else◌, max, slice_index_or};
 ghost use Rattle.fsa_types.specs.Sorting.{in_order};
 ghost use Rattle.fsa_types.specs.OplockGrants.{after_answer, as_answered, as_granted, is_of_key, switched_among};
 ghost use Rattle.fsa_types.specs.OplockLists.{awaited_among, begun, lowered, without_oplock_of, CanBegin, CanGoOn, IsCopy, IsOplock};
@@ -82,6 +82,8 @@ impl Oplocks {
         ensures rows { self.new ≡ record self.old { rooms = self.new.rooms } }
         ensures room { OnOk result (oplocks ≤ room_in self.new.rooms stream) }
         ensures kept { (other : ℕ) → room_in self.old.rooms other ≤ room_in self.new.rooms other }
+        ensures most { room_in self.new.rooms stream ≤ max (room_in self.old.rooms stream) oplocks }
+        ensures others { (other : ℕ) → (other == stream) ≡ false → room_in self.new.rooms other ≡ room_in self.old.rooms other }
     {
         let oplocks = oplocks as usize;
         if oplocks <= self.rooms.room_in(stream) {
@@ -113,6 +115,13 @@ impl Oplocks {
         ensures { result ≡ length self.now.rows }
     {
         self.rows.len() as u32
+    }
+
+    /// The number of the last break that began.
+    pub fn last(&self) -> u64
+        ensures { result ≡ self.now.last }
+    {
+        self.last
     }
 
     /// The numbers of the breaks that the last break of oplocks waits for, in order.
@@ -244,6 +253,7 @@ impl Oplocks {
         requires new { All (λ oplock. (oplock.handle == handle) ≡ false) self.old.rows }
         ensures rows { self.new ≡ record self.old { rows = self.old.rows ++ as_granted handle key level turn ∷ []; rooms = self.new.rooms } }
         ensures left { room_in self.old.rooms stream ≤ room_in self.new.rooms stream + 1 }
+        ensures taken { room_in self.new.rooms stream + 1 ≤ room_in self.old.rooms stream }
         ensures others { (other : ℕ) → (other == stream) ≡ false → room_in self.new.rooms other ≡ room_in self.old.rooms other }
     {
         self.rooms.take_one(stream);
