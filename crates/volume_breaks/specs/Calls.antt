@@ -1,5 +1,5 @@
 -- The pending calls as they are kept, with the queue of those that are held.
-use Rattle.std.specs.Prelude.{◌≡◌, ℕ, Bool, false, List, ◌==◌, ◌&&◌, ◌≤◌, not, AllPairs}
+use Rattle.std.specs.Prelude.{◌≡◌, ℕ, suc, Bool, true, false, List, ◌==◌, ◌&&◌, ◌≤◌, ◌<◌, length, nat_lt, not, AllPairs, get_or}
 use Rattle.std.specs.List.{list_any}
 use Rattle.fsa_types.specs.Pending.{is_held}
 use Rattle.fsa_types.specs.declared.reply.Blocker.{Blocker}
@@ -21,6 +21,18 @@ pub record Calls : Type 0 where
 pub record AreCalls (pending : List (ℕ × Pending)) : Type 0 where
   pub differ : AllPairs (λ a b. is_call b.1.call.client b.1.call.number a.1 ≡ false) pending
   pub turns_differ : AllPairs (λ a b. (a.0 == b.0) ≡ false) pending
+
+-- this call's turn is the least above another
+abbrev pub is_next_turn : List (ℕ × Pending) → ℕ → ℕ × Pending → Bool
+is_next_turn pending after entry = nat_lt after entry.0 && not (list_any (λ other. nat_lt after other.0 && nat_lt other.0 entry.0) pending)
+
+-- where it is said so, the turns rise
+abbrev pub AreInOrder : Bool → List (ℕ × Pending) → Type 0
+AreInOrder rising pending = rising ≡ true → AllPairs (λ a b. a.0 < b.0) pending
+
+-- the last of these has a lower turn
+abbrev pub IsBehind : List (ℕ × Pending) → ℕ → Type 0
+IsBehind pending turn = (k : ℕ) (d : ℕ × Pending) → suc k ≡ length pending → (get_or pending k d).0 < turn
 
 -- the list has places for all calls and for those to come, and the queue for as many more, and for their blockers
 pub record HasPlaces (in_all places room calls blockers waited : ℕ) : Type 0 where

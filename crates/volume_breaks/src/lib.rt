@@ -31,6 +31,8 @@
 //! - A break goes over all oplocks, with a look at the handles for each, takes time square in the number
 //!   of those that it breaks, with a few looks at handles, links and streams for each pair, and goes over
 //!   the pending calls for each one that it tells.
+//! - The next pending call is found by halves as long as calls came in the order of their turns; once one
+//!   didn't, by a look at each.
 #![tactic(auto)]
 
 mod awaiting;

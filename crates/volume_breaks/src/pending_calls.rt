@@ -1,6 +1,6 @@
 //! The pending calls of a volume, with the queue of those that are held.
 
-ghost use Rattle.std.specs.Prelude.{Bool, ◌≡◌, ◌≤◌, ◌+◌, ◌++◌, ◌∷◌, [], ◌==◌, not, false, filter, length, position, All, AllPairs, IsTrue, OnOk, if◌then◌else◌};
+ghost use Rattle.std.specs.Prelude.{Bool, ◌≡◌, ◌≤◌, ◌<◌, ◌+◌, ◌++◌, ◌∷◌, [], ◌==◌, not, true, false, filter, find, length, option_map, position, slice_get, All, AllPairs, IsTrue, OnOk, if◌then◌else◌};
 ghost use Rattle.std.specs.Option.{option_map_or};
 ghost use Rattle.std.specs.Vec.{vec_capacity, vec_len};
 ghost use Rattle.fsa_types.specs.Rows.{lives, with_row_changed, without_row};
@@ -8,13 +8,14 @@ ghost use Rattle.fsa_types.specs.declared.reply.Blocker.{Blocker};
 ghost use Rattle.fsa_model.specs.Edits.{is_call};
 ghost use Rattle.fsa_model.specs.Lookups.{has_row, number_of};
 ghost use Rattle.pending_queue.specs.PendingQueue.{next_ready, with_ended, with_held};
-ghost use Rattle.volume_breaks.specs.Calls.{AreHeld, StayHeld, is_held_under};
+ghost use Rattle.std.specs.List.Sorted.{IsPartitionPoint};
+ghost use Rattle.volume_breaks.specs.Calls.{AreHeld, IsBehind, StayHeld, is_held_under, is_next_turn};
 
 use fsa_types::{Blocker, BlockerList, Call, NoMemory};
 use pending_queue::PendingQueue;
 use std::alloc::Global;
 use std::marker::Model;
-use volume_rows::{PendingRow, is_call};
+use volume_rows::{PendingRow, find_next_pending, is_call};
 
 /// The calls that haven't ended, each under its turn, in the order in which they came, with the queue
 /// of those that are held. No two have one client and number, or one turn. The room that was taken
@@ -27,18 +28,20 @@ pub struct PendingCalls {
     room: usize,
     // For how many more blockers there is room.
     blockers: usize,
+    // That the turns of the rows rise.
+    rising: bool,
 }
 
 impl Model for PendingCalls {
     ghost use Rattle.std.specs.Prelude.{◌+◌, ◌≤◌};
     ghost use Rattle.std.specs.Vec.{vec_capacity, vec_len};
-    ghost use Rattle.volume_breaks.specs.Calls.{Calls, AreCalls, HasPlaces};
+    ghost use Rattle.volume_breaks.specs.Calls.{Calls, AreCalls, AreInOrder, HasPlaces};
 
     ghost Value = { Calls };
 
     ghost view = { λ p. record { items = p.rows.items; held = p.queue.held; room = p.room; blockers = p.blockers } };
 
-    ghost invariant = { λ p. AreCalls p.rows.items × HasPlaces (vec_len p.rows + p.room) (vec_capacity p.rows) p.room p.queue.room_for_calls p.blockers p.queue.room_for_blockers };
+    ghost invariant = { λ p. AreCalls p.rows.items × HasPlaces (vec_len p.rows + p.room) (vec_capacity p.rows) p.room p.queue.room_for_calls p.blockers p.queue.room_for_blockers × AreInOrder p.rising p.rows.items };
 }
 
 impl PendingCalls {
@@ -52,6 +55,7 @@ impl PendingCalls {
             queue: PendingQueue::new(alloc),
             room: 0,
             blockers: 0,
+            rising: true,
         }
     }
 
@@ -100,6 +104,17 @@ impl PendingCalls {
         self.rows.as_slice()
     }
 
+    /// The least turn above `after` under which a call is pending; `None` exactly where there is none.
+    pub fn next_turn(&self, after: u64) -> Option<u64>
+        ensures { result ≡ option_map (λ entry. entry.0) (find (is_next_turn self.now.items after) self.now.items) }
+    {
+        if self.rising {
+            first_above(&self.rows, after)
+        } else {
+            find_next_pending(&self.rows, after)
+        }
+    }
+
     /// The turn under which this call of this client is pending; `None` exactly where it isn't.
     pub fn turn_of(&self, client: u32, number: u32) -> Option<u64>
         ensures { result ≡ number_of (is_call client number) self.now.items }
@@ -119,6 +134,7 @@ impl PendingCalls {
         ensures left { self.old.room ≤ self.new.room + 1 }
         ensures places_left { self.old.blockers ≤ self.new.blockers + length blockers.items }
     {
+        self.rising = stays_rising(self.rising, &self.rows, turn);
         hold(&mut self.queue, turn, blockers.as_slice());
         self.room -= 1;
         self.blockers -= blockers.len();
@@ -167,6 +183,48 @@ impl PendingCalls {
     {
         self.queue.next_ready()
     }
+}
+
+// Whether the turns rise with this one behind them, where they rise.
+fn stays_rising(rising: bool, rows: &[(u64, PendingRow)], turn: u64) -> bool
+    ensures rose { result ≡ true → rising ≡ true }
+    ensures behind { result ≡ true → IsBehind rows.now turn }
+{
+    rising && is_behind(rows, turn)
+}
+
+// Whether the last of these rows has a lower turn, where there is one.
+fn is_behind(rows: &[(u64, PendingRow)], turn: u64) -> bool
+    ensures { result ≡ true → IsBehind rows.now turn }
+{
+    match rows.last() {
+        None => true,
+        Some(row) => row.0 < turn,
+    }
+}
+
+// Where the rows of turns up to this one end.
+fn end_of(rows: &[(u64, PendingRow)], after: u64) -> usize
+    requires rising { AllPairs (λ a b. a.0 < b.0) rows.now }
+    ensures bound { result ≤ length rows.now }
+    ensures point { IsPartitionPoint (λ e. e.0 ≤ after) (λ e. after < e.0) rows.now result }
+{
+    rows.partition_point(|row| row.0 <= after)
+}
+
+// The first turn above this one, of turns that rise.
+fn first_above(rows: &[(u64, PendingRow)], after: u64) -> Option<u64>
+    requires rising { AllPairs (λ a b. a.0 < b.0) rows.now }
+    ensures { result ≡ option_map (λ entry. entry.0) (find (is_next_turn rows.now after) rows.now) }
+{
+    turn_at(rows, end_of(rows, after))
+}
+
+// The turn of the row at this place.
+fn turn_at(rows: &[(u64, PendingRow)], place: usize) -> Option<u64>
+    ensures { result ≡ option_map (λ entry. entry.0) (slice_get rows.now place) }
+{
+    rows.get(place).map(|row| row.0)
 }
 
 // Holds a call by these blockers, where there are any. There has to be room.

@@ -2,6 +2,7 @@ use Rattle.std.proofs.Common.{arith, not, ◌≡◌}
 use Rattle.fsa_model.specs.Edits.{is_call}
 use Rattle.pending_queue.specs.PendingQueue.{held_among}
 use Rattle.volume_breaks.proofs.CallLemmas.{AreCalls-filter, held-end}
+use Rattle.volume_breaks.proofs.OrderLemmas.{AreInOrder-filter}
 use Rattle.volume_breaks.proofs.pending_calls.PendingCalls.end.Goals as goal
 
 pub invariant_of-self : goal.invariant_of-self
@@ -12,6 +13,7 @@ invariant_of-self c = (
     calls_fit = omega (arith, places.calls_fit, c.release.ensures.room);
     blockers_fit = omega (arith, places.blockers_fit, c.release.ensures.places);
   }),
+  rw c.drop_call.ensures.items (AreInOrder-filter c.self.inside.rising (λ entry. not (is_call c.args.client c.args.number entry.1)) c.self.inside.rows.items c.self.invariant.2),
 )
 
 pub returns-clause-held : goal.returns-clause-held

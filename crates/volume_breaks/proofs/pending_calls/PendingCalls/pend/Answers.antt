@@ -1,6 +1,7 @@
 use Rattle.std.proofs.Common.{arith, ◌≡◌}
 use Rattle.pending_queue.specs.PendingQueue.{held_among}
 use Rattle.volume_breaks.proofs.CallLemmas.{AreCalls-push, held-push}
+use Rattle.volume_breaks.proofs.OrderLemmas.{AreInOrder-push}
 use Rattle.volume_breaks.proofs.pending_calls.PendingCalls.pend.Goals as goal
 
 pub invariant_of-self : goal.invariant_of-self
@@ -17,6 +18,9 @@ invariant_of-self c = (
         calls_fit = omega (arith, places.calls_fit, c.hold.ensures.room, room);
         blockers_fit = omega (arith, places.blockers_fit, waiting, c.len.ensures, blockers);
       }),
+  rw c.in-Ok.ensures.items (
+      AreInOrder-push c.self.inside.rising c.stays_rising-self-inside.result c.self.inside.rows.items c.args.turn (record { call = c.args.call; blockers = c.args.blockers.items }) c.self.invariant.2
+      c.stays_rising-self-inside.ensures.rose (rw c.deref.ensures.value at c.stays_rising-self-inside.ensures.behind)),
 )
 
 pub returns-clause-held : goal.returns-clause-held
