@@ -40,15 +40,18 @@
 //!
 //! A file, a link, a stream or a handle is found by its number in time logarithmic in the rows of its
 //! table, and an owner's charge in time logarithmic in the owners; the clusters of all streams are kept. Any
-//! other look-up costs time linear in the rows. The next handle of a client, the next pending call and the
-//! handles below a directory cost that for each row, and a note and `is_at_or_below` cost a look through the
-//! links for each directory above. A break costs what `volume_breaks` says.
+//! other look-up costs time linear in the rows. The next handle of a client and the handles below a directory
+//! cost that for each row, and a note and `is_at_or_below` cost a look through the links for each directory
+//! above. The next pending call is found in time logarithmic in those that are pending, as long as they came in
+//! the order of their turns, as those of a run do. A break costs what `volume_breaks` says.
 //!
 //! A call that is held waits for breaks and locks; whatever ends one of these tells the queue of held calls,
 //! in time linear in what they wait for, and `next_held` asks nothing but the queue. `next_over` looks through
 //! the pending calls for each wait among them, and never through the calls that have ended; `list_waits` puts
-//! each wait in its place among the others. `next_due` looks through them once too, and for each Notify through
-//! what was noted since its watch began or last reported.
+//! each wait in its place among the others. `next_due` looks through them once too. Whether something is due to
+//! a Notify is known without a look at the changes where nothing is, as long as one watch of that directory and
+//! filter was kept beside them; else what was noted since its watch began or last reported is gone through. A
+//! note looks at each watch that is kept: one for each directory and filter that was ever watched.
 #![tactic(auto)]
 
 mod children;

@@ -14,7 +14,7 @@ ghost use Rattle.volume_state.specs.Room.{KeepsEnds};
 use crate::volume::Volume;
 use fsa_types::{BlockerList, Call, EndOf, Reply};
 use volume_breaks::end_call;
-use volume_rows::{find_next_pending, find_pending};
+use volume_rows::find_pending;
 
 impl Volume {
     /// The call that is pending under this turn; `None` exactly where there is none.
@@ -50,7 +50,7 @@ impl Volume {
         // The turns of pending calls differ, and a client and a number name one of them.
         ensures sound { ArePending self.now.content.clients self.now.content.pending }
     {
-        find_next_pending(self.pending.as_slice(), after)
+        self.pending.next_turn(after)
     }
 
     /// The turn under which this call of this client is pending; `None` exactly where it isn't.

@@ -13,7 +13,7 @@ use fsa_types::{Bytes, NoMemory};
 use notify_queue::Watch;
 use std::alloc::Global;
 use volume_breaks::SpareList;
-use volume_rows::{WatchRow, find_watch};
+use volume_rows::{Changes, WatchRow, find_watch};
 use volume_tables::LinkTable;
 
 impl Volume {
@@ -35,6 +35,8 @@ impl Volume {
         ensures others { self.new.spare ≡ record self.old.spare { watches = self.new.spare.watches } }
         ensures left { self.old.spare.watches ≤ self.new.spare.watches + 1 }
     {
+        let dir = self.dir_of(handle);
+        expect(&mut self.changes, dir, filter, tree);
         self.watches.push(WatchRow {
             handle,
             filter,
@@ -51,7 +53,7 @@ impl Volume {
     {
         match self.watch_on(handle) {
             None => None,
-            Some(watch) => watch.due_size(self.changes.log()),
+            Some(watch) => self.changes.due_size(&watch),
         }
     }
 
@@ -115,6 +117,15 @@ impl Volume {
             None => None,
             Some(row) => file_of_link(&self.links, row.link),
         }
+    }
+}
+
+// A watch of this directory begins here, where there is one.
+fn expect(changes: &mut Changes, dir: Option<u64>, filter: u32, tree: bool)
+    ensures { changes.new ≡ changes.old }
+{
+    if let Some(dir) = dir {
+        changes.expect(dir, filter, tree);
     }
 }
 

@@ -7,7 +7,7 @@ use Rattle.volume_state.proofs.volume.Volume.start_watch.Goals as goal
 pub invariant_of-self : goal.invariant_of-self
 invariant_of-self c =
     let new = rw (← c.self.view_is) at c.requires.new in (
-      rw c.push.ensures.items
+      rw (c.push.ensures.items, c.expect.ensures)
           (IsSound-with_watch (content_of c.self.inside) c.args.handle c.args.filter c.args.tree _ c.self.invariant.0
           (rw (← c.self.view_is) at c.requires.living) (none-passes (λ watch. watch.handle == c.args.handle) c.self.inside.watches.items new)),
       c.self.invariant.1,
