@@ -13,7 +13,7 @@ use Rattle.fsa_types.specs.declared.oplock.Class.{Class}
 use Rattle.fsa_model.specs.Volume.{Handle}
 use Rattle.fsa_model.proofs.RowLaws.{option_cases}
 use Rattle.oplock_state.specs.State.{State}
-use Rattle.oplock_state.specs.Tables.{AreSorted, AreThere, IsStep, last_at, rows_at}
+use Rattle.oplock_state.specs.Tables.{AreSorted, AreThere, IsStep, last_at, room_at, rows_at}
 use Rattle.oplock_state.proofs.SortLemmas.{IsLocal, local-left, sorted-local, there-at, there-home}
 use Rattle.volume_tables.specs.HandleTable.{stream_of_handle}
 
@@ -121,3 +121,21 @@ begun-all handles kind held chosen place tables last begun past =
       subst (λ (broken : List Oplock). AreSorted handles (after_breaks kind held broken).oplocks tables) all begun.sorted,
       λ key. (let now = begun.lasts key in let is = begun.number ∙ ap (λ (broken : List Oplock). (after_breaks kind held broken).last_break) all in omega arith),
     )
+
+-- ---- numbers and room
+
+pub last-few : (done : Effect) (last : ℕ) → last_by done last ≤ last + 1
+last-few Stays last = omega arith
+last-few Ends last = omega arith
+last-few (Begins level) last = omega arith
+last-few (Lowers level) last = omega arith
+
+pub steps-room : (home : Option ℕ) (tables new : List (ℕ × State)) (rows : ℕ → List Oplock) (last : ℕ) → IsSome home → ForSome home (λ stream. IsStep tables new stream (rows stream) last 0)
+    → (key : ℕ) → room_at tables key ≤ room_at new key
+steps-room None tables new rows last some steps key = (let impossible : false ≡ true = some in cc)
+steps-room (Some stream) tables new rows last some steps key =
+    let step = steps stream refl in
+    elim (cases_Bool (key == stream)) [
+      | inl here ↦ (let is : key ≡ stream = eqb-true key stream here in let has = step.room in rw is (omega arith))
+      | inr beside ↦ (let same = step.other_rooms key beside in omega arith)
+    ]

@@ -1,3 +1,4 @@
+pub mod BeginLemmas
 pub mod OplockCounts
 pub mod SortLemmas
 pub mod TableLemmas

@@ -2,26 +2,27 @@
 -- step.
 use Rattle.std.proofs.Common.{◌≡◌, ℕ, zero, suc, ◌+◌, ◌<◌, ◌≤◌, Bool, true, false, not, List, [], ◌∷◌, ◌++◌, length, get_or, refl, ap, sym, subst, ◌∙◌, arith, inl, inr, ◌⊎◌, Option, Some, None, IsSome}
 use Rattle.std.specs.List.{list_any, All, AllPairs}
-use Rattle.std.specs.Option.{option_map_or}
-use Rattle.std.specs.Prelude.{◌==◌, ◌&&◌, filter, map}
+use Rattle.std.specs.Option.{option_map_or, ForSome}
+use Rattle.std.specs.Prelude.{◌==◌, ◌&&◌, filter, find, map, max, option_and_then, option_map, IfNone}
 use Rattle.std.proofs.lemmas.Bool.{cases_Bool, eq-eqb, eqb-true, both_ways}
 use Rattle.std.proofs.lemmas.List.{append-nil}
 use Rattle.std.proofs.lemmas.List.Elements.{All-cons, All-filter, All-map, All-push, filter-append}
 use Rattle.fsa_types.proofs.OplockLemmas.{All-in_order}
-use Rattle.fsa_types.specs.OplockGrants.{after_answer, after_grant, after_switches, as_answered, as_granted, is_of_key, switched_among}
+use Rattle.fsa_types.specs.OplockGrants.{after_answer, after_grant, after_switches, as_answered, as_granted, is_of_key, switched_among, target_among}
 use Rattle.fsa_types.specs.OplockLists.{OplockState, after_effect, begun, effect_on, left_by, lowered, without_oplock_of}
-use Rattle.fsa_types.specs.Oplocks.{Begins, Effect, Ends, Lowers, Oplock, Stays, has_read}
+use Rattle.fsa_types.specs.Oplocks.{Begins, Effect, Ends, Lowers, Oplock, Stays, has_read, in_both}
 use Rattle.fsa_types.specs.Rows.{row_of}
 use Rattle.fsa_types.specs.Sorting.{in_order, put_in_order}
 use Rattle.fsa_types.specs.declared.oplock.Class.{Class}
 use Rattle.fsa_types.specs.declared.request.Level.{Level}
 use Rattle.fsa_model.specs.Lookups.{is_open_on}
 use Rattle.fsa_model.specs.Volume.{Handle}
-use Rattle.fsa_model.proofs.RowLaws.{eqb-swap, option_cases}
+use Rattle.fsa_model.proofs.RowLaws.{eqb-swap, find-filter, option_cases}
 use Rattle.oplock_state.specs.State.{State}
-use Rattle.oplock_state.specs.Tables.{AreSorted, AreThere, IsStep, is_at, rows_at}
+use Rattle.oplock_state.specs.Tables.{AreSorted, AreThere, FitTables, IsStep, is_at, last_at, room_at, rows_at}
 use Rattle.volume_breaks.proofs.GrantLemmas.{NoneOf, switched-on}
 use Rattle.volume_tables.specs.HandleTable.{stream_of_handle}
+use Rattle.volume_tables.specs.Rooms.{room_in}
 
 -- ---- lists
 
@@ -378,3 +379,93 @@ sorted-grant handles rows old new handle key stream level turn last taken found 
         ∙ ap (λ (end : List Oplock). after_switches (filter (is_at handles other) rows) switched ++ end) no_one
         ∙ append-nil _
         ∙ switches-stay (filter (is_at handles other) rows) switched apart
+
+-- ---- room and answers
+
+-- the same oplocks in the tables
+pub sorted-same : (handles : List (ℕ × Handle)) (rows : List Oplock) (old new : List (ℕ × State)) (key last taken : ℕ) → IsStep old new key (rows_at old key) last taken → AreSorted handles rows old → AreSorted handles rows new
+sorted-same handles rows old new key last taken step sorted = record {
+  each = λ stream. elim (cases_Bool (stream == key)) [
+    | inl here ↦ (let is : stream ≡ key = eqb-true stream key here in rw is (step.here ∙ sorted.each key))
+    | inr other ↦ step.other_rows stream other ∙ sorted.each stream
+  ];
+  homes = sorted.homes;
+}
+
+-- what may stay of the oplock of a handle, by the table of its stream
+pub target-at : (handles : List (ℕ × Handle)) (rows : List Oplock) (tables : List (ℕ × State)) (handle stream : ℕ) → stream_of_handle handles handle ≡ Some stream → AreSorted handles rows tables
+    → target_among handle (rows_at tables stream) ≡ target_among handle rows
+target-at handles rows tables handle stream found sorted =
+    ap (target_among handle) (sorted.each stream)
+    ∙ ap (option_and_then (λ (o : Oplock). o.target))
+    (find-filter (λ (o : Oplock). o.handle == handle) (is_at handles stream) rows
+    (λ k d within is. (let same : (get_or rows k d).handle ≡ handle = eqb-true _ _ is in rw same (own-stream handles handle stream found))))
+
+-- none, of one that has no home
+pub target-homeless : (handles : List (ℕ × Handle)) (rows : List Oplock) (handle : ℕ) → stream_of_handle handles handle ≡ None → HaveHomes handles rows → target_among handle rows ≡ None
+target-homeless handles rows handle none homes = ap (option_and_then (λ (o : Oplock). o.target)) (no_one rows (none-homeless handles rows handle homes none))
+  where
+    no_one : (xs : List Oplock) → NoneOf handle xs → find (λ (o : Oplock). o.handle == handle) xs ≡ None
+    no_one [] not = refl
+    no_one (x ∷ xs) not =
+        let here : (x.handle == handle) ≡ false = not 0 x (omega arith) in
+        rw here (no_one xs (λ k d within. not (suc k) d (omega arith)))
+
+-- ---- the room and the numbers of the tables
+
+-- where no room is taken and no break begins
+pub fit-step : (rooms : List (ℕ × ℕ)) (last : ℕ) (old new : List (ℕ × State)) (key : ℕ) (rows : List Oplock) → IsStep old new key rows (last_at old key) 0 → FitTables rooms last old → FitTables rooms last new
+fit-step rooms last old new key rows step fit = record {
+  room = λ other. elim (cases_Bool (other == key)) [
+    | inl here ↦ (let is : other ≡ key = eqb-true other key here in let had = fit.room key in let has = step.room in rw is (omega arith))
+    | inr beside ↦ (let had = fit.room other in let same = step.other_rooms other beside in omega arith)
+  ];
+  numbers = λ other. elim (cases_Bool (other == key)) [
+    | inl here ↦ (let is : other ≡ key = eqb-true other key here in let had = fit.numbers key in let has = step.number in rw is (omega arith))
+    | inr beside ↦ (let had = fit.numbers other in let same = step.other_lasts other beside in omega arith)
+  ];
+}
+
+-- where more is promised to one, as its table has
+pub fit-promised : (rooms more : List (ℕ × ℕ)) (last : ℕ) (tables : List (ℕ × State)) (key room : ℕ) → room_in more key ≤ max (room_in rooms key) room → ((other : ℕ) → (other == key) ≡ false → room_in more other ≡ room_in rooms other)
+    → room ≤ room_at tables key → FitTables rooms last tables → FitTables more last tables
+fit-promised rooms more last tables key room most others there fit = record {
+  room = λ other. elim (cases_Bool (other == key)) [
+    | inl here ↦ (let is : other ≡ key = eqb-true other key here in let had = fit.room key in rw is (omega arith))
+    | inr beside ↦ (let had = fit.room other in let same = others other beside in omega arith)
+  ];
+  numbers = fit.numbers;
+}
+
+-- where one takes its room
+pub fit-taken : (rooms less : List (ℕ × ℕ)) (last : ℕ) (old new : List (ℕ × State)) (key : ℕ) (rows : List Oplock) → IsStep old new key rows (last_at old key) 1 → room_in less key + 1 ≤ room_in rooms key
+    → ((other : ℕ) → (other == key) ≡ false → room_in less other ≡ room_in rooms other) → FitTables rooms last old → FitTables less last new
+fit-taken rooms less last old new key rows step taken others fit = record {
+  room = λ other. elim (cases_Bool (other == key)) [
+    | inl here ↦ (let is : other ≡ key = eqb-true other key here in let had = fit.room key in let has = step.room in rw is (omega arith))
+    | inr beside ↦ (let had = fit.room other in let same = step.other_rooms other beside in let kept = others other beside in omega arith)
+  ];
+  numbers = λ other. elim (cases_Bool (other == key)) [
+    | inl here ↦ (let is : other ≡ key = eqb-true other key here in let had = fit.numbers key in let has = step.number in rw is (omega arith))
+    | inr beside ↦ (let had = fit.numbers other in let same = step.other_lasts other beside in omega arith)
+  ];
+}
+
+-- ---- the oplock of a handle that may have no home
+
+pub fit-dropped : (rooms : List (ℕ × ℕ)) (last : ℕ) (old new : List (ℕ × State)) (home : Option ℕ) (rows : ℕ → List Oplock) → ForSome home (λ own. IsStep old new own (rows own) (last_at old own) 0) → IfNone home (new ≡ old)
+    → FitTables rooms last old → FitTables rooms last new
+fit-dropped rooms last old new None rows own none fit = rw none fit
+fit-dropped rooms last old new (Some stream) rows own none fit = fit-step rooms last old new stream (rows stream) (own stream refl) fit
+
+pub sorted-dropped : (handles : List (ℕ × Handle)) (rows : List Oplock) (old new : List (ℕ × State)) (handle : ℕ) (home : Option ℕ) → stream_of_handle handles handle ≡ home
+    → ForSome home (λ own. IsStep old new own (without_oplock_of handle (rows_at old own)) (last_at old own) 0) → IfNone home (new ≡ old) → AreSorted handles rows old → AreSorted handles (without_oplock_of handle rows) new
+sorted-dropped handles rows old new handle None is own none sorted = rw none (sorted-homeless handles rows old handle (without_oplock_of handle) (local-without handle) is sorted)
+sorted-dropped handles rows old new handle (Some stream) is own none sorted =
+    sorted-local handles rows old new handle stream (last_at old stream) 0 (without_oplock_of handle) (local-without handle) is sorted (own stream refl)
+
+-- what an answer leaves, by what it keeps
+pub kept-rows : (level kept : Level) (left : Level → List Oplock) (none : List Oplock) (target : Option Level) → Some kept ≡ option_map (λ told. in_both level told) target
+    → option_map_or (λ told. left (in_both level told)) target none ≡ left kept
+kept-rows level kept left none None is = ap (λ (o : Option Level). option_map_or left o none) (sym is)
+kept-rows level kept left none (Some told) is = ap (λ (o : Option Level). option_map_or left o none) (sym is)

@@ -10,7 +10,7 @@ use Rattle.fsa_types.specs.Sorting.{in_order}
 use Rattle.fsa_types.specs.declared.request.Level.{Level}
 use Rattle.fsa_model.proofs.RowLaws.{eqb-swap}
 use Rattle.oplock_state.specs.State.{Grants, State, has_oplock, taken_up}
-use Rattle.oplock_state.specs.Tables.{AreQuiet, GrantsAmong, rows_at, room_at, last_at, IsStep}
+use Rattle.oplock_state.specs.Tables.{AreQuiet, GrantsAmong, rows_at, room_at, last_at, taken_by, IsStep}
 use Rattle.oplock_state.specs.declared.stream_oplocks.Grant.{Grant}
 use Rattle.oplock_state.specs.declared.stream_oplocks.Grant.TheVariants as grant
 use Rattle.oplock_state.specs.declared.stream_tables.Asked.{Asked}
@@ -111,6 +111,12 @@ pub grants-at : (old new : State) (asked : Asked) (was now : List Oplock) (resul
     → GrantsAmong (λ _. true) asked was now result
 grants-at old new asked was now grant.Granted grants is_was is_now = rw (is_was, is_now) (grants.0, grants.1)
 grants-at old new asked was now grant.Refused grants is_was is_now = rw (is_was, is_now) (grants.0, ap (λ (s : State). s.rows) grants.1)
+
+-- and takes room only where it does
+pub grants-room : (old new : State) (asked : Asked) (result : Grant) → Grants old asked.handle asked.key asked.level asked.turn asked.others asked.locked new result → old.room ≤ new.room + 1
+    → old.room ≤ new.room + taken_by result
+grants-room old new asked grant.Granted grants more = more
+grants-room old new asked grant.Refused grants more = (let same = ap (λ (s : State). s.room) grants.1 in omega arith)
 
 pub first-kept : (level : Level) (number : ℕ) (target : Option Level) → option_map (λ (answer : Level × ℕ). answer.0) (option_map (λ told. (in_both level told, number)) target) ≡ option_map (λ told. in_both level told) target
 first-kept level number None = refl

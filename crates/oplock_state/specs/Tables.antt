@@ -1,7 +1,7 @@
 -- The oplocks of a volume: one list of all, and for each stream or directory a table of its own, under a key.
 use Rattle.std.specs.Prelude.{◌≡◌, ℕ, Bool, true, false, List, [], ◌∷◌, ◌+◌, ◌≤◌, ◌==◌, filter, All, AllPairs, IsSome}
 use Rattle.std.specs.Option.{option_map_or}
-use Rattle.fsa_types.specs.OplockGrants.{after_grant, is_refused_among}
+use Rattle.fsa_types.specs.OplockGrants.{after_grant, is_refused_among, switched_among}
 use Rattle.fsa_types.specs.Oplocks.{Oplock}
 use Rattle.fsa_types.specs.Rows.{row_of}
 use Rattle.fsa_types.specs.declared.request.Level.{Level}
@@ -52,6 +52,11 @@ GrantsAmong on asked old new grant.Granted =
 GrantsAmong on asked old new grant.Refused =
     (is_refused_among on asked.handle asked.key asked.level asked.others asked.locked old ≡ true) × (new ≡ old)
 
+-- how much room that took
+abbrev pub taken_by : Grant → ℕ
+taken_by grant.Granted = 1
+taken_by grant.Refused = 0
+
 -- ---- the list beside them
 
 -- all oplocks, in the order in which they were granted; those that the last break or grant took up, whom the last
@@ -85,3 +90,18 @@ pub record AreSorted (handles : List (ℕ × Handle)) (rows : List Oplock) (tabl
 pub record AreThere (rows chosen : List Oplock) : Type 0 where
   pub each : All (λ oplock. filter (λ other. other.handle == oplock.handle) rows ≡ oplock ∷ []) chosen
   pub differ : AllPairs (λ a b. (a.handle == b.handle) ≡ false) chosen
+
+-- whatever the handles are: where the tables were sorted, they are so
+abbrev pub KeepSorted : Tabled → Tabled → Type 0
+KeepSorted old new = (handles : List (ℕ × Handle)) → AreSorted handles old.rows old.tables → AreSorted handles new.rows new.tables
+
+-- of the oplocks that are on a stream by this test, one was granted exactly where it isn't refused, and those of its
+-- key were taken up; and else none has changed
+abbrev pub GrantsTabled : (Oplock → Bool) → Asked → Tabled → Tabled → Grant → Type 0
+GrantsTabled on asked old new grant.Granted =
+    (is_refused_among on asked.handle asked.key asked.level asked.others asked.locked old.rows ≡ false)
+    × (new.rows ≡ after_grant on asked.handle asked.key asked.level asked.turn old.rows)
+    × (new.chosen ≡ switched_among on asked.handle asked.key old.rows)
+GrantsTabled on asked old new grant.Refused =
+    (is_refused_among on asked.handle asked.key asked.level asked.others asked.locked old.rows ≡ true)
+    × (new ≡ record old { tables = new.tables })

@@ -5,7 +5,7 @@ ghost use Rattle.std.specs.Option.{option_copied, option_map_or};
 ghost use Rattle.fsa_types.specs.OplockGrants.{after_answer, target_among};
 ghost use Rattle.fsa_types.specs.OplockLists.{after_effect, effect_on, last_by, without_oplock_of};
 ghost use Rattle.fsa_types.specs.Oplocks.{in_both};
-ghost use Rattle.oplock_state.specs.Tables.{AreQuiet, IsStep, GrantsAmong, last_at, room_at, rows_at};
+ghost use Rattle.oplock_state.specs.Tables.{AreQuiet, IsStep, GrantsAmong, last_at, room_at, rows_at, taken_by};
 
 use crate::stream_oplocks::{Grant, StreamOplocks};
 use fsa_types::{Class, Level, NoMemory};
@@ -77,7 +77,7 @@ impl StreamTables {
     pub fn grant(&mut self, key: u64, asked: &Asked) -> Grant
         requires { 1 ≤ room_at self.old key }
         ensures grants { GrantsAmong (λ _. true) asked.now (rows_at self.old key) (rows_at self.new key) result }
-        ensures step { IsStep self.old self.new key (rows_at self.new key) (last_at self.old key) 1 }
+        ensures step { IsStep self.old self.new key (rows_at self.new key) (last_at self.old key) (taken_by result) }
     {
         grant(&mut self.tables, key, asked)
     }
@@ -154,7 +154,7 @@ fn grant(tables: &mut [(u64, StreamOplocks)], key: u64, asked: &Asked) -> Grant
     requires room { 1 ≤ room_at tables.old key }
     requires quiet { AreQuiet tables.old }
     ensures grants { GrantsAmong (λ _. true) asked.now (rows_at tables.old key) (rows_at tables.new key) result }
-    ensures step { IsStep tables.old tables.new key (rows_at tables.new key) (last_at tables.old key) 1 }
+    ensures step { IsStep tables.old tables.new key (rows_at tables.new key) (last_at tables.old key) (taken_by result) }
     ensures quiet { AreQuiet tables.new }
 {
     let Some(place) = place_of(tables, key) else {

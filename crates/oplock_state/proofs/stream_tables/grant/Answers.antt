@@ -5,8 +5,9 @@ use Rattle.std.proofs.lemmas.List.Elements.{All-push, All-set}
 use Rattle.fsa_types.proofs.RowLemmas.{row_of-none}
 use Rattle.fsa_types.specs.Oplocks.{Oplock}
 use Rattle.oplock_state.specs.State.{State}
-use Rattle.oplock_state.proofs.TableLemmas.{first-kept, grants-at, rows_at-some, room_at-some, last_at-some, rows_at-none, room_at-none, last_at-none, step-put, step-same}
+use Rattle.oplock_state.proofs.TableLemmas.{first-kept, grants-at, grants-room, rows_at-some, room_at-some, last_at-some, rows_at-none, room_at-none, last_at-none, step-put, step-same}
 use Rattle.volume_tables.proofs.PlaceLemmas.{IsFirst-position, row_of-first, put-first, push-last, IsPut}
+use Rattle.oplock_state.specs.Tables.{taken_by}
 use Rattle.oplock_state.proofs.stream_tables.grant.Goals as goal
 
 pub unreachable-requires : goal.unreachable-requires
@@ -42,8 +43,8 @@ returns-clause-step c =
     let put = put-first c.args.tables.now c.args.key c.in-Some.place d c.grant.new.self first in
     let new = set c.args.tables.now c.in-Some.place ((get_or c.args.tables.now c.in-Some.place d).0, c.grant.new.self) in
     let room = room_at-some c.args.tables.now c.args.key _ row in
-    let more = c.grant.ensures.left in
-    step-put c.args.tables.now new c.args.key c.grant.new.self _ _ 1 put
+    let more = grants-room (get_or c.args.tables.now c.in-Some.place d).1 c.grant.new.self c.args.asked.now c.grant.result c.grant.ensures.grants c.grant.ensures.left in
+    step-put c.args.tables.now new c.args.key c.grant.new.self _ _ (taken_by c.grant.result) put
     (sym (rows_at-some new c.args.key c.grant.new.self put.here))
     (c.grant.ensures.last ∙ sym (last_at-some c.args.tables.now c.args.key _ row))
     (omega arith)

@@ -1,0 +1,282 @@
+//! All oplocks of a volume: one list, and those of each stream apart.
+
+ghost use Rattle.std.specs.Prelude.{ℕ, ◌≡◌, ◌≤◌, ◌<◌, ◌+◌, ◌^◌, ◌==◌, ◌∷◌, [], false, All, filter, length, IfNone, IsSome, OnOk, Some, option_map};
+ghost use Rattle.std.specs.Option.{option_map_or, ForSome};
+ghost use Rattle.fsa_types.specs.OplockGrants.{after_answer, after_grant, switched_among, target_among};
+ghost use Rattle.fsa_types.specs.OplockLists.{after_breaks, awaited_among, effect_on, last_by, left_by, without_oplock_of, IsCopy, IsOplock};
+ghost use Rattle.fsa_types.specs.Oplocks.{in_both};
+ghost use Rattle.fsa_types.specs.Sorting.{in_order};
+ghost use Rattle.fsa_model.specs.Breaks.{is_broken_before, is_chosen};
+ghost use Rattle.oplock_state.specs.Tables.{AreSorted, AreThere, GrantsTabled, IsStep, KeepSorted, is_at, last_at, room_at, rows_at};
+ghost use Rattle.volume_breaks.specs.Oplocks.{state_of};
+ghost use Rattle.volume_breaks.specs.Told.{told_all};
+ghost use Rattle.volume_tables.specs.HandleTable.{stream_of_handle};
+ghost use Rattle.volume_tables.specs.Rooms.{room_in};
+
+use crate::stream_oplocks::Grant;
+use crate::stream_tables::{Asked, StreamTables};
+use fsa_types::{Class, HandleSet, Level, NoMemory};
+use std::alloc::Global;
+use std::marker::Model;
+use volume_breaks::{Oplocks, Told, Tree, break_oplocks, drop_chosen};
+use volume_rows::{BreakEffect, OplockRow, effect};
+use volume_tables::HandleTable;
+
+/// Oplocks, in the order in which they were granted, and once more in a table for each stream, which decides what is
+/// granted on it, what a break does to its oplocks, and what an answer leaves. For each stream there is room for
+/// those that were promised to it. The calls of those that are told or switched are left to the caller.
+#[derive(Drop)]
+pub struct OplockTable {
+    list: Oplocks,
+    // The oplocks once more, stream by stream.
+    tables: StreamTables,
+}
+
+impl Model for OplockTable {
+    ghost use Rattle.oplock_state.specs.Tables.{FitTables, Tabled};
+
+    ghost Value = { Tabled };
+
+    ghost view = { λ o. record { rows = o.list.rows; chosen = o.list.chosen; told = o.list.told; waited = o.list.waited; last = o.list.last; rooms = o.list.rooms; tables = o.tables } };
+
+    ghost invariant = { λ o. FitTables o.list.rooms o.list.last o.tables };
+}
+
+impl OplockTable {
+    /// None. It takes no memory.
+    pub fn new(alloc: Global) -> OplockTable
+        ensures rows { result.rows ≡ [] }
+        ensures waited { result.waited ≡ [] }
+        ensures last { result.last ≡ 0 }
+        ensures rooms { result.rooms ≡ [] }
+        ensures tables { result.tables ≡ [] }
+    {
+        OplockTable {
+            list: Oplocks::new(alloc),
+            tables: StreamTables::new(alloc),
+        }
+    }
+
+    /// Takes room for so many oplocks on this stream, in all that it has room for, and for breaks of them.
+    /// `NoMemory` where there is none, or where there would be 2^32 or more in all with those that were
+    /// promised to other streams.
+    pub fn reserve(&mut self, stream: u64, oplocks: u32) -> Result<(), NoMemory>
+        ensures rows { self.new ≡ record self.old { rooms = self.new.rooms; tables = self.new.tables } }
+        ensures room { OnOk result (oplocks ≤ room_in self.new.rooms stream) }
+        ensures kept { (other : ℕ) → room_in self.old.rooms other ≤ room_in self.new.rooms other }
+        ensures sorted { KeepSorted self.old self.new }
+    {
+        self.tables.reserve(stream, oplocks)?;
+        self.list.reserve(stream, oplocks)
+    }
+
+    /// All oplocks, in the order in which they were granted.
+    pub fn as_slice(&self) -> &[OplockRow]
+        ensures { result.now ≡ self.now.rows }
+    {
+        self.list.as_slice()
+    }
+
+    /// How many oplocks there are.
+    pub fn len(&self) -> u32
+        ensures { result ≡ length self.now.rows }
+    {
+        self.list.len()
+    }
+
+    /// Those that the last break or grant took up, as they were, in order. Those that a grant took up it switched.
+    pub fn chosen(&self) -> &[OplockRow]
+        ensures { result.now ≡ self.now.chosen }
+    {
+        self.list.chosen()
+    }
+
+    /// Whom the last break told, in order.
+    pub fn told(&self) -> &[Told]
+        ensures { result.now ≡ self.now.told }
+    {
+        self.list.told()
+    }
+
+    /// The numbers of the breaks that the last break waits for, in order.
+    pub fn waited(&self) -> &[u64]
+        ensures { result.now ≡ self.now.waited }
+    {
+        self.list.waited()
+    }
+
+    /// Chooses those that are to be broken, in order.
+    pub fn choose(&mut self, tree: &Tree, on: HandleSet, acting: Option<u64>, key: u64)
+        ensures { self.new ≡ record self.old { chosen = in_order (is_broken_before tree.now) (filter (is_chosen tree.now on acting key) self.old.rows) } }
+    {
+        self.list.choose(tree, on, acting, key);
+    }
+
+    /// Breaks the oplocks that are chosen, one after the other, as a request of this class does, each in the table of
+    /// its stream and in the list, and puts by who is told.
+    pub fn begin(&mut self, handles: &HandleTable, class: Class)
+        requires numbers { self.old.last + length self.old.chosen < 2 ^ 64 }
+        requires sound { All IsOplock self.old.chosen }
+        requires copies { All (IsCopy self.old.rows) self.old.chosen }
+        requires there { AreThere self.old.rows self.old.chosen }
+        requires sorted { AreSorted handles.now.rows self.old.rows self.old.tables }
+        ensures rows { self.new.rows ≡ (after_breaks class (record { oplocks = self.old.rows; last_break = self.old.last }) self.old.chosen).oplocks }
+        ensures last { self.new.last ≡ (after_breaks class (record { oplocks = self.old.rows; last_break = self.old.last }) self.old.chosen).last_break }
+        ensures others { self.new ≡ record self.old { rows = self.new.rows; last = self.new.last; told = self.new.told; tables = self.new.tables } }
+        ensures told { self.new.told ≡ told_all class self.old.chosen }
+        ensures sorted { AreSorted handles.now.rows self.new.rows self.new.tables }
+    {
+        begin_all(&mut self.tables, &self.list, handles, class);
+        break_oplocks(&mut self.list, class);
+    }
+
+    /// Puts by the numbers of the breaks that a request of this class waits for, of those that were chosen, and
+    /// counts them.
+    pub fn await_breaks(&mut self, class: Class) -> u32
+        ensures waited { self.new ≡ record self.old { waited = awaited_among class self.old.chosen self.old.rows } }
+        ensures count { result ≡ length self.new.waited }
+    {
+        self.list.await_breaks(class)
+    }
+
+    /// Grants an oplock to a handle on this stream, unless the stream's table refuses it. Oplocks of its key on the
+    /// stream end, and are those that were taken up last. There has to be room for one on the stream; that of all
+    /// others stays.
+    pub fn grant(&mut self, tree: &Tree, stream: u64, asked: &Asked) -> Grant
+        requires home { stream_of_handle tree.now.handles asked.now.handle ≡ Some stream }
+        requires room { 1 ≤ room_in self.old.rooms stream }
+        requires sorted { AreSorted tree.now.handles self.old.rows self.old.tables }
+        ensures grants { GrantsTabled (is_at tree.now.handles stream) asked.now self.old self.new result }
+        ensures rest { self.new ≡ record self.old { rows = self.new.rows; chosen = self.new.chosen; rooms = self.new.rooms; tables = self.new.tables } }
+        ensures left { room_in self.old.rooms stream ≤ room_in self.new.rooms stream + 1 }
+        ensures others { (other : ℕ) → (other == stream) ≡ false → room_in self.new.rooms other ≡ room_in self.old.rooms other }
+        ensures sorted { AreSorted tree.now.handles self.new.rows self.new.tables }
+    {
+        match self.tables.grant(stream, asked) {
+            Grant::Refused => Grant::Refused,
+            Grant::Granted => {
+                grant_in_list(&mut self.list, tree, stream, asked);
+                Grant::Granted
+            }
+        }
+    }
+
+    /// Answers the break in progress on a handle: what is in this level and in the one that it was told stays, and
+    /// is given; the call that is pending under this turn, or will be, is its own then. Where nothing stays the
+    /// oplock ends. `None` exactly where no break of it is in progress, and then nothing changes.
+    pub fn answer(
+        &mut self,
+        handles: &HandleTable,
+        handle: u64,
+        level: Level,
+        turn: u64,
+    ) -> Option<Level>
+        requires sorted { AreSorted handles.now.rows self.old.rows self.old.tables }
+        ensures kept { result ≡ option_map (λ target. in_both level target) (target_among handle self.old.rows) }
+        ensures rows { self.new ≡ record self.old { rows = option_map_or (λ kept. after_answer handle kept turn self.old.rows) result self.old.rows; tables = self.new.tables } }
+        ensures sorted { AreSorted handles.now.rows self.new.rows self.new.tables }
+    {
+        let Some(stream) = stream_of(handles, handle) else {
+            return None;
+        };
+        let Some(kept) = self.tables.ack(stream, handle, level, turn) else {
+            return None;
+        };
+        self.list.answer(handle, kept, turn);
+        Some(kept)
+    }
+
+    /// Takes the oplock of a handle out.
+    pub fn drop_of(&mut self, handles: &HandleTable, handle: u64)
+        requires sorted { AreSorted handles.now.rows self.old.rows self.old.tables }
+        ensures rows { self.new ≡ record self.old { rows = without_oplock_of handle self.old.rows; tables = self.new.tables } }
+        ensures sorted { AreSorted handles.now.rows self.new.rows self.new.tables }
+    {
+        drop_in_table(&mut self.tables, stream_of(handles, handle), handle);
+        self.list.drop_of(handle);
+    }
+}
+
+// The stream of a handle, where it has one.
+fn stream_of(handles: &HandleTable, handle: u64) -> Option<u64>
+    ensures { result ≡ stream_of_handle handles.now.rows handle }
+{
+    let row = handles.get(handle)?;
+    row.stream
+}
+
+// Takes the oplock of a handle out of the table of its stream, where it has one.
+fn drop_in_table(tables: &mut StreamTables, stream: Option<u64>, handle: u64)
+    ensures own { ForSome stream (λ own. IsStep tables.old tables.new own (without_oplock_of handle (rows_at tables.old own)) (last_at tables.old own) 0) }
+    ensures none { IfNone stream (tables.new ≡ tables.old) }
+{
+    if let Some(own) = stream {
+        tables.drop_handle(own, handle);
+    }
+}
+
+// Grants an oplock in the list: those of its key on the stream end.
+fn grant_in_list(list: &mut Oplocks, tree: &Tree, stream: u64, asked: &Asked)
+    requires home { stream_of_handle tree.now.handles asked.now.handle ≡ Some stream }
+    requires room { 1 ≤ room_in list.old.rooms stream }
+    ensures rows { list.new.rows ≡ after_grant (is_at tree.now.handles stream) asked.now.handle asked.now.key asked.now.level asked.now.turn list.old.rows }
+    ensures chosen { list.new.chosen ≡ switched_among (is_at tree.now.handles stream) asked.now.handle asked.now.key list.old.rows }
+    ensures rest { list.new ≡ record list.old { rows = list.new.rows; chosen = list.new.chosen; rooms = list.new.rooms } }
+    ensures left { room_in list.old.rooms stream ≤ room_in list.new.rooms stream + 1 }
+    ensures taken { room_in list.new.rooms stream + 1 ≤ room_in list.old.rooms stream }
+    ensures others { (other : ℕ) → (other == stream) ≡ false → room_in list.new.rooms other ≡ room_in list.old.rooms other }
+{
+    let asked = *asked;
+    list.choose_switched(tree, stream, asked.handle, asked.key);
+    drop_chosen(list);
+    list.grant(stream, asked.handle, asked.key, asked.level, asked.turn);
+}
+
+// The number of the last break, once an oplock was broken.
+fn last_after(class: Class, oplock: OplockRow, last: u64) -> u64
+    requires { last + 1 < 2 ^ 64 }
+    ensures { result ≡ last_by (effect_on class oplock) last }
+{
+    match effect(class, oplock.level, oplock.target) {
+        BreakEffect::Begins(_) => last + 1,
+        _ => last,
+    }
+}
+
+// Breaks this oplock in the table of its stream. Gives the number of the last break then.
+fn begin_in_table(
+    tables: &mut StreamTables,
+    handles: &HandleTable,
+    oplock: OplockRow,
+    class: Class,
+    last: u64,
+) -> u64
+    requires home { IsSome (stream_of_handle handles.now.rows oplock.handle) }
+    requires there { ForSome (stream_of_handle handles.now.rows oplock.handle) (λ stream. filter (λ other. other.handle == oplock.handle) (rows_at tables.old stream) ≡ oplock ∷ []) }
+    requires rising { (key : ℕ) → last_at tables.old key ≤ last }
+    requires numbers { last + 1 < 2 ^ 64 }
+    ensures step { ForSome (stream_of_handle handles.now.rows oplock.handle) (λ stream. IsStep tables.old tables.new stream (left_by (effect_on class oplock) oplock.handle (last + 1) (rows_at tables.old stream)) (last_by (effect_on class oplock) last) 0) }
+    ensures number { result ≡ last_by (effect_on class oplock) last }
+{
+    let Some(stream) = stream_of(handles, oplock.handle) else {
+        unreachable!()
+    };
+    tables.begin(stream, oplock, class, last + 1);
+    last_after(class, oplock, last)
+}
+
+// Breaks the oplocks that are chosen, each in the table of its stream.
+fn begin_all(tables: &mut StreamTables, list: &Oplocks, handles: &HandleTable, class: Class)
+    requires numbers { list.now.last + length list.now.chosen < 2 ^ 64 }
+    requires there { AreThere list.now.rows list.now.chosen }
+    requires sorted { AreSorted handles.now.rows list.now.rows tables.old }
+    requires lasts { (key : ℕ) → last_at tables.old key ≤ list.now.last }
+    ensures sorted { AreSorted handles.now.rows (after_breaks class (state_of list.now) list.now.chosen).oplocks tables.new }
+    ensures lasts { (key : ℕ) → last_at tables.new key ≤ (after_breaks class (state_of list.now) list.now.chosen).last_break }
+    ensures room { (key : ℕ) → room_at tables.old key ≤ room_at tables.new key }
+{
+    let mut last = list.last();
+    for place in 0..list.chosen_len() {
+        last = begin_in_table(tables, handles, list.chosen_at(place), class, last);
+    }
+}
