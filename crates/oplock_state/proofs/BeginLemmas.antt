@@ -1,6 +1,6 @@
 -- A break that goes over the oplocks that are chosen, and breaks each in the table of its stream, does to the tables
 -- what it does to the list.
-use Rattle.std.proofs.Common.{◌≡◌, ℕ, zero, suc, ◌+◌, ◌<◌, ◌≤◌, Bool, true, false, List, [], ◌∷◌, ◌++◌, length, take, get_or, refl, ap, sym, subst, ◌∙◌, arith, inl, inr, ◌⊎◌, Option, Some, None, IsSome}
+use Rattle.std.proofs.Common.{◌≡◌, ℕ, ◌+◌, ◌<◌, ◌≤◌, true, false, List, [], ◌∷◌, ◌++◌, length, take, get_or, refl, ap, sym, subst, ◌∙◌, arith, inl, inr, Option, Some, None, IsSome}
 use Rattle.std.specs.List.{AllPairs}
 use Rattle.std.specs.Option.{ForSome}
 use Rattle.std.specs.Prelude.{◌==◌, filter, fold}
@@ -75,7 +75,7 @@ next-at handles kind held chosen place tables last oplock begun within read stre
 pub begun-more : (handles : List (ℕ × Handle)) (kind : Class) (held : OplockState) (chosen : List Oplock) (place : ℕ) (tables new : List (ℕ × State)) (last : ℕ) (oplock : Oplock)
     → AreBegun handles kind held chosen place tables last → place < length chosen → oplock ≡ get_or chosen place oplock → AllPairs (λ a b. (a.handle == b.handle) ≡ false) chosen
     → ForSome (stream_of_handle handles oplock.handle)
-        (λ stream. IsStep tables new stream (left_by (effect_on kind oplock) oplock.handle (last + 1) (rows_at tables stream)) (last_by (effect_on kind oplock) last) 0)
+    (λ stream. IsStep tables new stream (left_by (effect_on kind oplock) oplock.handle (last + 1) (rows_at tables stream)) (last_by (effect_on kind oplock) last) 0)
     → AreBegun handles kind held chosen (place + 1) new (last_by (effect_on kind oplock) last)
 begun-more handles kind held chosen place tables new last oplock begun within read differ steps =
     elim (option_cases (stream_of_handle handles oplock.handle)) [

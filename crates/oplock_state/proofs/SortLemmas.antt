@@ -1,7 +1,7 @@
 -- One list of all oplocks and the tables of streams: what is done to the oplock of one handle in both leaves them in
 -- step.
-use Rattle.std.proofs.Common.{◌≡◌, ℕ, zero, suc, ◌+◌, ◌<◌, ◌≤◌, Bool, true, false, not, List, [], ◌∷◌, ◌++◌, length, get_or, refl, ap, sym, subst, ◌∙◌, arith, inl, inr, ◌⊎◌, Option, Some, None, IsSome}
-use Rattle.std.specs.List.{list_any, All, AllPairs}
+use Rattle.std.proofs.Common.{◌≡◌, ℕ, zero, suc, ◌+◌, ◌≤◌, Bool, true, false, not, List, [], ◌∷◌, ◌++◌, get_or, refl, ap, sym, subst, ◌∙◌, arith, inl, inr, ◌⊎◌, Option, Some, None, IsSome}
+use Rattle.std.specs.List.{All, AllPairs}
 use Rattle.std.specs.Option.{option_map_or, ForSome}
 use Rattle.std.specs.Prelude.{◌==◌, ◌&&◌, filter, find, map, max, option_and_then, option_map, IfNone}
 use Rattle.std.proofs.lemmas.Bool.{cases_Bool, eq-eqb, eqb-true, both_ways}
@@ -9,11 +9,10 @@ use Rattle.std.proofs.lemmas.List.{append-nil}
 use Rattle.std.proofs.lemmas.List.Elements.{All-cons, All-filter, All-map, All-push, filter-append}
 use Rattle.fsa_types.proofs.OplockLemmas.{All-in_order}
 use Rattle.fsa_types.specs.OplockGrants.{after_answer, after_grant, after_switches, as_answered, as_granted, is_of_key, switched_among, target_among}
-use Rattle.fsa_types.specs.OplockLists.{OplockState, after_effect, begun, effect_on, left_by, lowered, without_oplock_of}
+use Rattle.fsa_types.specs.OplockLists.{begun, left_by, lowered, without_oplock_of}
 use Rattle.fsa_types.specs.Oplocks.{Begins, Effect, Ends, Lowers, Oplock, Stays, has_read, in_both}
 use Rattle.fsa_types.specs.Rows.{row_of}
 use Rattle.fsa_types.specs.Sorting.{in_order, put_in_order}
-use Rattle.fsa_types.specs.declared.oplock.Class.{Class}
 use Rattle.fsa_types.specs.declared.request.Level.{Level}
 use Rattle.fsa_model.specs.Lookups.{is_open_on}
 use Rattle.fsa_model.specs.Volume.{Handle}
@@ -134,20 +133,20 @@ local-left Ends handle number =
     record { sorts = one.sorts; stays = one.stays; keeps = one.keeps; homes = one.homes }
 local-left (Begins level) handle number =
     let one = local-map handle (begun handle level number)
-        (λ o. elim (cases_Bool (o.handle == handle)) [ inl here ↦ rw here refl | inr other ↦ rw other refl ])
-        (λ o other. rw other refl) in
+    (λ o. elim (cases_Bool (o.handle == handle)) [ inl here ↦ rw here refl | inr other ↦ rw other refl ])
+    (λ o other. rw other refl) in
     record { sorts = one.sorts; stays = one.stays; keeps = one.keeps; homes = one.homes }
 local-left (Lowers level) handle number =
     let one = local-map handle (lowered handle level)
-        (λ o. elim (cases_Bool (o.handle == handle)) [ inl here ↦ rw here refl | inr other ↦ rw other refl ])
-        (λ o other. rw other refl) in
+    (λ o. elim (cases_Bool (o.handle == handle)) [ inl here ↦ rw here refl | inr other ↦ rw other refl ])
+    (λ o other. rw other refl) in
     record { sorts = one.sorts; stays = one.stays; keeps = one.keeps; homes = one.homes }
 
 pub local-answer : (handle : ℕ) (level : Level) (turn : ℕ) → IsLocal handle (after_answer handle level turn)
 local-answer handle level turn =
     let kept = local-map handle (as_answered handle level turn)
-        (λ o. elim (cases_Bool (o.handle == handle)) [ inl here ↦ rw here refl | inr other ↦ rw other refl ])
-        (λ o other. rw other refl) in
+    (λ o. elim (cases_Bool (o.handle == handle)) [ inl here ↦ rw here refl | inr other ↦ rw other refl ])
+    (λ o other. rw other refl) in
     let gone = local-without handle in
     record {
       sorts = λ handles stream rows. elim (cases_Bool (has_read level)) [ inl some ↦ rw some (kept.sorts handles stream rows) | inr none ↦ rw none (gone.sorts handles stream rows) ];
@@ -373,8 +372,8 @@ sorted-grant handles rows old new handle key stream level turn last taken found 
         let at : is_at handles other granted ≡ false = other-stream handles handle stream other found differ in
         let no_one : filter (is_at handles other) (granted ∷ []) ≡ [] = rw at refl in
         let apart = filter-passes (λ (o : Oplock). is_at handles stream o && is_of_key handle key o) (λ (o : Oplock). NoneOf o.handle (filter (is_at handles other) rows)) rows
-            (λ o passes. filter-passes (is_at handles other) (λ (x : Oplock). (x.handle == o.handle) ≡ false) rows
-            (λ x at_other. not-both handles o x stream other (and-left _ _ passes) at_other differ)) in
+        (λ o passes. filter-passes (is_at handles other) (λ (x : Oplock). (x.handle == o.handle) ≡ false) rows
+        (λ x at_other. not-both handles o x stream other (and-left _ _ passes) at_other differ)) in
         parts other
         ∙ ap (λ (end : List Oplock). after_switches (filter (is_at handles other) rows) switched ++ end) no_one
         ∙ append-nil _

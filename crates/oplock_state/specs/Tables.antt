@@ -4,7 +4,6 @@ use Rattle.std.specs.Option.{option_map_or}
 use Rattle.fsa_types.specs.OplockGrants.{after_grant, is_refused_among, switched_among}
 use Rattle.fsa_types.specs.Oplocks.{Oplock}
 use Rattle.fsa_types.specs.Rows.{row_of}
-use Rattle.fsa_types.specs.declared.request.Level.{Level}
 use Rattle.fsa_model.specs.Lookups.{is_open_on}
 use Rattle.fsa_model.specs.Volume.{Handle}
 use Rattle.oplock_state.specs.State.{State}

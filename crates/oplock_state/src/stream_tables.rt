@@ -186,13 +186,7 @@ fn begin_one(table: &mut StreamOplocks, oplock: OplockRow, class: Class, first: 
 }
 
 // Breaks this oplock under this key.
-fn begin(
-    tables: &mut [(u64, StreamOplocks)],
-    key: u64,
-    oplock: OplockRow,
-    class: Class,
-    first: u64,
-)
+fn begin(tables: &mut [(u64, StreamOplocks)], key: u64, oplock: OplockRow, class: Class, first: u64)
     requires quiet { AreQuiet tables.old }
     requires rising { last_at tables.old key < first }
     requires there { filter (λ other. other.handle == oplock.handle) (rows_at tables.old key) ≡ oplock ∷ [] }

@@ -1,7 +1,5 @@
-use Rattle.std.proofs.Common.{◌≡◌, ap, true}
-use Rattle.std.specs.Prelude.{◌==◌}
+use Rattle.std.proofs.Common.{◌≡◌}
 use Rattle.std.proofs.lemmas.Bool.{eqb-true}
-use Rattle.fsa_types.specs.Oplocks.{Oplock}
 use Rattle.oplock_state.specs.Tables.{is_at}
 use Rattle.oplock_state.proofs.SortLemmas.{own-stream}
 use Rattle.volume_breaks.proofs.GrantLemmas.{none-left}

@@ -1,15 +1,14 @@
-use Rattle.std.proofs.Common.{◌≡◌, ℕ, ◌+◌, ◌-◌, ◌∷◌, ◌++◌, [], List, sym, ◌∙◌, ap, refl, arith, get_or, inl, inr, None, true, false}
-use Rattle.std.specs.Prelude.{filter, ◌==◌, option_map}
+use Rattle.std.proofs.Common.{◌≡◌, ℕ, [], List, sym, ◌∙◌, ap, refl, arith, get_or}
+use Rattle.std.specs.Prelude.{option_map}
 use Rattle.std.proofs.Math.ListN.{set}
-use Rattle.std.proofs.lemmas.List.Elements.{All-push, All-set}
+use Rattle.std.proofs.lemmas.List.Elements.{All-set}
 use Rattle.fsa_types.proofs.RowLemmas.{row_of-none}
 use Rattle.fsa_types.specs.Oplocks.{Oplock}
 use Rattle.oplock_state.specs.State.{State}
-use Rattle.oplock_state.proofs.TableLemmas.{first-kept, grants-at, rows_at-some, room_at-some, last_at-some, rows_at-none, room_at-none, last_at-none, step-put, step-same}
-use Rattle.volume_tables.proofs.PlaceLemmas.{IsFirst-position, row_of-first, put-first, push-last, IsPut}
+use Rattle.oplock_state.proofs.TableLemmas.{first-kept, rows_at-some, room_at-some, last_at-some, rows_at-none, step-put, step-same}
+use Rattle.volume_tables.proofs.PlaceLemmas.{IsFirst-position, row_of-first, put-first}
 use Rattle.std.specs.Option.{option_map_or}
 use Rattle.fsa_types.specs.OplockGrants.{after_answer, target_among}
-use Rattle.fsa_types.specs.OplockLists.{number_of_break}
 use Rattle.fsa_types.specs.Oplocks.{in_both}
 use Rattle.fsa_types.specs.declared.request.Level.{Level}
 use Rattle.oplock_state.proofs.stream_tables.ack.Goals as goal

@@ -1,12 +1,10 @@
-use Rattle.std.proofs.Common.{◌≡◌, ◌∷◌, [], List, sym, ◌∙◌, ap, refl, arith, get_or, inl, inr, None}
-use Rattle.std.specs.Prelude.{filter, ◌==◌}
+use Rattle.std.proofs.Common.{◌≡◌, [], sym, ◌∙◌, ap, refl, arith, get_or}
 use Rattle.std.proofs.Math.ListN.{set}
 use Rattle.std.proofs.lemmas.List.Elements.{All-set}
 use Rattle.fsa_types.proofs.RowLemmas.{row_of-none}
-use Rattle.fsa_types.specs.Oplocks.{Oplock}
 use Rattle.oplock_state.specs.State.{State}
-use Rattle.oplock_state.proofs.TableLemmas.{rows_at-some, room_at-some, last_at-some, rows_at-none, room_at-none, last_at-none, step-put, step-same}
-use Rattle.volume_tables.proofs.PlaceLemmas.{IsFirst-position, row_of-first, put-first, push-last, IsPut}
+use Rattle.oplock_state.proofs.TableLemmas.{rows_at-some, room_at-some, last_at-some, rows_at-none, step-put, step-same}
+use Rattle.volume_tables.proofs.PlaceLemmas.{IsFirst-position, row_of-first, put-first}
 use Rattle.fsa_types.specs.OplockLists.{without_oplock_of}
 use Rattle.oplock_state.proofs.stream_tables.drop_handle.Goals as goal
 

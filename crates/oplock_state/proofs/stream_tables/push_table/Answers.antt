@@ -1,12 +1,9 @@
-use Rattle.std.proofs.Common.{◌≡◌, ◌+◌, ◌-◌, ◌∷◌, ◌++◌, [], List, sym, ◌∙◌, ap, refl, arith, get_or, inl, inr, None, true, false}
-use Rattle.std.specs.Prelude.{filter, ◌==◌, option_map}
-use Rattle.std.proofs.Math.ListN.{set}
-use Rattle.std.proofs.lemmas.List.Elements.{All-push, All-set}
+use Rattle.std.proofs.Common.{◌≡◌, ◌∷◌, ◌++◌, [], sym, ◌∙◌, ap, arith}
+use Rattle.std.proofs.lemmas.List.Elements.{All-push}
 use Rattle.fsa_types.proofs.RowLemmas.{row_of-none}
-use Rattle.fsa_types.specs.Oplocks.{Oplock}
 use Rattle.oplock_state.specs.State.{State}
-use Rattle.oplock_state.proofs.TableLemmas.{first-kept, grants-at, rows_at-some, room_at-some, last_at-some, rows_at-none, room_at-none, last_at-none, step-put, step-same}
-use Rattle.volume_tables.proofs.PlaceLemmas.{IsFirst-position, row_of-first, put-first, push-last, IsPut}
+use Rattle.oplock_state.proofs.TableLemmas.{room_at-some, rows_at-none, room_at-none, last_at-none, step-put}
+use Rattle.volume_tables.proofs.PlaceLemmas.{push-last, IsPut}
 use Rattle.oplock_state.proofs.stream_tables.push_table.Goals as goal
 
 pub returns-clause-step : goal.returns-clause-step

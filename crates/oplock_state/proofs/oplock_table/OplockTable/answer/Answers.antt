@@ -1,4 +1,4 @@
-use Rattle.std.proofs.Common.{◌≡◌, ◌∙◌, List, ap, refl, subst, sym}
+use Rattle.std.proofs.Common.{◌∙◌, List, ap, refl, subst, sym}
 use Rattle.std.specs.Prelude.{option_map}
 use Rattle.fsa_types.specs.OplockGrants.{after_answer, target_among}
 use Rattle.fsa_types.specs.Oplocks.{Oplock, in_both}
@@ -39,7 +39,7 @@ returns-clause-sorted c =
     let stream = c.in-Some.stream in
     let kept = c.in-Some-ack.kept in
     let rows = kept-rows c.args.level kept (λ level. after_answer c.args.handle level c.args.turn (rows_at i.tables stream)) (rows_at i.tables stream) (target_among c.args.handle (rows_at i.tables stream))
-        (sym c.in-Some-ack.is ∙ c.ack.ensures.kept) in
+    (sym c.in-Some-ack.is ∙ c.ack.ensures.kept) in
     let step = subst (λ (left : List Oplock). IsStep i.tables c.ack.new.self stream left (last_at i.tables stream) 0) rows c.ack.ensures.step in
     rw c.answer.ensures
     (sorted-local handles i.list.rows i.tables c.ack.new.self c.args.handle stream (last_at i.tables stream) 0 (after_answer c.args.handle kept c.args.turn) (local-answer c.args.handle kept c.args.turn) found sorted step)

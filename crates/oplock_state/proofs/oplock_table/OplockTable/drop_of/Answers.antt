@@ -1,4 +1,4 @@
-use Rattle.std.proofs.Common.{◌≡◌, sym}
+use Rattle.std.proofs.Common.{sym}
 use Rattle.fsa_types.specs.OplockLists.{without_oplock_of}
 use Rattle.oplock_state.specs.Tables.{AreSorted, rows_at}
 use Rattle.oplock_state.proofs.SortLemmas.{fit-dropped, sorted-dropped}

@@ -1,4 +1,4 @@
-use Rattle.std.proofs.Common.{◌≡◌, ◌∙◌, List, ap, refl, subst, sym, true}
+use Rattle.std.proofs.Common.{◌∙◌, List, ap, refl, subst, sym, true}
 use Rattle.fsa_types.specs.OplockGrants.{is_refused_among}
 use Rattle.fsa_types.specs.Oplocks.{Oplock}
 use Rattle.oplock_state.specs.Tables.{AreSorted, IsStep, is_at, last_at}
@@ -16,7 +16,7 @@ returns-in-Refused-clause-grants c =
     let asked = c.args.asked.now in
     let sorted : AreSorted handles i.list.rows i.tables = rw (← c.self.view_is) at c.requires.sorted in
     let same = ap (is_refused_among (λ _. true) asked.handle asked.key asked.level asked.others asked.locked) (sorted.each c.args.stream)
-        ∙ refused-on (is_at handles c.args.stream) asked.handle asked.key asked.level asked.others asked.locked i.list.rows in
+    ∙ refused-on (is_at handles c.args.stream) asked.handle asked.key asked.level asked.others asked.locked i.list.rows in
     rw (← c.self.view_is) (sym same ∙ c.in-Refused.ensures.grants.0, refl)
 
 pub returns-in-Granted-clause-grants : goal.returns-in-Granted-clause-grants
@@ -26,7 +26,7 @@ returns-in-Granted-clause-grants c =
     let asked = c.args.asked.now in
     let sorted : AreSorted handles i.list.rows i.tables = rw (← c.self.view_is) at c.requires.sorted in
     let same = ap (is_refused_among (λ _. true) asked.handle asked.key asked.level asked.others asked.locked) (sorted.each c.args.stream)
-        ∙ refused-on (is_at handles c.args.stream) asked.handle asked.key asked.level asked.others asked.locked i.list.rows in
+    ∙ refused-on (is_at handles c.args.stream) asked.handle asked.key asked.level asked.others asked.locked i.list.rows in
     rw (← c.self.view_is) (sym same ∙ c.in-Granted.ensures.grants.0, c.grant_in_list.ensures.rows, c.grant_in_list.ensures.chosen)
 
 pub returns-in-Granted-clause-sorted : goal.returns-in-Granted-clause-sorted
