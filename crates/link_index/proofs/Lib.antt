@@ -1,3 +1,4 @@
 pub mod EntryLaws
+pub mod KeyLaws
 pub mod OrderLaws
 pub mod SortLaws
