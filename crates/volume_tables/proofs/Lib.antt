@@ -1,5 +1,8 @@
+pub mod FirstLemmas
 pub mod IndexLaws
 pub mod LockLemmas
+pub mod MovedLemmas
+pub mod NameLemmas
 pub mod PlaceLemmas
 pub mod RangeLemmas
 pub mod RoomLemmas

@@ -1,6 +1,7 @@
 pub mod HandleIndex
 pub mod HandleTable
 pub mod LinkTable
+pub mod Names
 pub mod Ranges
 pub mod Rooms
 pub mod Space

@@ -12,6 +12,10 @@
 //! handles.locks_of(stream);               // the ranges of one stream, in the order in which they were granted
 //! handles.remove(handle);                 // with its locks
 //!
+//! names.reserve(1)?;
+//! names.add(&table, &upcase, id, dir, units);     // before the link is added to its table
+//! names.child(&table, &upcase, dir, units);       // by binary search
+//!
 //! space.reserve(1)?;
 //! space.admit(owner);                     // takes no memory
 //! space.resize(owner, 0, 2);              // he is charged for two clusters more
@@ -21,6 +25,9 @@
 //!
 //! The locks stand once in one list, in the order in which they were granted, and once more in a table
 //! of ranges for each stream. That both hold the same is the table's invariant.
+//!
+//! `NameIndex` has the numbers of all links in the order of their directories and names, beside the table that has
+//! the names; no table keeps one so far.
 //!
 //! - It asks that room was reserved and that numbers are left; `add_lock` asks that the handle has a
 //!   stream, and not whether the range conflicts with another. A tally asks that owners are admitted, that
@@ -36,6 +43,7 @@ mod handle_index;
 mod handle_table;
 mod link_table;
 mod lock_row;
+mod name_index;
 mod ranges;
 mod room_list;
 mod space;
@@ -43,5 +51,6 @@ mod space;
 pub use handle_table::HandleTable;
 pub use link_table::LinkTable;
 pub use lock_row::LockRow;
+pub use name_index::NameIndex;
 pub use room_list::RoomList;
 pub use space::SpaceTally;

@@ -1,0 +1,351 @@
+//! The numbers of links in the order of their directories and names.
+
+ghost use Rattle.std.specs.Prelude.{ℕ, ◌≡◌, ◌≤◌, ◌+◌, ◌<◌, ◌==◌, ◌&&◌, not, ◌++◌, ◌∷◌, [], Bool, false, true, All, Err, OnOk, None, Some, find, length, map, option_map, slice_get};
+ghost use Rattle.std.specs.List.{list_any, remove};
+ghost use Rattle.std.specs.Option.{option_copied, is_some};
+ghost use Rattle.fsa_types.specs.Rows.{row_of, with_row_changed, without_row};
+ghost use Rattle.fsa_types.specs.Sorting.{in_order, put_in_order};
+ghost use Rattle.fsa_model.specs.Lookups.{is_named};
+ghost use Rattle.link_index.specs.Keyed.{AreInKeyOrder, IsKeyPlace, cmp_keys, is_key_before};
+ghost use Rattle.volume_rows.specs.Children.{links_after};
+ghost use Rattle.volume_tables.specs.Names.{IsBegin, IsByName, link_at, link_key, links_at, number_within, place_key};
+
+use fsa_types::{NoMemory, UpcaseTable};
+use object_tables::Table;
+use std::alloc::Global;
+use std::cmp::Ordering;
+use std::marker::Model;
+use volume_rows::LinkRow;
+
+/// The numbers of the links of a table, in the order of their directories and, in each of these, of their
+/// upcased names. The names stand in the table alone.
+#[derive(Debug, Drop)]
+pub struct NameIndex {
+    numbers: Vec<u64>,
+}
+
+impl Model for NameIndex {
+    ghost use Rattle.std.specs.Prelude.{◌-◌};
+    ghost use Rattle.std.specs.Vec.{vec_capacity, vec_len};
+    ghost use Rattle.volume_tables.specs.Names.{Numbers};
+
+    ghost Value = { Numbers };
+
+    ghost view = { λ n. record { numbers = n.numbers.items; room = vec_capacity n.numbers - vec_len n.numbers } };
+}
+
+impl NameIndex {
+    /// No numbers. It takes no memory.
+    pub fn new(alloc: Global) -> NameIndex
+        ensures { result.numbers ≡ [] }
+    {
+        NameIndex {
+            numbers: Vec::new(alloc),
+        }
+    }
+
+    /// Takes room for `more` numbers beside those that are there. `NoMemory` where there is none.
+    pub fn reserve(&mut self, more: usize) -> Result<(), NoMemory>
+        ensures numbers { self.new.numbers ≡ self.old.numbers }
+        ensures room { OnOk result (more ≤ self.new.room) }
+        ensures kept { self.old.room ≤ self.new.room }
+    {
+        self.numbers.reserve(more)?;
+        Ok(())
+    }
+
+    /// The link of this name in this directory.
+    pub fn child(
+        &self,
+        links: &Table<LinkRow>,
+        table: &UpcaseTable,
+        parent: u64,
+        units: &[u16],
+    ) -> Option<u64>
+        requires { IsByName table.now links.now.rows self.now.numbers }
+        ensures { result ≡ option_map (λ entry. entry.0) (find (λ entry. is_named table.now parent units.now entry.1) links.now.rows) }
+    {
+        find_child(&self.numbers, links, table, parent, units)
+    }
+
+    /// The first of the links of a directory whose names are greater than that one; of all of them where there
+    /// is no name.
+    pub fn child_after(
+        &self,
+        links: &Table<LinkRow>,
+        table: &UpcaseTable,
+        dir: u64,
+        after: Option<&[u16]>,
+    ) -> Option<u64>
+        requires { IsByName table.now links.now.rows self.now.numbers }
+        ensures { result ≡ option_map (λ entry. entry.0) (slice_get (links_after table.now dir (option_copied after.entry) links.now.rows) 0) }
+    {
+        find_child_after(&self.numbers, links, table, dir, after)
+    }
+
+    /// Puts in the number of a link of a new name, which is then added to its table last. There has to be room for
+    /// it.
+    pub fn add(
+        &mut self,
+        links: &Table<LinkRow>,
+        table: &UpcaseTable,
+        id: u64,
+        parent: u64,
+        units: &[u16],
+    )
+        requires room { 1 ≤ self.old.room }
+        requires by_name { IsByName table.now links.now.rows self.old.numbers }
+        requires is_new { option_map (λ entry. entry.0) (find (λ entry. is_named table.now parent units.now entry.1) links.now.rows) ≡ None }
+        ensures numbers { (file : ℕ) (deleted : Bool) → IsByName table.now (links.now.rows ++ (id, record { parent = parent; name = units.now; file = file; deleted = deleted }) ∷ []) self.new.numbers }
+        ensures left { self.old.room ≤ self.new.room + 1 }
+    {
+        let _ = links.as_slice();
+        self.put(links, table, id, parent, units);
+    }
+
+    /// Gives the number of a link, which lives and still has its old name in its table, the place of another name.
+    pub fn move_to(
+        &mut self,
+        links: &Table<LinkRow>,
+        table: &UpcaseTable,
+        id: u64,
+        parent: u64,
+        units: &[u16],
+    )
+        requires by_name { IsByName table.now links.now.rows self.old.numbers }
+        requires lives { is_some (row_of links.now.rows id) ≡ true }
+        requires free { list_any (λ entry. not (entry.0 == id) && is_named table.now parent units.now entry.1) links.now.rows ≡ false }
+        ensures numbers { IsByName table.now (with_row_changed (λ row. record row { parent = parent; name = units.now }) links.now.rows id) self.new.numbers }
+        ensures kept { self.old.room ≤ self.new.room }
+    {
+        let _ = links.as_slice();
+        self.take(links, table, id);
+        self.put(links, table, id, parent, units);
+    }
+
+    /// Takes the number of a link out, which is still in its table.
+    pub fn take(&mut self, links: &Table<LinkRow>, table: &UpcaseTable, id: u64)
+        requires { IsByName table.now links.now.rows self.old.numbers }
+        ensures numbers { self.new.numbers ≡ map (λ entry. entry.0) (in_order (is_key_before (link_key table.now)) (without_row links.now.rows id)) }
+        ensures room { is_some (row_of links.now.rows id) ≡ true → self.old.room + 1 ≤ self.new.room }
+        ensures kept { self.old.room ≤ self.new.room }
+    {
+        match links.get(id) {
+            None => {}
+            Some(row) => {
+                let place = place_of_link(&self.numbers, links, table, id, row);
+                let _ = self.numbers.remove(place);
+            }
+        }
+    }
+
+    /// Puts in the number of a link of a new name, which its table doesn't have yet. There has to be room for it.
+    pub fn put(
+        &mut self,
+        links: &Table<LinkRow>,
+        table: &UpcaseTable,
+        id: u64,
+        dir: u64,
+        units: &[u16],
+    )
+        requires room { 1 ≤ self.old.room }
+        requires ordered { AreInKeyOrder (link_key table.now) (links_at links.now.rows self.old.numbers) }
+        requires is_new { All (λ entry. is_named table.now dir units.now entry.1 ≡ false) (links_at links.now.rows self.old.numbers) }
+        ensures numbers { (file : ℕ) (deleted : Bool) → self.new.numbers ≡ map (λ entry. entry.0) (put_in_order (is_key_before (link_key table.now)) (id, record { parent = dir; name = units.now; file = file; deleted = deleted }) (links_at links.now.rows self.old.numbers)) }
+        ensures left { self.old.room ≤ self.new.room + 1 }
+    {
+        let place = place_for(&self.numbers, links, table, dir, units);
+        let Ok(()) = self.numbers.insert(place, id) else {
+            unreachable!()
+        };
+    }
+}
+
+// The link of this name in this directory.
+fn find_child(
+    numbers: &[u64],
+    links: &Table<LinkRow>,
+    table: &UpcaseTable,
+    parent: u64,
+    units: &[u16],
+) -> Option<u64>
+    requires { IsByName table.now links.now.rows numbers.now }
+    ensures { result ≡ option_map (λ entry. entry.0) (find (λ entry. is_named table.now parent units.now entry.1) links.now.rows) }
+{
+    let _ = links.as_slice();
+    match place_of(numbers, links, table, parent, units) {
+        Ok(place) => number_of(numbers, place),
+        Err(_) => None,
+    }
+}
+
+// The number at this place.
+fn number_of(numbers: &[u64], place: usize) -> Option<u64>
+    ensures { result ≡ slice_get numbers.now place }
+{
+    match numbers.get(place) {
+        Some(id) => Some(*id),
+        None => None,
+    }
+}
+
+// The first of the links of a directory behind a name; without a name, of all of them.
+fn find_child_after(
+    numbers: &[u64],
+    links: &Table<LinkRow>,
+    table: &UpcaseTable,
+    dir: u64,
+    after: Option<&[u16]>,
+) -> Option<u64>
+    requires { IsByName table.now links.now.rows numbers.now }
+    ensures { result ≡ option_map (λ entry. entry.0) (slice_get (links_after table.now dir (option_copied after.entry) links.now.rows) 0) }
+{
+    let _ = links.as_slice();
+    let place = begin_of(numbers, links, table, dir, after);
+    number_at(numbers, links, place, dir)
+}
+
+// Where the link of this number and name stands.
+fn place_of_link(
+    numbers: &[u64],
+    links: &Table<LinkRow>,
+    table: &UpcaseTable,
+    id: u64,
+    row: &LinkRow,
+) -> usize
+    requires by_name { IsByName table.now links.now.rows numbers.now }
+    requires found { row_of links.now.rows id ≡ Some row.now }
+    ensures bound { result < length numbers.now }
+    ensures without { remove numbers.now result ≡ map (λ entry. entry.0) (in_order (is_key_before (link_key table.now)) (without_row links.now.rows id)) }
+{
+    let _ = links.as_slice();
+    match place_of(numbers, links, table, row.parent, row.name.units()) {
+        Ok(place) => place,
+        Err(_) => unreachable!(),
+    }
+}
+
+// Where a new name stands.
+fn place_for(
+    numbers: &[u64],
+    links: &Table<LinkRow>,
+    table: &UpcaseTable,
+    dir: u64,
+    units: &[u16],
+) -> usize
+    requires ordered { AreInKeyOrder (link_key table.now) (links_at links.now.rows numbers.now) }
+    requires is_new { All (λ entry. is_named table.now dir units.now entry.1 ≡ false) (links_at links.now.rows numbers.now) }
+    ensures { IsKeyPlace (link_key table.now) (links_at links.now.rows numbers.now) (place_key table.now dir units.now) (Err result) }
+{
+    match place_of(numbers, links, table, dir, units) {
+        Ok(place) => place,
+        Err(place) => place,
+    }
+}
+
+// The order of a name in a directory and another.
+fn cmp_place(table: &UpcaseTable, parent: u64, name: &[u16], dir: u64, units: &[u16]) -> Ordering
+    ensures { result ≡ cmp_keys (place_key table.now parent name.now) (place_key table.now dir units.now) }
+{
+    match parent.cmp(&dir) {
+        Ordering::Equal => table.cmp_name(name, units),
+        other => other,
+    }
+}
+
+// The order of the link of a number and a name in a directory.
+fn cmp_number(
+    links: &Table<LinkRow>,
+    table: &UpcaseTable,
+    id: u64,
+    dir: u64,
+    units: &[u16],
+) -> Ordering
+    ensures { result ≡ cmp_keys (link_key table.now (link_at links.now.rows id)) (place_key table.now dir units.now) }
+{
+    match links.get(id) {
+        None => cmp_place(table, 0, &[], dir, units),
+        Some(row) => cmp_place(table, row.parent, row.name.units(), dir, units),
+    }
+}
+
+// The place of a name in a directory, or where it would stand, by binary search.
+fn place_of(
+    numbers: &[u64],
+    links: &Table<LinkRow>,
+    table: &UpcaseTable,
+    dir: u64,
+    units: &[u16],
+) -> Result<usize, usize>
+    requires { AreInKeyOrder (link_key table.now) (links_at links.now.rows numbers.now) }
+    ensures { IsKeyPlace (link_key table.now) (links_at links.now.rows numbers.now) (place_key table.now dir units.now) result }
+{
+    numbers.binary_search_by(|id| cmp_number(links, table, *id, dir, units))
+}
+
+// Where the links of a directory begin, if there are any.
+fn begin_of_all(numbers: &[u64], links: &Table<LinkRow>, table: &UpcaseTable, dir: u64) -> usize
+    requires { AreInKeyOrder (link_key table.now) (links_at links.now.rows numbers.now) }
+    ensures { IsBegin table.now (links_at links.now.rows numbers.now) dir None result }
+{
+    match place_of(numbers, links, table, dir, &[]) {
+        Ok(place) => place,
+        Err(place) => place,
+    }
+}
+
+// Where those behind a name begin, if there are any.
+fn begin_behind(
+    numbers: &[u64],
+    links: &Table<LinkRow>,
+    table: &UpcaseTable,
+    dir: u64,
+    units: &[u16],
+) -> usize
+    requires { AreInKeyOrder (link_key table.now) (links_at links.now.rows numbers.now) }
+    ensures { IsBegin table.now (links_at links.now.rows numbers.now) dir (Some units.now) result }
+{
+    match place_of(numbers, links, table, dir, units) {
+        Ok(place) => place + 1,
+        Err(place) => place,
+    }
+}
+
+// Where the links of a directory behind a name begin; without a name all are behind it.
+fn begin_of(
+    numbers: &[u64],
+    links: &Table<LinkRow>,
+    table: &UpcaseTable,
+    dir: u64,
+    after: Option<&[u16]>,
+) -> usize
+    requires { AreInKeyOrder (link_key table.now) (links_at links.now.rows numbers.now) }
+    ensures { IsBegin table.now (links_at links.now.rows numbers.now) dir (option_copied after.entry) result }
+{
+    match after {
+        None => begin_of_all(numbers, links, table, dir),
+        Some(units) => begin_behind(numbers, links, table, dir, units),
+    }
+}
+
+// Whether the link of a number is in this directory.
+fn is_in(links: &Table<LinkRow>, id: u64, dir: u64) -> bool
+    ensures { result ≡ ((link_at links.now.rows id).1.parent == dir) }
+{
+    match links.get(id) {
+        None => dir == 0,
+        Some(row) => row.parent == dir,
+    }
+}
+
+// The number at this place, where its link is in this directory.
+fn number_at(numbers: &[u64], links: &Table<LinkRow>, place: usize, dir: u64) -> Option<u64>
+    ensures { result ≡ number_within dir (slice_get (links_at links.now.rows numbers.now) place) }
+{
+    let id = *numbers.get(place)?;
+    if is_in(links, id, dir) {
+        Some(id)
+    } else {
+        None
+    }
+}
