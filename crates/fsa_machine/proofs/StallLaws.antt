@@ -6,6 +6,7 @@ use Rattle.fsa_types.specs.Sorting.{put_in_order, in_order}
 use Rattle.fsa_types.specs.declared.request.CallId.{CallId}
 use Rattle.fsa_types.specs.declared.reply.Body.TheVariants.{Nothing}
 use Rattle.fsa_types.specs.declared.reply.EndOf.{EndOf}
+use Rattle.fsa_types.specs.declared.reply.Reply.{Reply}
 use Rattle.fsa_types.specs.declared.status.Status.TheVariants.{Stalled}
 use Rattle.fsa_model.specs.Close.{with_calls_ended}
 use Rattle.fsa_model.specs.Turn.{answered, ends_between, turn_number, volume_after}
@@ -126,6 +127,15 @@ settle-told v w x names before told now reaches is told_is now_is =
     let longer : Extends w.ended x.ended = subst (λ (u : Volume). Extends w.ended u.ended) (sym is) (stalled-extends w) in
     now_is ∙ ap (λ (ends : List EndOf). ends ++ ends_between w x) told_is ∙ append_assoc before (ends_between v w) (ends_between w x)
     ∙ ap (λ (ends : List EndOf). before ++ ends) (ends-joined v w x keeping.ended longer)
+
+-- no end goes
+pub settle-longer : (v w x : Volume) (names : List CallId) → Reaches v names w → x ≡ with_stalled w → length v.ended ≤ length x.ended
+settle-longer v w x names reaches is =
+    let keeping = Reaches-keeping v w names reaches in
+    let first = Extends-length keeping.ended in
+    let second = Extends-length (stalled-extends w) in
+    let all = ap (λ (u : Volume). length u.ended) is in
+    omega arith
 
 -- ---- calls that end where all wait
 
@@ -254,6 +264,12 @@ own-tries v call turn outcome serves may_try may new tried number =
 
 pub room-step : (now after : List EndOf) (end : EndOf) (waits room later index : ℕ) → length now + waits ≤ room + index → after ≡ now ++ end ∷ [] → later ≡ room → length after + waits ≤ later + (index + 1)
 room-step now after end waits room later index fits is same = (let one = length-append now (end ∷ []) in rw is (omega arith))
+
+-- one end more uses the room of one
+pub ends-step : (v w x : Volume) (client number : ℕ) (reply : Reply) (before now after : ℕ) → before + length v.ended ≤ now + length w.ended → x ≡ with_end w client number reply → now ≤ after + 1 → before + length v.ended ≤ after + length x.ended
+ends-step v w x client number reply before now after left is used =
+    (let one = length-append w.ended (record { client = client; number = number; reply = reply } ∷ []) in
+    let more = ap (λ (u : Volume). length u.ended) is in omega arith)
 
 -- what the settlement of the turn begins with
 pub record OwnAnswered (v : Volume) (outcome : Outcome) (w : Volume) : Type 0 where

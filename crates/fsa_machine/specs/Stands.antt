@@ -1,4 +1,4 @@
--- What a machine is seen as: a setup, and the history of its turns.
+-- What a machine is seen as: a setup, the history of its turns, and the room for turns to come.
 use Rattle.std.specs.Prelude.{◌≡◌, ℕ, ◌≤◌, ◌&&◌, nat_le, nat_lt, cond, Bool, true, false, List, [], ◌∷◌, ◌++◌, length, map, Result, Ok, Err, Option, Some, find, option_map}
 use Rattle.std.specs.List.{list_any}
 use Rattle.fsa_types.specs.declared.reply.Body.{Body}
@@ -22,6 +22,8 @@ use Rattle.fsa_machine.specs.Serves.{Serves, most_entries}
 pub record Seen : Type 0 where
   pub setup : Setup
   pub entries : List HistoryEntry
+  -- for how many turns to come there is room
+  pub spare_turns : ℕ
 
 -- what no turn changes of the volume is its setup
 abbrev pub setup_in : Volume → Setup

@@ -9,8 +9,9 @@
 //! }
 //! ```
 //!
-//! A machine is seen as its setup and the list of its entries. Its volume is that of their run, and what it
-//! keeps of each turn is what that turn of the run gave out; no call goes over the history again.
+//! A machine is seen as its setup, the list of its entries, and for how many turns to come it has room. Its
+//! volume is that of the run of its entries, and what it keeps of each turn is what that turn of the run gave
+//! out; no call goes over the history again.
 //!
 //! - A turn (`turns`) takes its room, tries its own call (`own`), and settles what is pending (`settle`). The
 //!   definitions are `Turn` and `Settle` of `fsa_model`. What a turn gives out it makes twice (`ends`,
@@ -20,6 +21,9 @@
 //!   again, and a Notify two of a report that has bytes; where that finds no memory it ends `NO_MEMORY`, and
 //!   is named, and what is due stays so. Calls that end besides have replies without bytes, which take no
 //!   memory, and so has a Notify to which more is due than it has room for.
+//! - `reserve` takes room for turns to come (`spare`): an entry, an end for each call that can be pending by
+//!   then, room for a pending call, and the lists of what a turn gives out. A turn of an Ack or a Cancel is made
+//!   in such room where there is any (`keeping`), and can't be refused for memory then.
 //! - What is true of the volume between tries is `Serves`; from it follows what each try asks (`MayTry`). It
 //!   says that each handle was opened by a call that has ended, that each pending call is one that a line
 //!   can ask and waits for no call that wasn't made, that few numbers were given, and that no more breaks
@@ -30,6 +34,7 @@
 #![tactic(auto)]
 
 mod ends;
+mod keeping;
 mod kept;
 mod look;
 mod machine;
@@ -37,6 +42,7 @@ mod own;
 mod replies;
 mod serving;
 mod settle;
+mod spare;
 mod store;
 mod stored;
 mod turns;

@@ -1,29 +1,28 @@
 //! A machine: a store that stands for a setup and a history.
 
-ghost use Rattle.std.specs.Prelude.{◌≡◌, ◌≤◌, ◌<◌, ◌+◌, ◌==◌, ◌++◌, ◌∷◌, [], ℕ, true, not, is_some, IsSome, length, map, slice_get, Some, IfOk, IfErr, OnOk, OnErr};
+ghost use Rattle.std.specs.Prelude.{◌≡◌, ◌≤◌, ◌<◌, ◌+◌, ◌==◌, ◌++◌, ◌∷◌, [], true, not, is_some, IsSome, length, map, slice_get, Some, IfOk, IfErr, OnOk, OnErr};
 ghost use Rattle.std.specs.List.{list_any};
 ghost use Rattle.std.specs.Vec.{vec_capacity, vec_len};
 ghost use Rattle.fsa_model.specs.Coherence.{CachingIsCoherent};
 ghost use Rattle.fsa_model.specs.Engine.{EndsOnce, NoneReady, TakesReleased, is_entry_of};
 ghost use Rattle.fsa_model.specs.History.{Run, run};
 ghost use Rattle.fsa_model.specs.LineCalls.{IsLineCall};
-ghost use Rattle.fsa_model.specs.Once.{made, times};
 ghost use Rattle.fsa_model.specs.Outcome.{out_of};
 ghost use Rattle.fsa_model.specs.Schedule.{calls_of};
-ghost use Rattle.fsa_model.specs.Settling.{MayTurn};
-ghost use Rattle.fsa_model.specs.Turn.{turn};
 ghost use Rattle.fsa_model.specs.Volume.{fresh};
 ghost use Rattle.fsa_model.specs.Waiting.{is_pending, waits};
 ghost use Rattle.fsa_model.specs.Watched.{WatchesReport};
 ghost use Rattle.fsa_machine.specs.Kept.{entry_of, out_kept};
-ghost use Rattle.fsa_machine.specs.Serves.{MayTry, Serves, ServesOn, most_entries};
+ghost use Rattle.fsa_machine.specs.Serves.{most_entries};
+ghost use Rattle.fsa_machine.specs.Spare.{AreSpare, is_ack_or_cancel};
 ghost use Rattle.fsa_machine.specs.Stands.{GaveOut, Stands, calls_in, ended_with_list, is_full, reply_in, setup_in};
 
+use crate::keeping::{keep_turn, reserve_turns};
 use crate::kept::KeptTurn;
 use crate::look::reply_from;
+use crate::spare::SpareRooms;
 use crate::store::Store;
-use crate::turns::turn;
-use fsa_types::{Call, NoMemory, Out, Reply, TryCopy, Why};
+use fsa_types::{Call, NoMemory, Out, Reply, Why};
 use std::alloc::Global;
 use std::marker::Model;
 
@@ -34,58 +33,23 @@ pub const MOST_ENTRIES: usize = 1_000_000;
 #[derive(Drop)]
 pub struct Machine<S: Store> {
     kept: Vec<KeptTurn>,
+    spare: SpareRooms,
     store: S,
 }
 
 impl<S: Store> Model for Machine<S> {
     ghost use Rattle.std.specs.Prelude.{map};
     ghost use Rattle.fsa_machine.specs.Kept.{entry_of, out_kept};
+    ghost use Rattle.std.specs.Vec.{vec_capacity, vec_len};
+    ghost use Rattle.fsa_machine.specs.Spare.{AreSpare};
     ghost use Rattle.fsa_machine.specs.Stands.{Seen, Stands, setup_in};
 
     ghost Value = { Seen };
 
-    ghost view = { λ m. record { setup = setup_in (S.content m.store); entries = map entry_of m.kept.items } };
+    ghost view = { λ m. record { setup = setup_in (S.content m.store); entries = map entry_of m.kept.items; spare_turns = m.spare.turns } };
 
-    ghost invariant = { λ m. Stands (setup_in (S.content m.store)) (map entry_of m.kept.items) (map out_kept m.kept.items) (S.content m.store) };
-}
-
-// Takes what is kept of a turn before it: room for it, and a copy of its call.
-fn take_entry(alloc: Global, kept: &mut Vec<KeptTurn>, call: &Call) -> Result<Call, NoMemory>
-    ensures kept { kept.new.items ≡ kept.old.items }
-    ensures room { OnOk result (vec_len kept.new < vec_capacity kept.new) }
-    ensures call { IfOk result (λ copy. copy ≡ call.now) }
-{
-    kept.reserve(1)?;
-    call.copy(alloc)
-}
-
-// Makes a turn, and keeps it.
-fn keep_turn<S: Store>(
-    alloc: Global,
-    store: &mut S,
-    kept: &mut Vec<KeptTurn>,
-    call: Call,
-) -> Result<Out, (Call, NoMemory)>
-    requires serves { Serves (S.content store.old) }
-    requires may_try { MayTry (S.content store.old) call }
-    requires number { 0 < call.number }
-    requires may { MayTurn (S.content store.old) }
-    requires new { times call.client call.number (S.content store.old) ≡ 0 }
-    requires few { made (S.content store.old) < most_entries }
-    ensures turn { IfOk result (λ out. turn (S.content store.old) call out.starved.items ≡ Some (record { volume = S.content store.new; out = out_of out })) }
-    ensures serves { OnOk result (ServesOn (S.content store.old) (S.content store.new)) }
-    ensures entries { IfOk result (λ out. map entry_of kept.new.items ≡ map entry_of kept.old.items ++ record { call = call; starved = out.starved.items } ∷ []) }
-    ensures outs { IfOk result (λ out. map out_kept kept.new.items ≡ map out_kept kept.old.items ++ out_of out ∷ []) }
-    ensures err { IfErr result (λ back. (S.content store.new ≡ S.content store.old) × (kept.new.items ≡ kept.old.items) × (back.0 ≡ call)) }
-{
-    let Ok(copy) = take_entry(alloc, kept, &call) else {
-        return Err((call, NoMemory));
-    };
-    let (given, out) = turn(alloc, store, call)?;
-    let Ok(()) = kept.push(KeptTurn { call: copy, out }) else {
-        unreachable!()
-    };
-    Ok(given)
+    ghost invariant = { λ m. Stands (setup_in (S.content m.store)) (map entry_of m.kept.items) (map out_kept m.kept.items) (S.content m.store)
+        × AreSpare (S.content m.store) (S.spare_ends m.store) (S.spare_pending m.store) (vec_len m.kept) (vec_capacity m.kept) m.spare };
 }
 
 // Makes a turn of the client's next call, and keeps it, unless the history is full.
@@ -93,22 +57,27 @@ fn turn_of<S: Store>(
     alloc: Global,
     store: &mut S,
     kept: &mut Vec<KeptTurn>,
+    spare: &mut SpareRooms,
     call: Call,
 ) -> Result<Out, (Call, Why)>
     requires stands { Stands (setup_in (S.content store.old)) (map entry_of kept.old.items) (map out_kept kept.old.items) (S.content store.old) }
     requires asked { IsLineCall (length (S.content store.old).clients) call }
     requires number { call.number ≡ calls_of call.client (calls_in (map entry_of kept.old.items)) + 1 }
+    requires spare { AreSpare (S.content store.old) (S.spare_ends store.old) (S.spare_pending store.old) (vec_len kept.old) (vec_capacity kept.old) spare.old }
     ensures stands { Stands (setup_in (S.content store.new)) (map entry_of kept.new.items) (map out_kept kept.new.items) (S.content store.new) }
     ensures setup { setup_in (S.content store.new) ≡ setup_in (S.content store.old) }
     ensures entries { IfOk result (λ out. map entry_of kept.new.items ≡ map entry_of kept.old.items ++ record { call = call; starved = out.starved.items } ∷ []) }
     ensures outs { IfOk result (λ out. map out_kept kept.new.items ≡ map out_kept kept.old.items ++ out_of out ∷ []) }
     ensures full { is_full result ≡ (length kept.old.items == most_entries) }
-    ensures err { IfErr result (λ back. (S.content store.new ≡ S.content store.old) × (kept.new.items ≡ kept.old.items) × (back.0 ≡ call)) }
+    ensures spare { AreSpare (S.content store.new) (S.spare_ends store.new) (S.spare_pending store.new) (vec_len kept.new) (vec_capacity kept.new) spare.new }
+    ensures spare_turns { spare.old.turns ≤ spare.new.turns + 1 }
+    ensures memory { is_ack_or_cancel call.what ≡ true → 1 ≤ spare.old.turns → OnErr result (is_full result ≡ true) }
+    ensures err { IfErr result (λ back. (S.content store.new ≡ S.content store.old) × (kept.new.items ≡ kept.old.items) × (spare.new ≡ spare.old) × (back.0 ≡ call)) }
 {
     if kept.as_slice().len() == MOST_ENTRIES {
         return Err((call, Why::HistoryFull));
     }
-    match keep_turn(alloc, store, kept, call) {
+    match keep_turn(alloc, store, kept, spare, call) {
         Ok(out) => Ok(out),
         Err((call, NoMemory)) => Err((call, Why::NoMemory)),
     }
@@ -122,7 +91,8 @@ impl<S: Store> Machine<S> {
         ensures entries { result.entries ≡ [] }
     {
         let kept = Vec::new(alloc);
-        Machine { kept, store }
+        let spare = SpareRooms::none(alloc);
+        Machine { kept, spare, store }
     }
 
     /// Makes a turn of the client's next call: tries it, and settles what is pending. It appends one entry
@@ -130,6 +100,10 @@ impl<S: Store> Machine<S> {
     /// exactly where there are 1,000,000 entries, before any memory is asked for; `NoMemory` where there
     /// is none for the call. A pending call that finds no memory ends so, and is named in what is given
     /// out.
+    ///
+    /// A turn that is made uses the room of one of the turns for which `reserve` took it, and one that is
+    /// refused none. As long as there is such room an Ack or a Cancel is refused where the history is full and
+    /// never for memory; pending calls that it lets go on may still find none.
     ///
     /// Over the whole history so far caching by oplocks is coherent, and each watch reports exactly the
     /// matching changes since its last report.
@@ -145,9 +119,37 @@ impl<S: Store> Machine<S> {
         ensures caching_is_coherent { CachingIsCoherent self.new.setup self.new.entries }
         ensures watches_report_exactly { WatchesReport self.new.setup self.new.entries }
         ensures full { is_full result ≡ (length self.old.entries == most_entries) }
+        ensures spare_turns { self.old.spare_turns ≤ self.new.spare_turns + 1 }
+        ensures memory { is_ack_or_cancel call.what ≡ true → 1 ≤ self.old.spare_turns → OnErr result (is_full result ≡ true) }
         ensures err { IfErr result (λ back. (self.new ≡ self.old) × (back.0 ≡ call)) }
     {
-        turn_of(alloc, &mut self.store, &mut self.kept, call)
+        turn_of(
+            alloc,
+            &mut self.store,
+            &mut self.kept,
+            &mut self.spare,
+            call,
+        )
+    }
+
+    /// Takes room for the next `n` turns: as long as all of them are Ack or Cancel they can't be refused for
+    /// memory. It asks for memory `n` times, each time for as many calls as are pending and `n`. `NoMemory`
+    /// changes nothing, and comes where there is none for it and where `n` is above 1,000,000, unless there is
+    /// room for so many turns already.
+    pub fn reserve(&mut self, alloc: Global, n: u32) -> Result<(), NoMemory>
+        ensures setup { self.new.setup ≡ self.old.setup }
+        ensures entries { self.new.entries ≡ self.old.entries }
+        ensures turns { OnOk result (n ≤ self.new.spare_turns) }
+        ensures no_less { self.old.spare_turns ≤ self.new.spare_turns }
+        ensures err { OnErr result (self.new ≡ self.old) }
+    {
+        reserve_turns(
+            alloc,
+            &mut self.store,
+            &mut self.kept,
+            &mut self.spare,
+            n as usize,
+        )
     }
 
     /// Whether the client waits for one of its calls.

@@ -1,12 +1,13 @@
 //! The turn's own call: its try, and what becomes of it.
 
-ghost use Rattle.std.specs.Prelude.{◌≡◌, ◌≤◌, ◌<◌, ◌+◌, ◌-◌, ◌^◌, ◌++◌, [], length, drop, IfOk, IfErr, OnOk};
+ghost use Rattle.std.specs.Prelude.{◌≡◌, ◌≤◌, ◌<◌, ◌+◌, ◌-◌, ◌^◌, ◌++◌, [], true, length, drop, IfOk, IfErr, IsOk, OnErr, OnOk};
 ghost use Rattle.fsa_model.specs.Edits.{with_end, with_pending};
 ghost use Rattle.fsa_model.specs.Frame.{FitsReply};
 ghost use Rattle.fsa_model.specs.Once.{made, times};
 ghost use Rattle.fsa_model.specs.Settling.{MayTurn};
 ghost use Rattle.fsa_model.specs.Turn.{answer_of, answered, ends_between, try, turn_number, volume_after};
 ghost use Rattle.fsa_machine.specs.Serves.{MayPend, MayTry, Serves, most_entries};
+ghost use Rattle.fsa_machine.specs.Spare.{is_ack_or_cancel};
 ghost use Rattle.fsa_machine.specs.Step.{AreBare, HasReplyRoom};
 
 use crate::ends::{EndLists, tell};
@@ -37,6 +38,7 @@ fn own_ends<S: Store>(
     ensures given { result.0 ≡ Answer.Ended reply }
     ensures kept { result.1 ≡ Answer.Ended reply }
     ensures left { S.spare_ends store.old ≤ S.spare_ends store.new + 1 }
+    ensures pending_kept { S.spare_pending store.old ≤ S.spare_pending store.new }
     ensures told { ended.new.items ≡ ended.old.items ++ drop from (S.content store.old).ended }
     ensures told_room { ended.new.room ≡ ended.old.room }
 {
@@ -68,6 +70,7 @@ fn own_pends<S: Store>(
     ensures given { result.0 ≡ Answer.Pending interim }
     ensures kept { result.1 ≡ Answer.Pending interim }
     ensures ends { S.spare_ends store.old ≤ S.spare_ends store.new }
+    ensures pending_left { S.spare_pending store.old ≤ S.spare_pending store.new + 1 }
     ensures told { ended.new.items ≡ ended.old.items ++ drop from (S.content store.old).ended }
     ensures told_room { ended.new.room ≡ ended.old.room }
 {
@@ -78,7 +81,7 @@ fn own_pends<S: Store>(
 
 /// Tries the turn's own call, which has ended or is pending then; the answer is given twice. The ends that
 /// the try brings are given out, but for the call's own. Where there is no memory nothing has changed, and
-/// the call is handed back.
+/// the call is handed back; an Ack and a Cancel need none where the store has room for one pending call.
 pub fn answer_own<S: Store>(
     alloc: Global,
     store: &mut S,
@@ -99,7 +102,10 @@ pub fn answer_own<S: Store>(
     ensures content { OnOk result (S.content store.new ≡ answered call (turn_number (S.content store.old)) (try (S.content store.old) call (turn_number (S.content store.old)))) }
     ensures given { IfOk result (λ answers. answers.0 ≡ answer_of (try (S.content store.old) call (turn_number (S.content store.old)))) }
     ensures kept { IfOk result (λ answers. answers.1 ≡ answers.0) }
-    ensures ends { OnOk result (S.spare_ends store.old + length (S.content store.old).ended ≤ S.spare_ends store.new + length (S.content store.new).ended) }
+    ensures ends { S.spare_ends store.old + length (S.content store.old).ended ≤ S.spare_ends store.new + length (S.content store.new).ended }
+    ensures pending { OnOk result (S.spare_pending store.old ≤ S.spare_pending store.new + 1) }
+    ensures pending_kept { OnErr result (S.spare_pending store.old ≤ S.spare_pending store.new) }
+    ensures memory { is_ack_or_cancel call.what ≡ true → 1 ≤ S.spare_pending store.old → IsOk result }
     ensures told { OnOk result (ended.new.items ≡ ended.old.items ++ ends_between (S.content store.old) (volume_after (try (S.content store.old) call (turn_number (S.content store.old))))) }
     ensures told_room { ended.new.room ≡ ended.old.room }
     ensures err { IfErr result (λ back. (S.content store.new ≡ S.content store.old) × (back.0 ≡ call)) }

@@ -1,13 +1,14 @@
 //! One try of any call.
 
-ghost use Rattle.std.specs.Prelude.{◌≡◌, ◌<◌, ◌+◌, ◌^◌};
+ghost use Rattle.std.specs.Prelude.{◌≡◌, ◌<◌, ◌≤◌, ◌+◌, ◌^◌, true};
 ghost use Rattle.fsa_machine.specs.Serves.{MayTry};
+ghost use Rattle.fsa_machine.specs.Spare.{is_ack_or_cancel};
 ghost use Rattle.fsa_model.specs.Edits.{with_ticks};
 ghost use Rattle.fsa_model.specs.Outcome.{ends_with};
 ghost use Rattle.fsa_model.specs.Try.{try, try_request, try_what};
 ghost use Rattle.fsa_types.specs.declared.request.What.TheVariants.{Ask};
 ghost use Rattle.volume_state.specs.Room.{KeepsEnds};
-ghost use Rattle.volume_state.specs.Tried.{Gives, HasHoldRoom};
+ghost use Rattle.volume_state.specs.Tried.{Gives, HasAnswer, HasHoldRoom};
 
 use crate::waiting::{try_cancel, try_wait};
 use fsa_types::{Call, Request, Status, What};
@@ -34,7 +35,9 @@ fn try_request(
 ) -> Tried
     requires is { call.now.what ≡ Ask request.now }
     requires may { MayTry volume.old.content call.now }
+    requires end_room { 1 ≤ volume.old.spare.ends }
     ensures gives { Gives (try_request volume.old.content turn call.now.client call.now.number request.now) volume.old.content volume.new.content result }
+    ensures memory { is_ack_or_cancel (Ask request.now) ≡ true → 1 ≤ volume.old.spare.pending → HasAnswer result }
     ensures room { HasHoldRoom result volume.new.spare }
     ensures ends { KeepsEnds volume.old volume.new }
 {
@@ -80,7 +83,9 @@ fn try_tick(volume: &mut Volume, ticks: u32) -> Tried
 // One try of what a call does.
 fn try_what(alloc: Global, volume: &mut Volume, call: &Call, turn: u64) -> Tried
     requires may { MayTry volume.old.content call.now }
+    requires end_room { 1 ≤ volume.old.spare.ends }
     ensures gives { Gives (try_what volume.old.content turn call.now.client call.now.number call.now.what) volume.old.content volume.new.content result }
+    ensures memory { is_ack_or_cancel call.now.what ≡ true → 1 ≤ volume.old.spare.pending → HasAnswer result }
     ensures room { HasHoldRoom result volume.new.spare }
     ensures ends { KeepsEnds volume.old volume.new }
 {
@@ -93,13 +98,16 @@ fn try_what(alloc: Global, volume: &mut Volume, call: &Call, turn: u64) -> Tried
 }
 
 /// One try of a call in this turn, or under it; a client that has left has no handle. It has to be known
-/// of the volume what `MayTry` says.
+/// of the volume what `MayTry` says, and there has to be room for one end.
 ///
 /// Where the call stays or is held there is room to make it pending, with its blockers. Of the room for
-/// ends it uses no more than one for each call that ends. `NoMemory` changes nothing.
+/// ends it uses no more than one for each call that ends, and none of that for pending calls. `NoMemory`
+/// changes nothing, and doesn't come to an Ack or a Cancel where there is room for one pending call.
 pub fn try_call(alloc: Global, volume: &mut Volume, call: &Call, turn: u64) -> Tried
     requires may { MayTry volume.old.content call.now }
+    requires end_room { 1 ≤ volume.old.spare.ends }
     ensures gives { Gives (try volume.old.content call.now turn) volume.old.content volume.new.content result }
+    ensures memory { is_ack_or_cancel call.now.what ≡ true → 1 ≤ volume.old.spare.pending → HasAnswer result }
     ensures room { HasHoldRoom result volume.new.spare }
     ensures ends { KeepsEnds volume.old volume.new }
 {

@@ -42,6 +42,7 @@ fn end_so<S: Store>(store: &mut S, client: u32, number: u32, status: Status, end
     ensures content { S.content store.new ≡ with_end (S.content store.old) client number (record { status = status; body = Nothing }) }
     ensures left { S.spare_ends store.old ≤ S.spare_ends store.new + 1 }
     ensures told { ended.new.items ≡ ended.old.items ++ record { client = client; number = number; reply = record { status = status; body = Nothing } } ∷ [] }
+    ensures pending_kept { S.spare_pending store.old ≤ S.spare_pending store.new }
     ensures told_room { ended.new.room ≡ ended.old.room }
 {
     let EndOf { reply, .. } = plain_end(client, number, status);
@@ -94,6 +95,7 @@ fn retry<S: Store>(
     ensures none { result ≡ false → (S.content store.new ≡ S.content store.old) × (ended.new ≡ ended.old) }
     ensures ends { S.spare_ends store.old + length (S.content store.old).ended ≤ S.spare_ends store.new + length (S.content store.new).ended }
     ensures told { result ≡ true → ended.new.items ≡ ended.old.items ++ ends_between (S.content store.old) (S.content store.new) }
+    ensures pending_kept { S.spare_pending store.old ≤ S.spare_pending store.new }
     ensures told_room { ended.new.room ≡ ended.old.room }
 {
     let from = store.ends();
@@ -131,6 +133,7 @@ fn try_held<S: Store>(alloc: Global, store: &mut S, ready: Ready, ended: &mut En
     ensures starves { result ≡ false → Starves (S.content store.old) ready }
     ensures ends { S.spare_ends store.old + length (S.content store.old).ended ≤ S.spare_ends store.new + length (S.content store.new).ended }
     ensures told { result ≡ true → ended.new.items ≡ ended.old.items ++ ends_between (S.content store.old) (S.content store.new) }
+    ensures pending_kept { S.spare_pending store.old ≤ S.spare_pending store.new }
     ensures told_room { ended.new.room ≡ ended.old.room }
 {
     let Some((call, rooms)) = held_call(alloc, store, ready) else {
@@ -163,6 +166,7 @@ fn report_none<S: Store>(
     ensures content { S.content store.new ≡ with_end (with_watch_seen (S.content store.old) asked.handle) ready.client ready.number (report (S.content store.old) asked.handle asked.room) }
     ensures left { S.spare_ends store.old ≤ S.spare_ends store.new + 1 }
     ensures told { ended.new.items ≡ ended.old.items ++ record { client = ready.client; number = ready.number; reply = report (S.content store.old) asked.handle asked.room } ∷ [] }
+    ensures pending_kept { S.spare_pending store.old ≤ S.spare_pending store.new }
     ensures told_room { ended.new.room ≡ ended.old.room }
 {
     let Ready { client, number, .. } = ready;
@@ -193,6 +197,7 @@ fn report_all<S: Store>(
     ensures left { result ≡ true → S.spare_ends store.old ≤ S.spare_ends store.new + 1 }
     ensures unused { result ≡ false → S.spare_ends store.old ≤ S.spare_ends store.new }
     ensures told { result ≡ true → ended.new.items ≡ ended.old.items ++ record { client = ready.client; number = ready.number; reply = report (S.content store.old) asked.handle asked.room } ∷ [] }
+    ensures pending_kept { S.spare_pending store.old ≤ S.spare_pending store.new }
     ensures told_room { ended.new.room ≡ ended.old.room }
 {
     let Ready { client, number, .. } = ready;
@@ -224,6 +229,7 @@ fn report_to<S: Store>(
     ensures left { result ≡ true → S.spare_ends store.old ≤ S.spare_ends store.new + 1 }
     ensures unused { result ≡ false → S.spare_ends store.old ≤ S.spare_ends store.new }
     ensures told { result ≡ true → ended.new.items ≡ ended.old.items ++ record { client = ready.client; number = ready.number; reply = report (S.content store.old) asked.handle asked.room } ∷ [] }
+    ensures pending_kept { S.spare_pending store.old ≤ S.spare_pending store.new }
     ensures told_room { ended.new.room ≡ ended.old.room }
 {
     let size = report_size(store, asked);
@@ -259,6 +265,7 @@ fn try_report<S: Store>(
     ensures starves { result ≡ false → Starves (S.content store.old) ready }
     ensures ends { S.spare_ends store.old + length (S.content store.old).ended ≤ S.spare_ends store.new + length (S.content store.new).ended }
     ensures told { result ≡ true → ended.new.items ≡ ended.old.items ++ ends_between (S.content store.old) (S.content store.new) }
+    ensures pending_kept { S.spare_pending store.old ≤ S.spare_pending store.new }
     ensures told_room { ended.new.room ≡ ended.old.room }
 {
     report_to(alloc, store, ready, asked, ended)
@@ -277,6 +284,7 @@ fn end_wait<S: Store>(store: &mut S, ready: Ready, ended: &mut EndLists)
     ensures serves { ServesOn (S.content store.old) (S.content store.new) }
     ensures ends { S.spare_ends store.old + length (S.content store.old).ended ≤ S.spare_ends store.new + length (S.content store.new).ended }
     ensures told { ended.new.items ≡ ended.old.items ++ ends_between (S.content store.old) (S.content store.new) }
+    ensures pending_kept { S.spare_pending store.old ≤ S.spare_pending store.new }
     ensures told_room { ended.new.room ≡ ended.old.room }
 {
     let Ready { client, number, .. } = ready;
@@ -297,6 +305,7 @@ fn try_ready<S: Store>(alloc: Global, store: &mut S, ready: Ready, ended: &mut E
     ensures starves { result ≡ false → Starves (S.content store.old) ready }
     ensures ends { S.spare_ends store.old + length (S.content store.old).ended ≤ S.spare_ends store.new + length (S.content store.new).ended }
     ensures told { result ≡ true → ended.new.items ≡ ended.old.items ++ ends_between (S.content store.old) (S.content store.new) }
+    ensures pending_kept { S.spare_pending store.old ≤ S.spare_pending store.new }
     ensures told_room { ended.new.room ≡ ended.old.room }
 {
     if ready.held {
@@ -328,6 +337,7 @@ fn take_up<S: Store>(
     ensures serves { ServesOn (S.content store.old) (S.content store.new) }
     ensures ends { S.spare_ends store.old + length (S.content store.old).ended ≤ S.spare_ends store.new + length (S.content store.new).ended }
     ensures told { ended.new.items ≡ ended.old.items ++ ends_between (S.content store.old) (S.content store.new) }
+    ensures pending_kept { S.spare_pending store.old ≤ S.spare_pending store.new }
     ensures told_room { ended.new.room ≡ ended.old.room }
     ensures named_room { starved.new.room ≡ starved.old.room }
 {
@@ -360,6 +370,7 @@ fn take_up_all<S: Store>(
     ensures named_room { starved.new.room ≡ starved.old.room }
     ensures ends { S.spare_ends store.old + length (S.content store.old).ended ≤ S.spare_ends store.new + length (S.content store.new).ended }
     ensures told { ended.new.items ≡ ended.old.items ++ ends_between (S.content store.old) (S.content store.new) }
+    ensures pending_kept { S.spare_pending store.old ≤ S.spare_pending store.new }
     ensures told_room { ended.new.room ≡ ended.old.room }
 {
     'turns: while let Some(ready) = store.next_ready() {
@@ -372,6 +383,8 @@ fn end_waits<S: Store>(store: &mut S, waits: &CallIdList, ended: &mut EndLists)
     requires is { waits.now.items ≡ map id_of (waits_in_order (S.content store.old)) }
     requires ends { length waits.now.items ≤ S.spare_ends store.old }
     requires told { length ended.old.items + length waits.now.items ≤ ended.old.room }
+    ensures pending_kept { S.spare_pending store.old ≤ S.spare_pending store.new }
+    ensures ends { S.spare_ends store.old + length (S.content store.old).ended ≤ S.spare_ends store.new + length (S.content store.new).ended }
     ensures told_room { ended.new.room ≡ ended.old.room }
     ensures content { S.content store.new ≡ with_calls_ended (λ _. Stalled) (waits_in_order (S.content store.old)) (S.content store.old) }
     ensures told { ended.new.items ≡ ended.old.items ++ ends_between (S.content store.old) (S.content store.new) }
@@ -387,6 +400,8 @@ fn stall<S: Store>(store: &mut S, waits: &mut CallIdList, ended: &mut EndLists)
     requires waits { length (S.content store.old).pending ≤ waits.old.room }
     requires ends { length (S.content store.old).pending ≤ S.spare_ends store.old }
     requires told { length ended.old.items + length (S.content store.old).pending ≤ ended.old.room }
+    ensures pending_kept { S.spare_pending store.old ≤ S.spare_pending store.new }
+    ensures ends { S.spare_ends store.old + length (S.content store.old).ended ≤ S.spare_ends store.new + length (S.content store.new).ended }
     ensures told_room { ended.new.room ≡ ended.old.room }
     ensures content { S.content store.new ≡ with_stalled (S.content store.old) }
     ensures told { ended.new.items ≡ ended.old.items ++ ends_between (S.content store.old) (S.content store.new) }
@@ -418,6 +433,9 @@ pub fn settle<S: Store>(
     ensures content { S.content store.new ≡ (settled (S.content store.old) starved.new.items).volume }
     ensures all { (settled (S.content store.old) starved.new.items).starved ≡ [] }
     ensures serves { ServesOn (S.content store.old) (S.content store.new) }
+    ensures pending_kept { S.spare_pending store.old ≤ S.spare_pending store.new }
+    ensures ends { S.spare_ends store.old + length (S.content store.old).ended ≤ S.spare_ends store.new + length (S.content store.new).ended }
+    ensures longer { length (S.content store.old).ended ≤ length (S.content store.new).ended }
     ensures told_room { ended.new.room ≡ ended.old.room }
     ensures named_room { starved.new.room ≡ starved.old.room }
     ensures few_named { length starved.new.items ≤ starved.old.room }

@@ -1,6 +1,6 @@
 //! What a turn asks of the volume.
 
-ghost use Rattle.std.specs.Prelude.{◌≡◌, ◌≤◌, ◌+◌, ℕ, [], length, map, slice_get, is_some, option_map, IfOk, IfSome, OnErr, OnOk};
+ghost use Rattle.std.specs.Prelude.{◌≡◌, ◌≤◌, ◌+◌, ℕ, [], true, length, map, slice_get, is_some, option_map, IfOk, IfSome, OnErr, OnOk};
 ghost use Rattle.std.specs.Option.{option_copied};
 ghost use Rattle.fsa_types.specs.Rows.{row_of};
 ghost use Rattle.fsa_model.specs.Edits.{with_blockers, with_end, with_pending};
@@ -9,9 +9,10 @@ ghost use Rattle.fsa_model.specs.Volume.{Volume};
 ghost use Rattle.fsa_model.specs.Waiting.{all_wait, next_ready, waits, waits_in_order};
 ghost use Rattle.fsa_model.specs.Watching.{due_size, is_something_due, report, with_watch_seen};
 ghost use Rattle.fsa_machine.specs.Serves.{HoldsRightly, MayHoldAnew, MayPend, MayTry, Serves};
+ghost use Rattle.fsa_machine.specs.Spare.{is_ack_or_cancel};
 ghost use Rattle.fsa_machine.specs.Step.{id_of, ready_of};
 ghost use Rattle.fsa_machine.specs.Tried.{HasPendRoom};
-ghost use Rattle.volume_state.specs.Tried.{Gives};
+ghost use Rattle.volume_state.specs.Tried.{Gives, HasAnswer};
 
 use fsa_types::{BlockerList, Call, CallIdList, EndOf, NoMemory, Reply};
 use std::alloc::Global;
@@ -65,25 +66,33 @@ pub trait Store {
     fn end_at(&self, i: usize) -> Option<&EndOf>
         ensures { option_copied result ≡ slice_get (content self.now).ended i };
 
-    /// Takes room for so many more ends.
-    fn reserve(&mut self, ends: usize) -> Result<(), NoMemory>
+    /// Takes room for so many more ends and pending calls. No room that is there is given up.
+    fn reserve(&mut self, ends: usize, pending: usize) -> Result<(), NoMemory>
         ensures content { content self.new ≡ content self.old }
-        ensures ends { OnOk result (ends ≤ spare_ends self.new) };
+        ensures ends { OnOk result (ends ≤ spare_ends self.new) }
+        ensures pending { OnOk result (pending ≤ spare_pending self.new) }
+        ensures ends_kept { spare_ends self.old ≤ spare_ends self.new }
+        ensures pending_kept { spare_pending self.old ≤ spare_pending self.new };
 
-    /// One try of a call in this turn, or under it. Where the call stays or is held there is room to make it
-    /// pending. Of the room for ends it uses no more than one for each call that ends. `NoMemory` changes
-    /// nothing.
+    /// One try of a call in this turn, or under it, with room for one end at least. Where the call stays or is
+    /// held there is room to make it pending. Of the room for ends it uses no more than one for each call that
+    /// ends, and none of that for pending calls. `NoMemory` changes nothing, and doesn't come to an Ack or a
+    /// Cancel where there is room for one pending call.
     fn try_call(&mut self, alloc: Global, call: &Call, turn: u64) -> Tried
         requires may { MayTry (content self.old) call.now }
+        requires end_room { 1 ≤ spare_ends self.old }
         ensures gives { Gives (try (content self.old) call.now turn) (content self.old) (content self.new) result }
         ensures room { HasPendRoom result (spare_pending self.new) (spare_blockers self.new) }
-        ensures ends { spare_ends self.old + length (content self.old).ended ≤ spare_ends self.new + length (content self.new).ended };
+        ensures ends { spare_ends self.old + length (content self.old).ended ≤ spare_ends self.new + length (content self.new).ended }
+        ensures pending { spare_pending self.old ≤ spare_pending self.new }
+        ensures memory { is_ack_or_cancel call.now.what ≡ true → 1 ≤ spare_pending self.old → HasAnswer result };
 
     /// The call has ended with this reply.
     fn end(&mut self, client: u32, number: u32, reply: Reply)
         requires room { 1 ≤ spare_ends self.old }
         ensures content { content self.new ≡ with_end (content self.old) client number reply }
-        ensures left { spare_ends self.old ≤ spare_ends self.new + 1 };
+        ensures left { spare_ends self.old ≤ spare_ends self.new + 1 }
+        ensures pending { spare_pending self.old ≤ spare_pending self.new };
 
     /// The call is pending under this turn, with these blockers.
     fn pend(&mut self, turn: u64, call: Call, blockers: BlockerList)
@@ -91,14 +100,16 @@ pub trait Store {
         requires room { 1 ≤ spare_pending self.old }
         requires blockers { length blockers.items ≤ spare_blockers self.old }
         ensures content { content self.new ≡ with_pending (content self.old) turn call blockers.items }
-        ensures ends { spare_ends self.old ≤ spare_ends self.new };
+        ensures ends { spare_ends self.old ≤ spare_ends self.new }
+        ensures pending { spare_pending self.old ≤ spare_pending self.new + 1 };
 
     /// The call that is pending under this turn, and held, waits for these blockers instead.
     fn hold_anew(&mut self, turn: u64, blockers: BlockerList)
         requires may { MayHoldAnew (content self.old) turn blockers.items }
         requires blockers { length blockers.items ≤ spare_blockers self.old }
         ensures content { content self.new ≡ with_blockers (content self.old) turn blockers.items }
-        ensures ends { spare_ends self.old ≤ spare_ends self.new };
+        ensures ends { spare_ends self.old ≤ spare_ends self.new }
+        ensures pending { spare_pending self.old ≤ spare_pending self.new };
 
     /// The ready call of the least turn. No call may be held but what breaks and locks can hold.
     fn next_ready(&self) -> Option<Ready>
@@ -119,7 +130,8 @@ pub trait Store {
         ensures seen { OnOk result (content self.new ≡ with_watch_seen (content self.old) handle) }
         ensures unchanged { OnErr result (content self.new ≡ content self.old) }
         ensures within { OnErr result (due_size (content self.old) handle ≤ room) }
-        ensures ends { spare_ends self.old ≤ spare_ends self.new };
+        ensures ends { spare_ends self.old ≤ spare_ends self.new }
+        ensures pending { spare_pending self.old ≤ spare_pending self.new };
 
     /// The call that is pending under this turn.
     fn pending(&self, turn: u64) -> Option<&Call>

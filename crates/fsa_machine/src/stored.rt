@@ -1,16 +1,17 @@
 //! The volume, as a turn sees it.
 
-ghost use Rattle.std.specs.Prelude.{◌≡◌, ◌≤◌, ◌+◌, ◌==◌, ℕ, [], Option, IfOk, IfSome, OnErr, OnOk, false, is_some, length, map, option_map, slice_get};
+ghost use Rattle.std.specs.Prelude.{◌≡◌, ◌≤◌, ◌+◌, ◌==◌, ℕ, [], Option, IfOk, IfSome, OnErr, OnOk, false, is_some, length, map, option_map, slice_get, true};
 ghost use Rattle.std.specs.Option.{option_copied, option_map_or};
 ghost use Rattle.fsa_types.specs.Rows.{row_of};
 ghost use Rattle.fsa_machine.specs.Serves.{HoldsRightly, MayHoldAnew, MayPend, MayTry, Serves};
+ghost use Rattle.fsa_machine.specs.Spare.{is_ack_or_cancel};
 ghost use Rattle.fsa_machine.specs.Step.{id_of, ready_of, report_to};
 ghost use Rattle.fsa_machine.specs.Tried.{HasPendRoom};
 ghost use Rattle.fsa_model.specs.Edits.{with_blockers, with_end, with_pending};
 ghost use Rattle.fsa_model.specs.Try.{try};
 ghost use Rattle.fsa_model.specs.Waiting.{all_wait, next_ready, waits, waits_in_order};
 ghost use Rattle.fsa_model.specs.Watching.{due_size, is_something_due, report, with_watch_seen};
-ghost use Rattle.volume_state.specs.Tried.{Gives};
+ghost use Rattle.volume_state.specs.Tried.{Gives, HasAnswer};
 ghost use Rattle.volume_state.specs.Waits.{lesser};
 
 use crate::serving;
@@ -104,12 +105,16 @@ impl Store for Volume {
         self.ended(i as u64)
     }
 
-    fn reserve(&mut self, ends: usize) -> Result<(), NoMemory> {
+    fn reserve(&mut self, ends: usize, pending: usize) -> Result<(), NoMemory> {
         let Ok(ends) = u32::try_from(ends) else {
+            return Err(NoMemory);
+        };
+        let Ok(pending) = u32::try_from(pending) else {
             return Err(NoMemory);
         };
         self.reserve(&Need {
             ends,
+            pending,
             ..Need::nothing()
         })
     }

@@ -1,11 +1,12 @@
 //! One turn.
 
-ghost use Rattle.std.specs.Prelude.{◌≡◌, ◌≤◌, ◌<◌, ◌+◌, [], length, Some, IfOk, IfErr, OnOk};
+ghost use Rattle.std.specs.Prelude.{◌≡◌, ◌≤◌, ◌<◌, ◌+◌, [], true, length, Some, IfOk, IfErr, IsOk, OnErr, OnOk};
 ghost use Rattle.fsa_model.specs.Once.{made, times};
 ghost use Rattle.fsa_model.specs.Outcome.{out_of};
 ghost use Rattle.fsa_model.specs.Settling.{MayTurn};
 ghost use Rattle.fsa_model.specs.Turn.{turn};
 ghost use Rattle.fsa_machine.specs.Serves.{MayTry, Serves, ServesOn, most_entries};
+ghost use Rattle.fsa_machine.specs.Spare.{HasLists, is_ack_or_cancel};
 ghost use Rattle.fsa_machine.specs.Step.{HasReplyRoom};
 
 use crate::ends::EndLists;
@@ -16,10 +17,10 @@ use crate::store::Store;
 use fsa_types::{BlockerList, Call, CallId, CallIdList, NoMemory, Out};
 use std::alloc::Global;
 
-// What a turn takes before it changes anything: room for two copies of the reply, an empty list of blockers,
-// the lists of ends, the two lists of calls that starve, and the list of waits.
+/// What a turn takes before it changes anything: room for two copies of the reply, an empty list of blockers,
+/// the lists of ends, the two lists of calls that starve, and the list of waits.
 #[derive(Drop)]
-struct TurnRoom {
+pub struct TurnRoom {
     rooms: ReplyRooms,
     none: BlockerList,
     ended: EndLists,
@@ -28,29 +29,36 @@ struct TurnRoom {
     waits: CallIdList,
 }
 
-// Takes all room that a turn of this call needs: an end and a name for each call that is pending and for its
-// own, and the copies of its own reply.
-fn take_room<S: Store>(alloc: Global, store: &mut S, call: &Call) -> Result<TurnRoom, NoMemory>
+/// A turn's room with that for its reply, and with lists for so many calls.
+pub fn room_for(alloc: Global, rooms: ReplyRooms, calls: u32) -> Result<TurnRoom, NoMemory>
+    ensures rooms { IfOk result (λ room. room.rooms ≡ rooms) }
+    ensures lists { IfOk result (λ room. HasLists calls room) }
+{
+    Ok(TurnRoom {
+        rooms,
+        none: BlockerList::with_room(alloc, 0)?,
+        ended: EndLists::with_room(alloc, calls)?,
+        starved: CallIdList::with_room(alloc, calls)?,
+        kept: CallIdList::with_room(alloc, calls)?,
+        waits: CallIdList::with_room(alloc, calls)?,
+    })
+}
+
+/// Takes all room that a turn of this call needs: an end and a name for each call that is pending and for its
+/// own, and the copies of its own reply.
+pub fn take_room<S: Store>(alloc: Global, store: &mut S, call: &Call) -> Result<TurnRoom, NoMemory>
     requires few { made (S.content store.old) < most_entries }
     ensures content { S.content store.new ≡ S.content store.old }
     ensures ends { OnOk result (length (S.content store.old).pending + 1 ≤ S.spare_ends store.new) }
     ensures rooms { IfOk result (λ room. HasReplyRoom call.now.what room.rooms) }
-    ensures none { IfOk result (λ room. room.none.items ≡ []) }
-    ensures ended { IfOk result (λ room. room.ended ≡ record { items = []; room = length (S.content store.old).pending + 1 }) }
-    ensures starved { IfOk result (λ room. room.starved ≡ record { items = []; room = length (S.content store.old).pending + 1 }) }
-    ensures kept { IfOk result (λ room. room.kept ≡ record { items = []; room = length (S.content store.old).pending + 1 }) }
-    ensures waits { IfOk result (λ room. room.waits ≡ record { items = []; room = length (S.content store.old).pending + 1 }) }
+    ensures lists { IfOk result (λ room. HasLists (length (S.content store.old).pending + 1) room) }
+    ensures ends_kept { S.spare_ends store.old ≤ S.spare_ends store.new }
+    ensures pending_kept { S.spare_pending store.old ≤ S.spare_pending store.new }
 {
     let calls = store.pending_calls() + 1;
-    store.reserve(calls)?;
-    Ok(TurnRoom {
-        rooms: take_rooms(alloc, &call.what)?,
-        none: BlockerList::with_room(alloc, 0)?,
-        ended: EndLists::with_room(alloc, calls as u32)?,
-        starved: CallIdList::with_room(alloc, calls as u32)?,
-        kept: CallIdList::with_room(alloc, calls as u32)?,
-        waits: CallIdList::with_room(alloc, calls as u32)?,
-    })
+    store.reserve(calls, 0)?;
+    let copies = take_rooms(alloc, &call.what)?;
+    room_for(alloc, copies, calls as u32)
 }
 
 // These calls, in an empty list that has room for them.
@@ -66,8 +74,11 @@ fn copied(calls: &[CallId], mut kept: CallIdList) -> CallIdList
     kept
 }
 
-// Makes a turn, in room that was taken for it. What it gives out is given twice.
-fn turn_in_room<S: Store>(
+/// Makes a turn, in room that was taken for it: tries the call, and settles what is pending. What it gives out
+/// is given twice. Where there is no memory for the call nothing has changed, and it is handed back; a pending
+/// call that finds none ends so, and is named. An Ack and a Cancel need no memory where the store has room for
+/// one pending call.
+pub fn turn_in_room<S: Store>(
     alloc: Global,
     store: &mut S,
     call: Call,
@@ -81,14 +92,15 @@ fn turn_in_room<S: Store>(
     requires few { made (S.content store.old) < most_entries }
     requires ends { length (S.content store.old).pending + 1 ≤ S.spare_ends store.old }
     requires rooms { HasReplyRoom call.what room.rooms }
-    requires none { room.none.items ≡ [] }
-    requires ended { room.ended ≡ record { items = []; room = length (S.content store.old).pending + 1 } }
-    requires starved { room.starved ≡ record { items = []; room = length (S.content store.old).pending + 1 } }
-    requires kept { room.kept ≡ record { items = []; room = length (S.content store.old).pending + 1 } }
-    requires waits { room.waits ≡ record { items = []; room = length (S.content store.old).pending + 1 } }
+    requires lists { HasLists (length (S.content store.old).pending + 1) room }
     ensures ok { IfOk result (λ outs. turn (S.content store.old) call outs.0.starved.items ≡ Some (record { volume = S.content store.new; out = out_of outs.0 })) }
     ensures same { IfOk result (λ outs. outs.1 ≡ outs.0) }
     ensures serves { OnOk result (ServesOn (S.content store.old) (S.content store.new)) }
+    ensures longer { OnOk result (length (S.content store.old).ended ≤ length (S.content store.new).ended) }
+    ensures ends { S.spare_ends store.old + length (S.content store.old).ended ≤ S.spare_ends store.new + length (S.content store.new).ended }
+    ensures pending { OnOk result (S.spare_pending store.old ≤ S.spare_pending store.new + 1) }
+    ensures pending_kept { OnErr result (S.spare_pending store.old ≤ S.spare_pending store.new) }
+    ensures memory { is_ack_or_cancel call.what ≡ true → 1 ≤ S.spare_pending store.old → IsOk result }
     ensures err { IfErr result (λ back. (S.content store.new ≡ S.content store.old) × (back.0 ≡ call)) }
 {
     let TurnRoom {
@@ -114,29 +126,4 @@ fn turn_in_room<S: Store>(
         starved: kept,
     };
     Ok((given, kept))
-}
-
-/// Makes a turn: tries the call, and settles what is pending. What it gives out is given twice. Where there
-/// is no memory for the call nothing has changed, and it is handed back; a pending call that finds none ends
-/// so, and is named.
-pub fn turn<S: Store>(
-    alloc: Global,
-    store: &mut S,
-    call: Call,
-) -> Result<(Out, Out), (Call, NoMemory)>
-    requires serves { Serves (S.content store.old) }
-    requires may_try { MayTry (S.content store.old) call }
-    requires number { 0 < call.number }
-    requires may { MayTurn (S.content store.old) }
-    requires new { times call.client call.number (S.content store.old) ≡ 0 }
-    requires few { made (S.content store.old) < most_entries }
-    ensures ok { IfOk result (λ outs. turn (S.content store.old) call outs.0.starved.items ≡ Some (record { volume = S.content store.new; out = out_of outs.0 })) }
-    ensures same { IfOk result (λ outs. outs.1 ≡ outs.0) }
-    ensures serves { OnOk result (ServesOn (S.content store.old) (S.content store.new)) }
-    ensures err { IfErr result (λ back. (S.content store.new ≡ S.content store.old) × (back.0 ≡ call)) }
-{
-    let Ok(room) = take_room(alloc, store, &call) else {
-        return Err((call, NoMemory));
-    };
-    turn_in_room(alloc, store, call, room)
 }

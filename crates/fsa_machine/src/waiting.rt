@@ -1,11 +1,11 @@
 //! Waiting for a call, and cancelling one.
 
-ghost use Rattle.std.specs.Prelude.{◌≡◌, OnOk, OnErr};
+ghost use Rattle.std.specs.Prelude.{◌≡◌, ◌≤◌};
 ghost use Rattle.fsa_machine.specs.Serves.{KnowsEarlier};
 ghost use Rattle.fsa_model.specs.Outcome.{Stay};
 ghost use Rattle.fsa_model.specs.Waiting.{is_pending, try_cancel, try_wait, with_cancelled};
 ghost use Rattle.volume_state.specs.Room.{KeepsEnds};
-ghost use Rattle.volume_state.specs.Tried.{Gives, HasHoldRoom};
+ghost use Rattle.volume_state.specs.Tried.{Gives, HasAnswer, HasHoldRoom};
 
 use fsa_types::{Body, Interim, NoMemory, Reply, Status};
 use volume_state::{Need, Tried, Volume};
@@ -56,41 +56,36 @@ pub fn try_wait(volume: &mut Volume, client: u32, number: u32, earlier: u32) -> 
 }
 
 // The client's call of this number, which is pending under this turn, ends CANCELLED, and gives up the
-// oplock that is granted to it. `NoMemory` changes nothing.
-fn cancel(volume: &mut Volume, client: u32, number: u32, turn: u64) -> Result<(), NoMemory>
-    ensures ok { OnOk result (volume.new.content ≡ with_cancelled volume.old.content client number turn) }
-    ensures err { OnErr result (volume.new.content ≡ volume.old.content) }
+// oplock that is granted to it.
+fn cancel(volume: &mut Volume, client: u32, number: u32, turn: u64)
+    requires room { 1 ≤ volume.old.spare.ends }
+    ensures content { volume.new.content ≡ with_cancelled volume.old.content client number turn }
     ensures ends { KeepsEnds volume.old volume.new }
 {
-    volume.reserve(&Need {
-        ends: 1,
-        ..Need::nothing()
-    })?;
     volume.give_up(turn);
     let reply = Reply {
         status: Status::Cancelled,
         body: Body::Nothing,
     };
     volume.end(client, number, reply);
-    Ok(())
 }
 
 /// One try of a Cancel, after [MS-FSA] 'Server Requests Canceling an Operation': the client's call of this
 /// number ends CANCELLED where it is pending, and the cancellation with SUCCESS; else it is refused with
 /// INVALID_PARAMETER. An oplock that is granted to the call is given up.
 ///
-/// Room for the end is taken first. `NoMemory` changes nothing.
+/// There has to be room for one end. It takes no memory.
 #[tactic(auto, unfolding(fsa_model::specs::Waiting::try_cancel))]
 pub fn try_cancel(volume: &mut Volume, client: u32, number: u32) -> Tried
+    requires room { 1 ≤ volume.old.spare.ends }
     ensures gives { Gives (try_cancel volume.old.content client number) volume.old.content volume.new.content result }
+    ensures answer { HasAnswer result }
     ensures room { HasHoldRoom result volume.new.spare }
     ensures ends { KeepsEnds volume.old volume.new }
 {
     let Some(turn) = volume.pending_turn(client, number) else {
         return Tried::ends(Status::InvalidParameter);
     };
-    match cancel(volume, client, number, turn) {
-        Ok(()) => Tried::ends(Status::Success),
-        Err(NoMemory) => Tried::NoMemory,
-    }
+    cancel(volume, client, number, turn);
+    Tried::ends(Status::Success)
 }

@@ -1,6 +1,6 @@
 use Rattle.std.proofs.Common.{List, length, drop, ap, arith, length-append, length-drop}
 use Rattle.fsa_types.specs.declared.reply.EndOf.{EndOf}
-use Rattle.fsa_machine.proofs.StepLaws.{may-retry, retries, never-stays, told-own}
+use Rattle.fsa_machine.proofs.StepLaws.{may-retry, ready-pending, retries, never-stays, told-own}
 use Rattle.fsa_machine.proofs.settle.retry.Goals as goal
 
 pub unreachable-requires : goal.unreachable-requires
@@ -41,7 +41,10 @@ returns-in-Done-clause-told g c = λ _.
     (rw (← c.copy_twice-kept.ensures.kept) c.end.ensures.content) (rw (← c.ends-from.ensures) c.tell-in-Done.ensures.items) (rw (← c.copy_twice-kept.ensures.given) c.push_end.ensures.items))
 
 pub try_call-requires : goal.try_call-requires
-try_call-requires g c = record { may = may-retry _ _ _ c.requires.serves c.requires.may c.requires.next c.requires.held c.requires.call c.requires.few }
+try_call-requires g c = record {
+  may = may-retry _ _ _ c.requires.serves c.requires.may c.requires.next c.requires.held c.requires.call c.requires.few;
+  end_room = (let some = ready-pending (g.S.Store.content c.args.store.now) c.args.ready c.requires.next in omega (arith, c.requires.ends));
+}
 
 pub tell-requires-clause-bare : goal.tell-requires-clause-bare
 tell-requires-clause-bare g c = (let r = retries _ _ _ _ c.requires.serves c.requires.may c.requires.next c.requires.held c.requires.call c.in-Hold.ensures.gives in rw c.ends-from.ensures r.replies.bare)

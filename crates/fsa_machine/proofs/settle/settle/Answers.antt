@@ -3,7 +3,7 @@ use Rattle.fsa_model.specs.Volume.{Volume}
 use Rattle.fsa_machine.specs.Serves.{ServesOn}
 use Rattle.fsa_machine.proofs.ServeLaws.{SameBase-next}
 use Rattle.fsa_model.proofs.LoopLaws.{Reaches-done}
-use Rattle.fsa_machine.proofs.StallLaws.{settle-told, stalled-serves}
+use Rattle.fsa_machine.proofs.StallLaws.{settle-longer, settle-told, stalled-serves}
 use Rattle.fsa_machine.proofs.settle.settle.Goals as goal
 
 pub returns-clause-content : goal.returns-clause-content
@@ -14,6 +14,9 @@ returns-clause-all g c = (Reaches-done _ _ _ c.take_up_all.ensures.reaches c.tak
 
 pub returns-clause-told : goal.returns-clause-told
 returns-clause-told g c = settle-told _ _ _ _ _ _ _ c.take_up_all.ensures.reaches c.stall.ensures.content c.take_up_all.ensures.told c.stall.ensures.told
+
+pub returns-clause-longer : goal.returns-clause-longer
+returns-clause-longer g c = settle-longer _ _ _ _ c.take_up_all.ensures.reaches c.stall.ensures.content
 
 pub returns-clause-serves : goal.returns-clause-serves
 returns-clause-serves g c =

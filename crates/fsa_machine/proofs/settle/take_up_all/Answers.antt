@@ -11,6 +11,7 @@ turns-init g c = record {
   reaches = subst (λ (ids : List CallId). Reaches (g.S.Store.content c.args.store.now) ids (g.S.Store.content c.args.store.now)) (sym c.requires.none) (Reaches-begins (g.S.Store.content c.args.store.now) c.requires.may);
   serves = record { serves = c.requires.serves; base = SameBase-same (g.S.Store.content c.args.store.now) };
   ends = omega arith;
+  pending_kept = omega arith;
   told = told-none (g.S.Store.content c.args.store.now) c.args.ended.now.items;
   told_room = refl;
   named_room = refl;
@@ -27,6 +28,7 @@ turns-preserved g c =
       reaches = on.reaches;
       serves = on.serves;
       ends = omega (arith, c.turns.invariant.ends, c.take_up.ensures.ends);
+      pending_kept = omega (arith, c.turns.invariant.pending_kept, c.take_up.ensures.pending_kept);
       told = told-on _ _ _ _ _ _ _ _ on c.turns.invariant.told c.take_up.ensures.told;
       named_room = c.take_up.ensures.named_room ∙ c.turns.invariant.named_room;
       told_room = c.take_up.ensures.told_room ∙ c.turns.invariant.told_room;

@@ -9,6 +9,7 @@ invariant-turns g l = record {
   reaches : Reaches (g.S.Store.content l.fn.store) l.starved.items (g.S.Store.content l.store);
   serves : ServesOn (g.S.Store.content l.fn.store) (g.S.Store.content l.store);
   ends : g.S.Store.spare_ends l.fn.store + length (g.S.Store.content l.fn.store).ended ≤ g.S.Store.spare_ends l.store + length (g.S.Store.content l.store).ended;
+  pending_kept : g.S.Store.spare_pending l.fn.store ≤ g.S.Store.spare_pending l.store;
   told : l.ended.items ≡ l.fn.ended.items ++ ends_between (g.S.Store.content l.fn.store) (g.S.Store.content l.store);
   told_room : l.ended.room ≡ l.fn.ended.room;
   named_room : l.starved.room ≡ l.fn.starved.room;

@@ -1,6 +1,4 @@
-use Rattle.std.proofs.Common.{length, ap, lt-ltb, arith}
-use Rattle.fsa_types.specs.BoundedList.{Bounded}
-use Rattle.fsa_types.specs.declared.request.CallId.{CallId}
+use Rattle.std.proofs.Common.{List, length, ap, lt-ltb, arith}
 use Rattle.fsa_types.specs.declared.reply.EndOf.{EndOf}
 use Rattle.fsa_model.specs.Turn.{try, turn_number, volume_after}
 use Rattle.fsa_machine.proofs.ServeLaws.{SameBase-next}
@@ -22,15 +20,17 @@ settle-requires-clause-ends g c = (let own = own-answered (g.S.Store.content c.a
 pub settle-requires-clause-told : goal.settle-requires-clause-told
 settle-requires-clause-told g c = (let own = own-answered (g.S.Store.content c.args.store.now) (g.S.Store.content c.answer_own.new.store) c.args.call c.requires.serves c.requires.may_try (lt-ltb 0 c.args.call.number c.requires.number) c.requires.may c.requires.new c.in_ok-answer.ensures.content in
     let told = told-length (g.S.Store.content c.args.store.now) (volume_after (try (g.S.Store.content c.args.store.now) c.args.call (turn_number (g.S.Store.content c.args.store.now)))) c.args.room.ended.items c.answer_own.new.ended.items c.in_ok-answer.ensures.told in
-    let none = ap (λ (b : Bounded EndOf). length b.items) c.requires.ended in
-    let room = ap (λ (b : Bounded EndOf). b.room) c.requires.ended in
-    omega (arith, own.made, own.begins, own.goes, c.in_ok-answer.ensures.told_room))
+    let none = ap (λ (ends : List EndOf). length ends) c.requires.lists.no_ended in
+    omega (arith, own.made, own.begins, own.goes, c.in_ok-answer.ensures.told_room, c.requires.lists.ended))
 
 pub settle-requires-clause-named : goal.settle-requires-clause-named
-settle-requires-clause-named g c = (let own = own-answered (g.S.Store.content c.args.store.now) (g.S.Store.content c.answer_own.new.store) c.args.call c.requires.serves c.requires.may_try (lt-ltb 0 c.args.call.number c.requires.number) c.requires.may c.requires.new c.in_ok-answer.ensures.content in let room = ap (λ (b : Bounded CallId). b.room) c.requires.starved in omega (arith, own.made, own.begins, own.goes))
+settle-requires-clause-named g c = (let own = own-answered (g.S.Store.content c.args.store.now) (g.S.Store.content c.answer_own.new.store) c.args.call c.requires.serves c.requires.may_try (lt-ltb 0 c.args.call.number c.requires.number) c.requires.may c.requires.new c.in_ok-answer.ensures.content in omega (arith, own.made, own.begins, own.goes, c.requires.lists.starved))
 
 pub settle-requires-clause-waits : goal.settle-requires-clause-waits
-settle-requires-clause-waits g c = (let own = own-answered (g.S.Store.content c.args.store.now) (g.S.Store.content c.answer_own.new.store) c.args.call c.requires.serves c.requires.may_try (lt-ltb 0 c.args.call.number c.requires.number) c.requires.may c.requires.new c.in_ok-answer.ensures.content in let room = ap (λ (b : Bounded CallId). b.room) c.requires.waits in omega (arith, own.made, own.begins, own.goes))
+settle-requires-clause-waits g c = (let own = own-answered (g.S.Store.content c.args.store.now) (g.S.Store.content c.answer_own.new.store) c.args.call c.requires.serves c.requires.may_try (lt-ltb 0 c.args.call.number c.requires.number) c.requires.may c.requires.new c.in_ok-answer.ensures.content in omega (arith, own.made, own.begins, own.goes, c.requires.lists.waits))
+
+pub returns-clause-longer : goal.returns-clause-longer
+returns-clause-longer g c = (let own = own-answered (g.S.Store.content c.args.store.now) (g.S.Store.content c.answer_own.new.store) c.args.call c.requires.serves c.requires.may_try (lt-ltb 0 c.args.call.number c.requires.number) c.requires.may c.requires.new c.in_ok-answer.ensures.content in omega (arith, own.begins, own.goes, c.settle.ensures.longer))
 
 pub returns-clause-serves : goal.returns-clause-serves
 returns-clause-serves g c = (let own = own-answered (g.S.Store.content c.args.store.now) (g.S.Store.content c.answer_own.new.store) c.args.call c.requires.serves c.requires.may_try (lt-ltb 0 c.args.call.number c.requires.number) c.requires.may c.requires.new c.in_ok-answer.ensures.content in record { serves = c.settle.ensures.serves.serves; base = SameBase-next own.serves.base c.settle.ensures.serves.base })

@@ -1,0 +1,253 @@
+//! Turns that are made and kept, in new room or in room that was taken for turns to come.
+
+ghost use Rattle.std.specs.Prelude.{◌≡◌, ◌≤◌, ◌<◌, ◌+◌, ◌++◌, ◌∷◌, [], true, false, length, map, Some, IfErr, IfNone, IfOk, IfSome, IsOk, OnErr, OnOk, OnSome};
+ghost use Rattle.std.specs.Vec.{vec_capacity, vec_len};
+ghost use Rattle.fsa_model.specs.Once.{made, times};
+ghost use Rattle.fsa_model.specs.Outcome.{out_of};
+ghost use Rattle.fsa_model.specs.Settling.{MayTurn};
+ghost use Rattle.fsa_model.specs.Turn.{turn};
+ghost use Rattle.fsa_machine.specs.Kept.{entry_of, out_kept};
+ghost use Rattle.fsa_machine.specs.Serves.{MayTry, Serves, ServesOn, most_entries};
+ghost use Rattle.fsa_machine.specs.Spare.{AreSpare, HasLists, is_ack_or_cancel};
+ghost use Rattle.fsa_machine.specs.Step.{HasReplyRoom};
+
+use crate::kept::KeptTurn;
+use crate::machine::MOST_ENTRIES;
+use crate::spare::SpareRooms;
+use crate::store::Store;
+use crate::turns::{TurnRoom, take_room, turn_in_room};
+use fsa_types::{Call, NoMemory, Out, Request, TryCopy, What};
+use std::alloc::Global;
+
+// Takes what is kept of a turn before it: room for it, and a copy of its call.
+fn take_entry(alloc: Global, kept: &mut Vec<KeptTurn>, call: &Call) -> Result<Call, NoMemory>
+    ensures kept { kept.new.items ≡ kept.old.items }
+    ensures len { vec_len kept.new ≡ vec_len kept.old }
+    ensures capacity { vec_capacity kept.old ≤ vec_capacity kept.new }
+    ensures room { OnOk result (vec_len kept.new < vec_capacity kept.new) }
+    ensures call { IfOk result (λ copy. copy ≡ call.now) }
+{
+    kept.reserve(1)?;
+    call.copy(alloc)
+}
+
+// A copy of an Ack or a Cancel, which holds no list and takes no memory; `None` for any other call.
+fn short_copy(call: &Call) -> Option<Call>
+    ensures copy { IfSome result (λ copy. copy ≡ call.now) }
+    ensures short { OnSome result (is_ack_or_cancel call.now.what ≡ true) }
+    ensures none { IfNone result (is_ack_or_cancel call.now.what ≡ false) }
+{
+    let what = match &call.what {
+        What::Ask(Request::Ack { handle, level }) => What::Ask(Request::Ack {
+            handle: *handle,
+            level: *level,
+        }),
+        What::Ask(Request::Cancel { number }) => What::Ask(Request::Cancel { number: *number }),
+        _ => return None,
+    };
+    Some(Call {
+        client: call.client,
+        number: call.number,
+        what,
+    })
+}
+
+// Makes a turn in its room, and keeps it beside the copy of its call, for which there is room.
+fn keep_in_room<S: Store>(
+    alloc: Global,
+    store: &mut S,
+    kept: &mut Vec<KeptTurn>,
+    call: Call,
+    copy: Call,
+    room: TurnRoom,
+) -> Result<Out, (Call, NoMemory)>
+    requires serves { Serves (S.content store.old) }
+    requires may_try { MayTry (S.content store.old) call }
+    requires number { 0 < call.number }
+    requires may { MayTurn (S.content store.old) }
+    requires new { times call.client call.number (S.content store.old) ≡ 0 }
+    requires few { made (S.content store.old) < most_entries }
+    requires ends { length (S.content store.old).pending + 1 ≤ S.spare_ends store.old }
+    requires rooms { HasReplyRoom call.what room.rooms }
+    requires lists { HasLists (length (S.content store.old).pending + 1) room }
+    requires copy { copy ≡ call }
+    requires place { vec_len kept.old < vec_capacity kept.old }
+    ensures turn { IfOk result (λ out. turn (S.content store.old) call out.starved.items ≡ Some (record { volume = S.content store.new; out = out_of out })) }
+    ensures serves { OnOk result (ServesOn (S.content store.old) (S.content store.new)) }
+    ensures longer { OnOk result (length (S.content store.old).ended ≤ length (S.content store.new).ended) }
+    ensures ends { S.spare_ends store.old + length (S.content store.old).ended ≤ S.spare_ends store.new + length (S.content store.new).ended }
+    ensures pending { OnOk result (S.spare_pending store.old ≤ S.spare_pending store.new + 1) }
+    ensures pending_kept { OnErr result (S.spare_pending store.old ≤ S.spare_pending store.new) }
+    ensures memory { is_ack_or_cancel call.what ≡ true → 1 ≤ S.spare_pending store.old → IsOk result }
+    ensures entries { IfOk result (λ out. map entry_of kept.new.items ≡ map entry_of kept.old.items ++ record { call = call; starved = out.starved.items } ∷ []) }
+    ensures outs { IfOk result (λ out. map out_kept kept.new.items ≡ map out_kept kept.old.items ++ out_of out ∷ []) }
+    ensures len { OnOk result (vec_len kept.new ≡ vec_len kept.old + 1) }
+    ensures len_kept { OnErr result (vec_len kept.new ≡ vec_len kept.old) }
+    ensures capacity { vec_capacity kept.old ≤ vec_capacity kept.new }
+    ensures err { IfErr result (λ back. (S.content store.new ≡ S.content store.old) × (kept.new.items ≡ kept.old.items) × (back.0 ≡ call)) }
+{
+    let (given, out) = turn_in_room(alloc, store, call, room)?;
+    let Ok(()) = kept.push(KeptTurn { call: copy, out }) else {
+        unreachable!()
+    };
+    Ok(given)
+}
+
+// Makes a turn in new room, and keeps it.
+fn keep_new<S: Store>(
+    alloc: Global,
+    store: &mut S,
+    kept: &mut Vec<KeptTurn>,
+    call: Call,
+) -> Result<Out, (Call, NoMemory)>
+    requires serves { Serves (S.content store.old) }
+    requires may_try { MayTry (S.content store.old) call }
+    requires number { 0 < call.number }
+    requires may { MayTurn (S.content store.old) }
+    requires new { times call.client call.number (S.content store.old) ≡ 0 }
+    requires few { made (S.content store.old) < most_entries }
+    ensures turn { IfOk result (λ out. turn (S.content store.old) call out.starved.items ≡ Some (record { volume = S.content store.new; out = out_of out })) }
+    ensures serves { OnOk result (ServesOn (S.content store.old) (S.content store.new)) }
+    ensures longer { OnOk result (length (S.content store.old).ended ≤ length (S.content store.new).ended) }
+    ensures ends { S.spare_ends store.old + length (S.content store.old).ended ≤ S.spare_ends store.new + length (S.content store.new).ended }
+    ensures pending { OnOk result (S.spare_pending store.old ≤ S.spare_pending store.new + 1) }
+    ensures pending_kept { OnErr result (S.spare_pending store.old ≤ S.spare_pending store.new) }
+    ensures entries { IfOk result (λ out. map entry_of kept.new.items ≡ map entry_of kept.old.items ++ record { call = call; starved = out.starved.items } ∷ []) }
+    ensures outs { IfOk result (λ out. map out_kept kept.new.items ≡ map out_kept kept.old.items ++ out_of out ∷ []) }
+    ensures len { OnOk result (vec_len kept.new ≡ vec_len kept.old + 1) }
+    ensures len_kept { OnErr result (vec_len kept.new ≡ vec_len kept.old) }
+    ensures capacity { vec_capacity kept.old ≤ vec_capacity kept.new }
+    ensures err { IfErr result (λ back. (S.content store.new ≡ S.content store.old) × (kept.new.items ≡ kept.old.items) × (back.0 ≡ call)) }
+{
+    let Ok(copy) = take_entry(alloc, kept, &call) else {
+        return Err((call, NoMemory));
+    };
+    let Ok(room) = take_room(alloc, store, &call) else {
+        return Err((call, NoMemory));
+    };
+    keep_in_room(alloc, store, kept, call, copy, room)
+}
+
+// Makes a turn of an Ack or a Cancel in the room of a turn to come, and keeps it. It takes no memory.
+fn keep_spare<S: Store>(
+    alloc: Global,
+    store: &mut S,
+    kept: &mut Vec<KeptTurn>,
+    call: Call,
+    copy: Call,
+    room: TurnRoom,
+) -> Out
+    requires serves { Serves (S.content store.old) }
+    requires may_try { MayTry (S.content store.old) call }
+    requires number { 0 < call.number }
+    requires may { MayTurn (S.content store.old) }
+    requires new { times call.client call.number (S.content store.old) ≡ 0 }
+    requires few { made (S.content store.old) < most_entries }
+    requires short { is_ack_or_cancel call.what ≡ true }
+    requires ends { length (S.content store.old).pending + 1 ≤ S.spare_ends store.old }
+    requires pending { 1 ≤ S.spare_pending store.old }
+    requires lists { HasLists (length (S.content store.old).pending + 1) room }
+    requires copy { copy ≡ call }
+    requires place { vec_len kept.old < vec_capacity kept.old }
+    ensures turn { turn (S.content store.old) call result.starved.items ≡ Some (record { volume = S.content store.new; out = out_of result }) }
+    ensures serves { ServesOn (S.content store.old) (S.content store.new) }
+    ensures longer { length (S.content store.old).ended ≤ length (S.content store.new).ended }
+    ensures ends { S.spare_ends store.old + length (S.content store.old).ended ≤ S.spare_ends store.new + length (S.content store.new).ended }
+    ensures pending { S.spare_pending store.old ≤ S.spare_pending store.new + 1 }
+    ensures entries { map entry_of kept.new.items ≡ map entry_of kept.old.items ++ record { call = call; starved = result.starved.items } ∷ [] }
+    ensures outs { map out_kept kept.new.items ≡ map out_kept kept.old.items ++ out_of result ∷ [] }
+    ensures len { vec_len kept.new ≡ vec_len kept.old + 1 }
+    ensures capacity { vec_capacity kept.old ≤ vec_capacity kept.new }
+{
+    let Ok(out) = keep_in_room(alloc, store, kept, call, copy, room) else {
+        unreachable!()
+    };
+    out
+}
+
+// Takes the room of a turn to come, with a copy of the call, where there is such a room and the call is an Ack or
+// a Cancel. It takes no memory.
+fn take_spare(spare: &mut SpareRooms, call: &Call) -> Option<(Call, TurnRoom)>
+    ensures copy { IfSome result (λ taken. taken.0 ≡ call.now) }
+    ensures lists { IfSome result (λ taken. HasLists spare.old.calls taken.1) }
+    ensures short { OnSome result (is_ack_or_cancel call.now.what ≡ true) }
+    ensures left { OnSome result (spare.old.turns ≡ spare.new.turns + 1) }
+    ensures none { IfNone result (is_ack_or_cancel call.now.what ≡ true → spare.old.turns ≡ 0) }
+    ensures same { IfNone result (spare.new ≡ spare.old) }
+    ensures calls { spare.new.calls ≡ spare.old.calls }
+{
+    let Some(copy) = short_copy(call) else {
+        return None;
+    };
+    match spare.take() {
+        None => None,
+        Some(room) => Some((copy, room)),
+    }
+}
+
+/// Makes a turn, and keeps it. An Ack or a Cancel is made in the room of a turn to come, where there is one, and
+/// takes no memory then. A turn that is made uses that of one turn at most, and one that is refused none.
+pub fn keep_turn<S: Store>(
+    alloc: Global,
+    store: &mut S,
+    kept: &mut Vec<KeptTurn>,
+    spare: &mut SpareRooms,
+    call: Call,
+) -> Result<Out, (Call, NoMemory)>
+    requires serves { Serves (S.content store.old) }
+    requires may_try { MayTry (S.content store.old) call }
+    requires number { 0 < call.number }
+    requires may { MayTurn (S.content store.old) }
+    requires new { times call.client call.number (S.content store.old) ≡ 0 }
+    requires few { made (S.content store.old) < most_entries }
+    requires spare { AreSpare (S.content store.old) (S.spare_ends store.old) (S.spare_pending store.old) (vec_len kept.old) (vec_capacity kept.old) spare.old }
+    ensures turn { IfOk result (λ out. turn (S.content store.old) call out.starved.items ≡ Some (record { volume = S.content store.new; out = out_of out })) }
+    ensures serves { OnOk result (ServesOn (S.content store.old) (S.content store.new)) }
+    ensures entries { IfOk result (λ out. map entry_of kept.new.items ≡ map entry_of kept.old.items ++ record { call = call; starved = out.starved.items } ∷ []) }
+    ensures outs { IfOk result (λ out. map out_kept kept.new.items ≡ map out_kept kept.old.items ++ out_of out ∷ []) }
+    ensures spare { AreSpare (S.content store.new) (S.spare_ends store.new) (S.spare_pending store.new) (vec_len kept.new) (vec_capacity kept.new) spare.new }
+    ensures spare_turns { spare.old.turns ≤ spare.new.turns + 1 }
+    ensures memory { is_ack_or_cancel call.what ≡ true → 1 ≤ spare.old.turns → IsOk result }
+    ensures err { IfErr result (λ back. (S.content store.new ≡ S.content store.old) × (kept.new.items ≡ kept.old.items) × (spare.new ≡ spare.old) × (back.0 ≡ call)) }
+{
+    match take_spare(spare, &call) {
+        Some((copy, room)) => Ok(keep_spare(alloc, store, kept, call, copy, room)),
+        None => {
+            let out = keep_new(alloc, store, kept, call)?;
+            spare.drop_one();
+            Ok(out)
+        }
+    }
+}
+
+/// Takes room for so many turns to come, unless it is there. `NoMemory` changes nothing, and comes too where a
+/// history never has so many.
+pub fn reserve_turns<S: Store>(
+    alloc: Global,
+    store: &mut S,
+    kept: &mut Vec<KeptTurn>,
+    spare: &mut SpareRooms,
+    turns: usize,
+) -> Result<(), NoMemory>
+    requires few { length (S.content store.old).pending ≤ most_entries }
+    requires spare { AreSpare (S.content store.old) (S.spare_ends store.old) (S.spare_pending store.old) (vec_len kept.old) (vec_capacity kept.old) spare.old }
+    ensures content { S.content store.new ≡ S.content store.old }
+    ensures kept { kept.new.items ≡ kept.old.items }
+    ensures spare { AreSpare (S.content store.new) (S.spare_ends store.new) (S.spare_pending store.new) (vec_len kept.new) (vec_capacity kept.new) spare.new }
+    ensures turns { OnOk result (turns ≤ spare.new.turns) }
+    ensures no_less { spare.old.turns ≤ spare.new.turns }
+    ensures err { OnErr result (spare.new ≡ spare.old) }
+{
+    if turns <= spare.turns() {
+        return Ok(());
+    }
+    if turns > MOST_ENTRIES {
+        return Err(NoMemory);
+    }
+    let calls = store.pending_calls() + turns;
+    store.reserve(calls, turns)?;
+    kept.reserve(turns)?;
+    let rooms = SpareRooms::with_turns(alloc, turns, calls as u32)?;
+    *spare = rooms;
+    Ok(())
+}
