@@ -10,6 +10,8 @@
 //! handles.reserve_locks(handle, 1)?;
 //! let lock = handles.add_lock(handle, at, count, true);
 //! handles.locks_of(stream);               // the ranges of one stream, in the order in which they were granted
+//! handles.opened_by(client, number);      // looks at those alone that calls of this number opened
+//! handles.some_clashes(links, on, access, share);     // at those alone on a stream, or by a link
 //! handles.remove(handle);                 // with its locks
 //!
 //! names.reserve(1)?;
@@ -24,7 +26,8 @@
 //! ```
 //!
 //! The locks stand once in one list, in the order in which they were granted, and once more in a table
-//! of ranges for each stream. That both hold the same is the table's invariant.
+//! of ranges for each stream. That both hold the same is the table's invariant, and so is that the indexes of
+//! handles, by calls, streams and links, have all of them.
 //!
 //! `NameIndex` has the numbers of all links in the order of their directories and names, beside the table that has
 //! the names; no table keeps one so far.
