@@ -1,7 +1,13 @@
 //! Races: clients that run side by side, each on a thread of its own.
+ghost use Rattle.std.specs.Prelude.{IfSome};
+ghost use Rattle.script_read.specs.ScriptView.{contents};
+ghost use Rattle.client_race.specs.Races.{CanRace};
 
-use crate::program::words_of;
+use crate::program::{run, words_of};
+use client_race::race_history;
+use fsa_machine::VolumeMachine;
 use fsa_top::fsa_main;
+use script_read::{Script, read_script};
 use std::alloc::{AllocError, Global};
 use std::sync::Wait;
 use std::sync::atomic::{AtomicU64, Ordering};
@@ -71,6 +77,59 @@ fn race<R: Threads + Wait + Sync>(
     Ok((status, sink))
 }
 
+// A script whose lines are those of these turns, in their order; a leaving has no line.
+fn script_of_turns(alloc: Global, script: &str, text: &str) -> Result<String, AllocError> {
+    let mut replayed = String::from_str(alloc, "fsa 1\n")?;
+    for line in script.lines() {
+        if line.starts_with("client ") {
+            replayed.push_str(line)?;
+            replayed.push_str("\n")?;
+        }
+    }
+    for line in text.lines() {
+        let Some(turn) = line.strip_prefix("> ") else {
+            continue;
+        };
+        for asked in script.lines() {
+            if asked.starts_with(turn) {
+                replayed.push_str(asked)?;
+                replayed.push_str("\n")?;
+            }
+        }
+    }
+    Ok(replayed)
+}
+
+// The lines of a text, but for those of the turns in which clients leave.
+fn without_leavings(alloc: Global, text: &str) -> Result<String, AllocError> {
+    let mut kept = String::new(alloc);
+    let mut leaves = false;
+    for line in text.lines() {
+        if line.starts_with("> ") {
+            leaves = line.ends_with(" leave");
+        }
+        if !leaves {
+            kept.push_str(line)?;
+            kept.push_str("\n")?;
+        }
+    }
+    Ok(kept)
+}
+
+// Whether the turns of this text, run again in their order on one thread, print the same, but for the
+// leavings, which come last there.
+fn prints_the_same(alloc: Global, script: &str, text: &[u8]) -> Result<bool, Fail> {
+    let text = std::str::from_utf8(text).map_err(|_| "no text")?;
+    let replayed = script_of_turns(alloc, script, text)?;
+    let mut source = MemorySource::new(alloc, replayed.as_bytes(), 4096, &[])?;
+    let mut sink = MemorySink::new(alloc, 65536, 4096, &[])?;
+    if run(alloc, &mut source, &mut sink)? != 0 {
+        return Ok(false);
+    }
+    let again = std::str::from_utf8(sink.bytes()).map_err(|_| "no text")?;
+    Ok(without_leavings(alloc, text)? == without_leavings(alloc, again)?)
+}
+
 // A client whose first call is held until the other has come to its second comes last: so both run.
 #[test]
 fn a_held_client_comes_last(rt: HostRuntime) -> Result<(), Fail> {
@@ -80,6 +139,58 @@ fn a_held_client_comes_last(rt: HostRuntime) -> Result<(), Fail> {
         assert_eq!(rt; status, 0);
         assert!(rt; sink.bytes().starts_with(first.as_bytes()));
         assert!(rt; sink.bytes().ends_with(b"\nend 4\n"));
+        assert!(rt; prints_the_same(rt.alloc(), TWO, sink.bytes())?);
+        assert_eq!(rt; gate.passes.load(Ordering::SeqCst), 4);
+    }
+    Ok(())
+}
+
+// The script that these bytes are, where it is within the limits of `race`.
+fn script_within(alloc: Global, bytes: &[u8]) -> Option<Script>
+    ensures can { IfSome result (λ script. CanRace (contents script)) }
+{
+    let Ok(script) = read_script(alloc, bytes) else {
+        return None;
+    };
+    let lines = script.lines().len();
+    let clients = script.clients().len();
+    if lines > 40_000 || clients > 64 {
+        return None;
+    }
+    Some(script)
+}
+
+// The history that `race_history` gives for a script, once its volume is closed.
+fn closed_history<R: Threads + Wait + Sync>(
+    rt: &R,
+    alloc: Global,
+    bytes: &[u8],
+    gate: &Holding,
+) -> Option<VolumeMachine> {
+    let script = script_within(alloc, bytes)?;
+    let Ok((volume, passes)) = race_history(rt, alloc, &script, gate) else {
+        return None;
+    };
+    Some(volume.close(passes))
+}
+
+// The client and the number of the first call of a history.
+fn first_call(machine: &VolumeMachine) -> Option<(u32, u32)> {
+    if machine.len() == 0 {
+        return None;
+    }
+    let call = machine.call_at(0);
+    Some((call.client, call.number))
+}
+
+// So it is of the history that the volume and its passes give.
+#[test]
+fn a_held_client_comes_last_in_the_history(rt: HostRuntime) -> Result<(), Fail> {
+    for (held, first) in [(0u32, 1u32), (1, 0)] {
+        let gate = Holding::new(held, 1 - held);
+        let machine = closed_history(&rt, rt.alloc(), TWO.as_bytes(), &gate).ok_or("no history")?;
+        assert_eq!(rt; machine.len(), 4);
+        assert_eq!(rt; first_call(&machine), Some((first, 1)));
         assert_eq!(rt; gate.passes.load(Ordering::SeqCst), 4);
     }
     Ok(())
@@ -99,7 +210,8 @@ fn sixty_four(alloc: Global) -> Result<String, AllocError> {
     Ok(script)
 }
 
-// The gate is passed once for each call, however often the turn was in the way.
+// The gate is passed once for each call, however often the turn was in the way. The printed turns, run again
+// in their order on one thread, print the same.
 #[test]
 fn race_of_64_clients(rt: HostRuntime) -> Result<(), Fail> {
     let script = sixty_four(rt.alloc())?;
@@ -107,6 +219,7 @@ fn race_of_64_clients(rt: HostRuntime) -> Result<(), Fail> {
     let (status, sink) = race(&rt, rt.alloc(), script.as_bytes(), &gate)?;
     assert_eq!(rt; status, 0);
     assert!(rt; sink.bytes().ends_with(b"\nend 256\n"));
+    assert!(rt; prints_the_same(rt.alloc(), script.as_str(), sink.bytes())?);
     assert_eq!(rt; gate.passes.load(Ordering::SeqCst), 256);
     Ok(())
 }
