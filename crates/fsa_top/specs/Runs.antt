@@ -2,10 +2,10 @@
 -- which no other such history has.
 use Rattle.std.specs.Prelude.{◌≡◌, ℕ, false, List, [], ◌∷◌, ◌++◌, Option, Some, None, Ok, Err, codes, decimal}
 use Rattle.fsa_model.specs.Coherence.{CachingIsCoherent}
-use Rattle.fsa_model.specs.Engine.{CallsDiffer}
+use Rattle.fsa_model.specs.Engine.{CallsDiffer, EndsOnce, HeldAreBlocked, TakesReleased}
 use Rattle.fsa_model.specs.Fault.{Fault}
-use Rattle.fsa_model.specs.Setup.{Script}
-use Rattle.fsa_model.specs.History.{HistoryEntry}
+use Rattle.fsa_model.specs.Setup.{Script, Setup}
+use Rattle.fsa_model.specs.History.{HistoryEntry, Run, run}
 use Rattle.fsa_model.specs.Schedule.{HasAllCalls, Scheduled, plain}
 use Rattle.fsa_model.specs.Script.{script_of}
 use Rattle.fsa_model.specs.Text.{shows_no_memory, text}
@@ -42,12 +42,29 @@ WritesPart script written written_now =
 abbrev pub WritesText : Script → Written → Written → Type 0
 WritesText script written written_now = (history : List HistoryEntry) × IsHistory script history × Appends written written_now (text script history)
 
+-- over the whole history no call ends twice, and each has ended or is pending
+abbrev pub EndsEachCallOnce : Setup → List HistoryEntry → Type 0
+EndsEachCallOnce setup history = (r : Run) → run setup history ≡ Some r → EndsOnce history r
+
+-- after each of its turns every held call has a blocker that lives
+abbrev pub KeepsHeldBlocked : Setup → List HistoryEntry → Type 0
+KeepsHeldBlocked setup history = (front later : List HistoryEntry) (r : Run) → history ≡ front ++ later → run setup front ≡ Some r → HeldAreBlocked r.volume
+
+-- in each of its turns just the held calls are taken up whose last blocker ended in the try of the turn's own call
+abbrev pub TakesUpReleased : Setup → List HistoryEntry → Type 0
+TakesUpReleased setup history =
+    (front later : List HistoryEntry) (entry : HistoryEntry) (r : Run) → history ≡ front ++ entry ∷ later → run setup front ≡ Some r → TakesReleased r.volume entry.call entry.starved
+
 -- a history of the script whose clients ran side by side: it is whole for the script, so that it makes no call twice,
--- no other that is has its text, caching by oplocks is coherent over it, and each watch reports exactly the matching
--- changes since its last report
+-- no other that is has its text, each call ends once, a held one is taken up in the turn that lets it go and in no
+-- earlier one, caching by oplocks is coherent over it, and each watch reports exactly the matching changes since its
+-- last report
 pub record IsRaced (script : Script) (history : List HistoryEntry) : Type 0 where
   pub whole : Whole script history
   pub makes_no_call_twice : CallsDiffer history
+  pub each_call_ends_once : EndsEachCallOnce script.setup history
+  pub a_held_call_has_living_blockers : KeepsHeldBlocked script.setup history
+  pub released_calls_are_tried_once : TakesUpReleased script.setup history
   pub only : (other : List HistoryEntry) → Whole script other → text script other ≡ text script history → other ≡ history
   pub caching_is_coherent : CachingIsCoherent script.setup history
   pub watches_report_exactly : WatchesReport script.setup history
