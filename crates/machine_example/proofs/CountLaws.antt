@@ -1,8 +1,12 @@
 -- Counting a client's calls from some turn on.
-use Rattle.std.proofs.Common.{◌≡◌, ℕ, zero, suc, ◌+◌, List, [], ◌∷◌, drop, cond, Some, ap, subst, arith}
+use Rattle.std.proofs.Common.{◌≡◌, ℕ, true, zero, suc, ◌+◌, List, [], ◌∷◌, ◌++◌, drop, cond, Some, ap, subst, ◌∙◌, arith, eq-eqb}
 use Rattle.std.specs.Prelude.{◌==◌, slice_get}
+use Rattle.std.proofs.lemmas.List.{map-append}
 use Rattle.fsa_types.specs.declared.request.Call.{Call}
+use Rattle.fsa_model.specs.History.{HistoryEntry}
 use Rattle.fsa_model.specs.Schedule.{calls_of}
+use Rattle.fsa_model.proofs.ScheduleLaws.{calls_of-push}
+use Rattle.fsa_machine.specs.Stands.{calls_in}
 use Rattle.fsa_model.proofs.SettleLaws.{some_equal}
 
 -- the call at this place, and those behind it
@@ -20,3 +24,12 @@ counts-on client calls i count counted call at is counts =
     let step : calls_of client (drop i calls) ≡ cond (call.client == client) 1 0 + calls_of client (drop (suc i) calls) = calls_of-drop client calls i call at in
     let next : suc i ≡ i + 1 = omega arith in
     subst (λ (n : ℕ). counted + calls_of client (drop n calls) ≡ calls_of client calls) next (omega (arith, is, step, counts))
+
+-- a turn more of the client is a call more
+pub one_more : (client made : ℕ) (entries later : List HistoryEntry) (entry : HistoryEntry) → later ≡ entries ++ entry ∷ [] → entry.call.client ≡ client
+    → calls_of client (calls_in entries) ≡ made → calls_of client (calls_in later) ≡ made + 1
+one_more client made entries later entry is own before =
+    ap (λ (all : List HistoryEntry). calls_of client (calls_in all)) is
+    ∙ ap (calls_of client) (map-append (λ (e : HistoryEntry). e.call) entries (entry ∷ []))
+    ∙ calls_of-push client (calls_in entries) entry.call
+    ∙ (let same : (entry.call.client == client) ≡ true = eq-eqb entry.call.client client own in rw same (omega (arith, before)))

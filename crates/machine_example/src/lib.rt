@@ -11,13 +11,15 @@
 //!   it, and `HistoryFull` where 1,000,000 turns were made. `ask` keeps the reason alone.
 //!
 //! `lock_that_waits` is an example: a lock that waits for another one, and is granted in the turn of the
-//! unlock.
+//! unlock. `tick_times` makes many turns, and counts a client's numbers itself.
 #![tactic(auto)]
 
+mod many_turns;
 mod session;
 #[cfg(test)]
 mod tests;
 mod waiting_lock;
 
+pub use many_turns::tick_times;
 pub use session::{ask, next_number, two_clients};
 pub use waiting_lock::{WaitingLock, lock_that_waits};

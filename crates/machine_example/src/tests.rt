@@ -2,9 +2,10 @@
 
 ghost use Rattle.machine_example.specs.Asks.{CanBeMade};
 
+use crate::many_turns::tick_times;
 use crate::session::{ask, two_clients};
 use crate::waiting_lock::{WaitingLock, lock_that_waits};
-use fsa_types::{Status, What};
+use fsa_types::{Call, Status, What, Why};
 use std::alloc::Global;
 use std::test::Fail;
 
@@ -50,5 +51,29 @@ fn a_call_that_has_ended_has_its_reply(rt: HostRuntime) -> Result<(), Fail> {
         first_reply(rt.alloc(), What::WaitFor(1))?,
         Some(Status::InvalidParameter)
     );
+    Ok(())
+}
+
+// A history has 1,000,000 turns at most; the call of the next one is handed back. The toolchain's unproved run
+// takes longer for it than a test may.
+#[test]
+fn a_full_history_hands_the_next_call_back(rt: HostRuntime) -> Result<(), Fail> {
+    let alloc = rt.alloc();
+    let Ok(mut machine) = two_clients(alloc) else {
+        return Err(Fail::from("no machine was made"));
+    };
+    let Ok(()) = tick_times(alloc, &mut machine, 0, 1_000_000) else {
+        return Err(Fail::from("a turn was refused"));
+    };
+    let call = Call {
+        client: 0,
+        number: 1_000_001,
+        what: What::Tick(1),
+    };
+    let Err((back, Why::HistoryFull)) = machine.turn(alloc, call) else {
+        return Err(Fail::from("the history isn't full"));
+    };
+    assert_eq!(rt; (back.client, back.number), (0, 1_000_001));
+    assert_eq!(rt; machine.len(), 1_000_000);
     Ok(())
 }
