@@ -9,17 +9,22 @@
 //!   calls that ended in the turn besides, and those of them that were taken up and found no memory.
 //! - A turn that is refused changes nothing and hands the call back: `NoMemory` where there is no memory for
 //!   it, and `HistoryFull` where 1,000,000 turns were made. `ask` keeps the reason alone.
+//! - `VolumeMachine::reserve` takes room for turns to come, so that so many acknowledgements and cancellations
+//!   can't be refused for memory. `ask_in_room` makes one, and has no error.
 //!
 //! `lock_that_waits` is an example: a lock that waits for another one, and is granted in the turn of the
-//! unlock. `tick_times` makes many turns, and counts a client's numbers itself.
+//! unlock. `answer_in_room` is another: an oplock's break is answered, and the answer cancelled, in room that was
+//! taken before. `tick_times` makes many turns, and counts a client's numbers itself.
 #![tactic(auto)]
 
 mod many_turns;
+mod reserved;
 mod session;
 #[cfg(test)]
 mod tests;
 mod waiting_lock;
 
 pub use many_turns::tick_times;
+pub use reserved::{KeptAnswer, answer_in_room, ask_in_room};
 pub use session::{ask, next_number, two_clients};
 pub use waiting_lock::{WaitingLock, lock_that_waits};

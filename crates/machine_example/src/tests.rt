@@ -3,6 +3,7 @@
 ghost use Rattle.machine_example.specs.Asks.{CanBeMade};
 
 use crate::many_turns::tick_times;
+use crate::reserved::{KeptAnswer, answer_in_room};
 use crate::session::{ask, two_clients};
 use crate::waiting_lock::{WaitingLock, lock_that_waits};
 use fsa_types::{Call, Status, What, Why};
@@ -20,6 +21,24 @@ fn a_waiting_lock_is_granted_in_the_turn_of_the_unlock(rt: HostRuntime) -> Resul
             first: Some(Status::Success),
             waited: true,
             second: Some(Status::Success),
+        }
+    );
+    Ok(())
+}
+
+#[test]
+fn a_break_is_answered_and_the_answer_cancelled_in_room(rt: HostRuntime) -> Result<(), Fail> {
+    let Ok(told) = answer_in_room(rt.alloc()) else {
+        return Err(Fail::from("a turn was refused"));
+    };
+    assert_eq!(rt;
+        told,
+        KeptAnswer {
+            granted: true,
+            opened: Some(Status::SharingViolation),
+            cancelled: Some(Status::Success),
+            answer: Some(Status::Cancelled),
+            turns: 5,
         }
     );
     Ok(())

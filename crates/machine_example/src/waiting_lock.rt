@@ -61,16 +61,17 @@ fn unlock() -> What
     })
 }
 
-// The status with which the turn's own call ended.
-fn own_status(out: &Out) -> Option<Status> {
+/// The status with which the turn's own call ended; `None` where it is pending.
+pub fn own_status(out: &Out) -> Option<Status> {
     match &out.answer {
         Answer::Ended(reply) => Some(reply.status),
         Answer::Pending(_) => None,
     }
 }
 
-// The status with which the client's call of this number ended in the turn, besides the turn's own answer.
-fn status_of(out: &Out, client: u32, number: u32) -> Option<Status> {
+/// The status with which the client's call of this number ended in the turn, besides the turn's own answer; `None`
+/// where it didn't.
+pub fn status_of(out: &Out, client: u32, number: u32) -> Option<Status> {
     for end in out.ended.as_slice() {
         if end.client == client && end.number == number {
             return Some(end.reply.status);
