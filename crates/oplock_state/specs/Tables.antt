@@ -1,11 +1,13 @@
 -- The oplocks of a volume: one list of all, and for each stream or directory a table of its own, under a key.
-use Rattle.std.specs.Prelude.{◌≡◌, ℕ, Bool, true, false, List, [], ◌∷◌, ◌+◌, ◌≤◌, ◌==◌, filter, All, AllPairs, IsSome}
+use Rattle.std.specs.Prelude.{◌≡◌, ℕ, Bool, true, false, List, [], ◌∷◌, ◌+◌, ◌≤◌, ◌==◌, filter, All, AllPairs, IsSome, if◌then◌else◌}
 use Rattle.std.specs.Option.{option_map_or}
 use Rattle.fsa_types.specs.OplockGrants.{after_grant, is_refused_among, switched_among}
+use Rattle.fsa_types.specs.OplockLists.{without_oplock_of}
 use Rattle.fsa_types.specs.Oplocks.{Oplock}
 use Rattle.fsa_types.specs.Rows.{row_of}
 use Rattle.fsa_model.specs.Lookups.{is_open_on}
 use Rattle.fsa_model.specs.Volume.{Handle}
+use Rattle.fsa_model.specs.Waiting.{is_granted_under}
 use Rattle.oplock_state.specs.State.{State}
 use Rattle.oplock_state.specs.declared.stream_oplocks.Grant.{Grant}
 use Rattle.oplock_state.specs.declared.stream_oplocks.Grant.TheVariants as grant
@@ -74,6 +76,14 @@ pub record Tabled : Type 0 where
 pub record FitTables (rooms : List (ℕ × ℕ)) (last : ℕ) (tables : List (ℕ × State)) : Type 0 where
   pub room : (key : ℕ) → room_in rooms key ≤ room_at tables key
   pub numbers : (key : ℕ) → last_at tables key ≤ last
+
+-- whatever was promised: where the tables had it, they have it
+abbrev pub KeepFit : List (ℕ × State) → List (ℕ × State) → Type 0
+KeepFit old new = (rooms : List (ℕ × ℕ)) (last : ℕ) → FitTables rooms last old → FitTables rooms last new
+
+-- what is left once this oplock is given up, where it is granted to the call that is pending under this turn
+abbrev pub given_up : ℕ → List Oplock → Oplock → List Oplock
+given_up turn rows oplock = if is_granted_under turn oplock then without_oplock_of oplock.handle rows else rows
 
 -- the oplock is of a handle on this stream
 abbrev pub is_at : List (ℕ × Handle) → ℕ → Oplock → Bool

@@ -1,13 +1,14 @@
 //! All oplocks of a volume: one list, and those of each stream apart.
 
-ghost use Rattle.std.specs.Prelude.{ℕ, ◌≡◌, ◌≤◌, ◌<◌, ◌+◌, ◌^◌, ◌==◌, ◌∷◌, [], false, All, filter, length, IfNone, IsSome, OnOk, Some, option_map};
+ghost use Rattle.std.specs.Prelude.{ℕ, ◌≡◌, ◌≤◌, ◌<◌, ◌+◌, ◌^◌, ◌==◌, ◌∷◌, [], false, not, List, All, AllPairs, filter, length, IfNone, IsSome, OnOk, Some, option_map};
 ghost use Rattle.std.specs.Option.{option_map_or, ForSome};
 ghost use Rattle.fsa_types.specs.OplockGrants.{after_answer, after_grant, switched_among, target_among};
 ghost use Rattle.fsa_types.specs.OplockLists.{after_breaks, awaited_among, effect_on, last_by, left_by, without_oplock_of, IsCopy, IsOplock};
-ghost use Rattle.fsa_types.specs.Oplocks.{in_both};
+ghost use Rattle.fsa_types.specs.Oplocks.{Oplock, in_both};
 ghost use Rattle.fsa_types.specs.Sorting.{in_order};
 ghost use Rattle.fsa_model.specs.Breaks.{is_broken_before, is_chosen};
-ghost use Rattle.oplock_state.specs.Tables.{AreSorted, AreThere, GrantsTabled, IsStep, KeepSorted, is_at, last_at, room_at, rows_at};
+ghost use Rattle.fsa_model.specs.Waiting.{is_granted_under};
+ghost use Rattle.oplock_state.specs.Tables.{AreSorted, AreThere, GrantsTabled, IsStep, KeepFit, KeepSorted, given_up, is_at, last_at, room_at, rows_at};
 ghost use Rattle.volume_breaks.specs.Oplocks.{state_of};
 ghost use Rattle.volume_breaks.specs.Told.{told_all};
 ghost use Rattle.volume_tables.specs.HandleTable.{stream_of_handle};
@@ -186,6 +187,18 @@ impl OplockTable {
         Some(kept)
     }
 
+    /// Takes the oplocks out that are granted to the call that is pending under this turn. No two oplocks may be of
+    /// one handle.
+    pub fn give_up(&mut self, handles: &HandleTable, turn: u64)
+        requires differ { AllPairs (λ a b. (a.handle == b.handle) ≡ false) self.old.rows }
+        requires sorted { AreSorted handles.now.rows self.old.rows self.old.tables }
+        ensures rows { self.new ≡ record self.old { rows = filter (λ oplock. not (is_granted_under turn oplock)) self.old.rows; tables = self.new.tables } }
+        ensures sorted { AreSorted handles.now.rows self.new.rows self.new.tables }
+    {
+        give_up_all(&mut self.tables, &self.list, handles, turn);
+        self.list.give_up(turn);
+    }
+
     /// Takes the oplock of a handle out.
     pub fn drop_of(&mut self, handles: &HandleTable, handle: u64)
         requires sorted { AreSorted handles.now.rows self.old.rows self.old.tables }
@@ -212,6 +225,38 @@ fn drop_in_table(tables: &mut StreamTables, stream: Option<u64>, handle: u64)
 {
     if let Some(own) = stream {
         tables.drop_handle(own, handle);
+    }
+}
+
+// Whether an oplock is granted to the call that is pending under this turn.
+fn is_granted_under(oplock: &OplockRow, turn: u64) -> bool
+    ensures { result ≡ is_granted_under turn oplock.now }
+{
+    match oplock.call {
+        None => false,
+        Some(call) => call == turn,
+    }
+}
+
+// Takes an oplock out of the table of its stream, where it is granted to the call that is pending under this turn.
+fn give_up_one(tables: &mut StreamTables, handles: &HandleTable, oplock: &OplockRow, turn: u64)
+    ensures sorted { (rows : List Oplock) → AreSorted handles.now.rows rows tables.old → AreSorted handles.now.rows (given_up turn rows oplock.now) tables.new }
+    ensures fit { KeepFit tables.old tables.new }
+{
+    if is_granted_under(oplock, turn) {
+        drop_in_table(tables, stream_of(handles, oplock.handle), oplock.handle);
+    }
+}
+
+// Takes the oplocks that are granted to the call that is pending under this turn out of the tables of their streams.
+fn give_up_all(tables: &mut StreamTables, list: &Oplocks, handles: &HandleTable, turn: u64)
+    requires differ { AllPairs (λ a b. (a.handle == b.handle) ≡ false) list.now.rows }
+    requires sorted { AreSorted handles.now.rows list.now.rows tables.old }
+    ensures sorted { AreSorted handles.now.rows (filter (λ oplock. not (is_granted_under turn oplock)) list.now.rows) tables.new }
+    ensures fit { KeepFit tables.old tables.new }
+{
+    for oplock in list.as_slice() {
+        give_up_one(tables, handles, oplock, turn);
     }
 }
 
