@@ -2,18 +2,19 @@
 use Rattle.std.proofs.Common.{◌≡◌, ℕ, ◌≤◌, Bool, true, false, not, List, [], ◌∷◌, length, get_or, refl, ap, sym, ◌∙◌, inl, inr, ◌⊎◌, Option, Some, None}
 use Rattle.std.specs.List.{list_any, All}
 use Rattle.std.specs.Option.{option_map_or}
-use Rattle.std.specs.Prelude.{◌==◌, ◌&&◌, ◌||◌, map}
+use Rattle.std.specs.Prelude.{◌==◌, ◌&&◌, ◌||◌, fold, map}
 use Rattle.std.proofs.lemmas.Bool.{cases_Bool, eq-eqb, eqb-true, both_ways}
 use Rattle.std.proofs.lemmas.List.Elements.{All-filter, All-map, All-push}
 use Rattle.std.proofs.lemmas.List.Folds.{list_any-append}
 use Rattle.fsa_types.proofs.OplockLemmas.{AreOplocks-push}
 use Rattle.fsa_types.proofs.RowLemmas.{length-filter_le}
-use Rattle.fsa_types.specs.OplockGrants.{after_answer, after_switches, as_answered, as_granted}
+use Rattle.fsa_types.specs.OplockGrants.{after_answer, after_grant, after_switches, as_answered, as_granted}
 use Rattle.fsa_types.specs.OplockLists.{AreOplocks, without_oplock_of}
 use Rattle.fsa_types.specs.Oplocks.{has_read}
 use Rattle.fsa_types.specs.Rows.{row_of}
 use Rattle.fsa_types.specs.declared.reply.Blocker.{Blocker}
 use Rattle.fsa_types.specs.declared.reply.Blocker.TheVariants.{Break, Lock as LockOf}
+use Rattle.fsa_types.specs.declared.reply.EndOf.{EndOf}
 use Rattle.fsa_types.specs.declared.request.Level.{Level}
 use Rattle.fsa_types.specs.declared.status.Status.{Status}
 use Rattle.fsa_types.specs.declared.status.Status.TheVariants.{OplockSwitchedToNewHandle}
@@ -21,7 +22,7 @@ use Rattle.fsa_model.specs.Edits.{without_oplock}
 use Rattle.fsa_model.specs.Grant.{is_breaking_on, is_not_granted, is_of_key, is_oplock_on, switched, with_all_switched, with_answer, with_call_ended, with_granted, with_oplock, with_switched}
 use Rattle.fsa_model.specs.Lookups.{is_open_on}
 use Rattle.fsa_model.specs.Sound.{IsSound, has_its_key}
-use Rattle.fsa_model.specs.Volume.{Handle, Lock, Oplock, Volume}
+use Rattle.fsa_model.specs.Volume.{Handle, Lock, Oplock, Pending, Volume}
 use Rattle.fsa_model.specs.Waiting.{blocker_lives, is_breaking}
 use Rattle.fsa_model.proofs.BreakLaws.{IsSound-with_end}
 use Rattle.fsa_model.proofs.GrantLaws.{all_switched, lives-granted, oplocks-call_ended, old-switched}
@@ -29,6 +30,8 @@ use Rattle.fsa_model.proofs.RowLaws.{option_cases, or-false}
 use Rattle.fsa_model.proofs.SoundWaits.{IsSound-touched, IsSound-without_oplock}
 use Rattle.volume_breaks.proofs.GrantLemmas.{AreOplocks-after_answer, NoneOf, none-left}
 use Rattle.volume_breaks.proofs.ReleaseLemmas.{held-equal}
+use Rattle.volume_breaks.proofs.ToldLemmas.{switches-apart}
+use Rattle.volume_breaks.specs.Breaks.{with_calls, with_switch_told}
 use Rattle.volume_breaks.specs.Calls.{AreHeld, Calls, LoseBlockers, is_break_of}
 use Rattle.volume_state.specs.Held.{is_there}
 use Rattle.volume_state.specs.Oplocks.{key_of_handle}
@@ -101,6 +104,14 @@ IsSound-with_granted v handle key stream level turn sound found is_key =
     let its : has_its_key v.handles (as_granted handle key level turn) ≡ true = rw is_key (has-key v handle stream level turn found) in
     let has : has_its_key w.handles (as_granted handle key level turn) ≡ true = rw (handles-switched (switched v handle key stream) v) its in
     IsSound-more w handle key level turn (IsSound-switched (switched v handle key stream) v sound) none has
+
+-- where the calls of those that are switched have ended, what the list of oplocks comes to is what the grant does
+pub granted-content : (v : Volume) (handle key stream : ℕ) (level : Level) (turn : ℕ) (pending : List (ℕ × Pending)) (ended : List EndOf)
+    → ((w : Volume) → with_calls w pending ended ≡ fold with_switch_told (with_calls w v.pending v.ended) (switched v handle key stream))
+    → record v { oplocks = after_grant (is_oplock_on v stream) handle key level turn v.oplocks; pending = pending; ended = ended } ≡ with_granted v handle key stream level turn
+granted-content v handle key stream level turn pending ended done =
+    ap (λ (w : Volume). with_oplock w handle key level turn)
+    (done (record v { oplocks = after_switches v.oplocks (switched v handle key stream) }) ∙ sym (switches-apart (switched v handle key stream) v))
 
 -- no break is in progress on the stream where an oplock is granted
 pub none-breaking : (v : Volume) (handle key stream : ℕ) (level : Level) → is_not_granted v handle key stream level ≡ false → is_breaking_on v stream ≡ false

@@ -11,6 +11,7 @@ pub mod OrderLaws
 pub mod PathLaws
 pub mod PendingLaws
 pub mod PointLaws
+pub mod SortedLaws
 pub mod StreamLemmas
 pub mod SumLemmas
 pub mod TallyLaws

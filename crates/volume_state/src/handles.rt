@@ -63,8 +63,8 @@ impl Volume {
     {
         release_locks(&mut self.pending, self.handles.locks(), handle);
         release_breaks(&mut self.pending, self.oplocks.as_slice(), handle);
+        self.oplocks.drop_of(&self.handles, handle);
         self.handles.remove(handle);
-        self.oplocks.drop_of(handle);
         drop_watch(&mut self.watches, handle);
     }
 }

@@ -43,7 +43,7 @@
 //! other look-up costs time linear in the rows. The next handle of a client and the handles below a directory
 //! cost that for each row, and a note and `is_at_or_below` cost a look through the links for each directory
 //! above. The next pending call is found in time logarithmic in those that are pending, as long as they came in
-//! the order of their turns, as those of a run do. A break costs what `volume_breaks` says.
+//! the order of their turns, as those of a run do. A break costs what `volume_breaks` and `oplock_state` say.
 //!
 //! A call that is held waits for breaks and locks; whatever ends one of these tells the queue of held calls,
 //! in time linear in what they wait for, and `next_held` asks nothing but the queue. `next_over` looks through

@@ -1,25 +1,35 @@
 //! Oplocks: their grant, their break, and what is answered to a break.
 
-ghost use Rattle.std.specs.Prelude.{ℕ, ◌≡◌, ◌≤◌, ◌<◌, ◌+◌, ◌-◌, ◌^◌, ◌++◌, ◌==◌, length, map, [], false, Some, IsSome, option_map};
+ghost use Rattle.std.specs.Prelude.{ℕ, ◌≡◌, ◌≤◌, ◌<◌, ◌+◌, ◌-◌, ◌^◌, ◌++◌, ◌==◌, All, fold, length, map, [], false, Some, IsSome, option_map};
 ghost use Rattle.std.specs.Option.{option_map_or, ForSome};
+ghost use Rattle.fsa_types.specs.OplockGrants.{after_answer, target_among};
+ghost use Rattle.fsa_types.specs.OplockLists.{effect_on, told_among, IsCopy, IsOplock};
 ghost use Rattle.fsa_types.specs.Oplocks.{in_both};
 ghost use Rattle.fsa_types.specs.declared.reply.Blocker.{Blocker};
 ghost use Rattle.fsa_types.specs.declared.reply.Blocker.TheVariants.{Break};
 ghost use Rattle.fsa_types.specs.declared.oplock.Class.{Class};
 ghost use Rattle.fsa_types.specs.declared.oplock.HandleSet.{HandleSet};
-ghost use Rattle.fsa_model.specs.Breaks.{with_breaks, awaited, told};
+ghost use Rattle.fsa_model.specs.Breaks.{with_breaks, with_effect, awaited, told};
 ghost use Rattle.fsa_model.specs.Edits.{without_oplock};
-ghost use Rattle.fsa_model.specs.Grant.{is_not_granted, switched, target_of, with_answer, with_granted};
+ghost use Rattle.fsa_model.specs.Grant.{is_locked, is_open_by_others, switched, target_of, with_answer};
+ghost use Rattle.fsa_model.specs.Volume.{Volume as OfVolume};
 ghost use Rattle.fsa_model.specs.Waiting.{with_oplock_given_up};
 ghost use Rattle.std.specs.Prelude.{Option};
+ghost use Rattle.object_tables.specs.Series.{HoldsAsMany};
+ghost use Rattle.oplock_state.specs.Tables.{AreSorted, AreThere};
+ghost use Rattle.volume_breaks.specs.Breaks.{with_held};
+ghost use Rattle.volume_breaks.specs.Calls.{StayHeld};
 ghost use Rattle.volume_state.specs.Oplocks.{Grants, key_of_handle};
 ghost use Rattle.volume_state.specs.Room.{KeepsEnds, stream_of_handle};
 ghost use Rattle.volume_state.specs.Seen.{room_for};
 
 use crate::volume::Volume;
-use fsa_types::{BlockerList, Class, HandleSet, Level};
-use volume_breaks::{Tree, break_chosen, is_refused, push_breaks, release_breaks, switch_chosen};
+use fsa_types::{BlockerList, Class, EndOf, HandleSet, Level};
+use object_tables::Series;
+use oplock_state::{Asked, OplockTable};
+use volume_breaks::{PendingCalls, Tree, end_switched, end_told, push_breaks, release_breaks};
 use volume_rows::{find_target, in_both, is_open_by_others};
+use volume_tables::HandleTable;
 
 // A handle that is open on a stream, and its key.
 #[derive(Clone, Copy, Debug)]
@@ -74,7 +84,13 @@ impl Volume {
             handles: &self.handles,
         };
         self.oplocks.choose(&tree, handles, handle, key);
-        break_chosen(&mut self.oplocks, &mut self.pending, &mut self.ended, class);
+        break_chosen(
+            &mut self.oplocks,
+            &self.handles,
+            &mut self.pending,
+            &mut self.ended,
+            class,
+        );
         self.oplocks.await_breaks(class)
     }
 
@@ -99,16 +115,7 @@ impl Volume {
         let Some(opened) = self.opened(handle) else {
             unreachable!()
         };
-        let Opened {
-            handle,
-            key,
-            stream,
-        } = opened;
-        if self.is_not_granted(handle, key, stream, level) {
-            return Grant::Refused;
-        }
-        self.grant_to(opened, level, turn);
-        Grant::Granted
+        self.grant_to(opened, level, turn)
     }
 
     // The handle with its key and its stream, where it has one.
@@ -124,32 +131,34 @@ impl Volume {
         })
     }
 
-    // Whether no oplock of this level is granted to a handle with this key on its stream. Those on the stream
-    // are set aside.
-    fn is_not_granted(&mut self, handle: u64, key: u64, stream: u64, level: Level) -> bool
-        ensures refused { result ≡ is_not_granted self.old.content handle key stream level }
-        ensures same { self.new ≡ self.old }
+    // What is asked for, with what else there is on the stream.
+    fn asked(&self, opened: Opened, level: Level, turn: u64) -> Asked
+        ensures { result ≡ record { handle = opened.handle; key = opened.key; level = level; turn = turn; others = is_open_by_others self.now.content opened.handle opened.key opened.stream; locked = is_locked self.now.content opened.stream } }
     {
+        let Opened {
+            handle,
+            key,
+            stream,
+        } = opened;
         let others = is_open_by_others(self.handles.as_slice(), handle, key, stream);
         let locked = self.handles.locks_of(stream).len() != 0;
-        let tree = Tree {
-            table: &self.table,
-            links: &self.links,
-            streams: &self.streams,
-            handles: &self.handles,
-        };
-        self.oplocks.choose_on(&tree, stream);
-        is_refused(handle, key, level, others, locked, self.oplocks.chosen())
+        Asked {
+            handle,
+            key,
+            level,
+            turn,
+            others,
+            locked,
+        }
     }
 
-    // Grants an oplock that isn't refused.
-    fn grant_to(&mut self, opened: Opened, level: Level, turn: u64)
+    // Grants an oplock to a handle on its stream, unless it is refused.
+    fn grant_to(&mut self, opened: Opened, level: Level, turn: u64) -> Grant
         requires stream { stream_of_handle self.old.content opened.handle ≡ Some opened.stream }
         requires key { opened.key ≡ key_of_handle self.old.content opened.handle }
-        requires free { is_not_granted self.old.content opened.handle opened.key opened.stream level ≡ false }
         requires room { 1 ≤ room_for self.old.spare.oplocks opened.stream }
         requires ends { length (switched self.old.content opened.handle opened.key opened.stream) ≤ self.old.spare.ends }
-        ensures content { self.new.content ≡ with_granted self.old.content opened.handle opened.key opened.stream level turn }
+        ensures grants { Grants self.old.content opened.handle opened.key opened.stream level turn self.new.content result }
         ensures numbers { self.new.content.last_break ≡ self.old.content.last_break }
         ensures beside { self.new.beside ≡ self.old.beside }
         ensures others { self.new.spare ≡ record self.old.spare { oplocks = self.new.spare.oplocks; ends = self.new.spare.ends } }
@@ -158,17 +167,20 @@ impl Volume {
         ensures ends_left { self.old.spare.ends ≤ self.new.spare.ends + length (switched self.old.content opened.handle opened.key opened.stream) }
         ensures ends { KeepsEnds self.old self.new }
     {
+        let asked = self.asked(opened, level, turn);
         let tree = Tree {
             table: &self.table,
             links: &self.links,
             streams: &self.streams,
             handles: &self.handles,
         };
-        self.oplocks
-            .choose_switched(&tree, opened.stream, opened.handle, opened.key);
-        switch_chosen(&mut self.oplocks, &mut self.pending, &mut self.ended);
-        self.oplocks
-            .grant(opened.stream, opened.handle, opened.key, level, turn);
+        match self.oplocks.grant(&tree, opened.stream, &asked) {
+            oplock_state::Grant::Refused => Grant::Refused,
+            oplock_state::Grant::Granted => {
+                end_switched(&mut self.pending, &mut self.ended, self.oplocks.chosen());
+                Grant::Granted
+            }
+        }
     }
 
     /// Answers the break in progress on a handle: what is in this level and in the one that it was told
@@ -184,7 +196,7 @@ impl Volume {
         let target = find_target(self.oplocks.as_slice(), handle)?;
         let kept = in_both(level, target);
         release_breaks(&mut self.pending, self.oplocks.as_slice(), handle);
-        self.oplocks.answer(handle, kept, turn);
+        answer(&mut self.oplocks, &self.handles, handle, level, turn, kept);
         Some(kept)
     }
 
@@ -196,7 +208,7 @@ impl Volume {
         ensures room { self.new.spare ≡ self.old.spare }
     {
         release_breaks(&mut self.pending, self.oplocks.as_slice(), handle);
-        self.oplocks.drop_of(handle);
+        self.oplocks.drop_of(&self.handles, handle);
     }
 
     /// Takes the oplock out that is granted to the call that is pending under this turn, where there is one.
@@ -205,7 +217,7 @@ impl Volume {
         ensures beside { self.new.beside ≡ self.old.beside }
         ensures room { self.new.spare ≡ self.old.spare }
     {
-        self.oplocks.give_up(turn);
+        self.oplocks.give_up(&self.handles, turn);
     }
 
     /// Puts the breaks that the last `begin` waits for into an empty list, in order. The list has to
@@ -217,4 +229,48 @@ impl Volume {
     {
         push_breaks(self.oplocks.waited(), into);
     }
+}
+
+// Breaks the oplocks that were chosen, one after the other, as a request of this class does; the calls of those who
+// are told end.
+fn break_chosen(
+    oplocks: &mut OplockTable,
+    handles: &HandleTable,
+    pending: &mut PendingCalls,
+    ended: &mut Series<EndOf>,
+    class: Class,
+)
+    requires room { length (told_among class oplocks.old.chosen) ≤ ended.old.room }
+    requires numbers { oplocks.old.last + length oplocks.old.chosen < 2 ^ 64 }
+    requires sound { All IsOplock oplocks.old.chosen }
+    requires copies { All (IsCopy oplocks.old.rows) oplocks.old.chosen }
+    requires there { AreThere oplocks.old.rows oplocks.old.chosen }
+    requires sorted { AreSorted handles.now.rows oplocks.old.rows oplocks.old.tables }
+    ensures done { (v : OfVolume) → with_held v oplocks.new.rows oplocks.new.last pending.new.items ended.new.items ≡ fold (λ w oplock. with_effect w oplock (effect_on class oplock)) (with_held v oplocks.old.rows oplocks.old.last pending.old.items ended.old.items) oplocks.old.chosen }
+    ensures others { oplocks.new ≡ record oplocks.old { rows = oplocks.new.rows; last = oplocks.new.last; told = oplocks.new.told; tables = oplocks.new.tables } }
+    ensures sorted { AreSorted handles.now.rows oplocks.new.rows oplocks.new.tables }
+    ensures held { StayHeld pending.old pending.new }
+    ensures room { (pending.new.room ≡ pending.old.room) × (pending.new.blockers ≡ pending.old.blockers) }
+    ensures left { ended.old.room ≤ ended.new.room + length (told_among class oplocks.old.chosen) }
+    ensures ends { HoldsAsMany ended.old ended.new }
+{
+    oplocks.begin(handles, class);
+    end_told(pending, ended, oplocks.told());
+}
+
+// Answers a break that is in progress on a handle, of which this stays.
+fn answer(
+    oplocks: &mut OplockTable,
+    handles: &HandleTable,
+    handle: u64,
+    level: Level,
+    turn: u64,
+    kept: Level,
+)
+    requires kept { Some kept ≡ option_map (λ target. in_both level target) (target_among handle oplocks.old.rows) }
+    requires sorted { AreSorted handles.now.rows oplocks.old.rows oplocks.old.tables }
+    ensures rows { oplocks.new ≡ record oplocks.old { rows = after_answer handle kept turn oplocks.old.rows; tables = oplocks.new.tables } }
+    ensures sorted { AreSorted handles.now.rows oplocks.new.rows oplocks.new.tables }
+{
+    oplocks.answer(handles, handle, level, turn);
 }

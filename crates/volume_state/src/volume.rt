@@ -7,6 +7,7 @@ ghost use Rattle.fsa_model.specs.Edits.{with_end, with_left, with_ticks};
 ghost use Rattle.fsa_model.specs.Lookups.{has_left};
 ghost use Rattle.fsa_model.specs.Setup.{setup_of};
 ghost use Rattle.fsa_model.specs.Volume.{fresh, root};
+ghost use Rattle.oplock_state.specs.Tables.{KeepSorted};
 ghost use Rattle.volume_state.specs.Room.{HasRoom, IsNoLess};
 ghost use Rattle.volume_tables.specs.HandleTable.{stream_of_handle};
 ghost use Rattle.volume_tables.specs.Rooms.{room_in};
@@ -14,9 +15,10 @@ ghost use Rattle.volume_tables.specs.Rooms.{room_in};
 use crate::growth::space_of_root;
 use fsa_types::{Client, ClientList, EndOf, NoMemory, Setup, UpcaseTable};
 use object_tables::{Series, Table};
+use oplock_state::OplockTable;
 use std::alloc::{AllocError, Global};
 use std::marker::Model;
-use volume_breaks::{Oplocks, PendingCalls, SpareList};
+use volume_breaks::{PendingCalls, SpareList};
 use volume_rows::{Changes, FileRow, Need, StreamRow, WatchRow};
 use volume_tables::{HandleTable, LinkTable, SpaceTally};
 
@@ -38,7 +40,7 @@ pub struct Volume {
     pub(crate) ended: Series<EndOf>,
     pub(crate) left: Vec<bool>,
     pub(crate) clock: u64,
-    pub(crate) oplocks: Oplocks,
+    pub(crate) oplocks: OplockTable,
     pub(crate) pending: PendingCalls,
     pub(crate) watches: SpareList<WatchRow>,
     pub(crate) limits: SpareList<(u32, u64)>,
@@ -50,6 +52,7 @@ impl Model for Volume {
 
     ghost Value = { Seen };
 
+    ghost use Rattle.oplock_state.specs.Tables.{AreSorted};
     ghost use Rattle.volume_breaks.specs.Calls.{AreHeld};
     ghost use Rattle.volume_state.specs.Held.{is_there};
     ghost use Rattle.volume_state.specs.Inside.{content_of, beside_of, spare_of};
@@ -57,7 +60,7 @@ impl Model for Volume {
 
     ghost view = { λ v. record { content = content_of v; beside = beside_of v; spare = spare_of v } };
 
-    ghost invariant = { λ v. IsSound (content_of v) × AreHeld (is_there v.oplocks.rows v.handles.locks) v.pending × AreTallied v.files.rows (content_of v).streams v.space };
+    ghost invariant = { λ v. IsSound (content_of v) × AreHeld (is_there v.oplocks.rows v.handles.locks) v.pending × AreTallied v.files.rows (content_of v).streams v.space × AreSorted v.handles.rows v.oplocks.rows v.oplocks.tables };
 }
 
 // One drop of the whole, so that a function that holds a volume has one step for it at each of its ends.
@@ -113,7 +116,7 @@ impl Volume {
             ended: Series::new(alloc),
             left,
             clock: 0,
-            oplocks: Oplocks::new(alloc),
+            oplocks: OplockTable::new(alloc),
             pending: PendingCalls::new(alloc),
             watches: SpareList::new(alloc),
             limits: SpareList::new(alloc),
@@ -199,14 +202,15 @@ impl Volume {
 // Takes room for so many oplocks on the stream of a handle; where there is no such handle, or it has no stream,
 // none.
 fn reserve_oplocks(
-    oplocks: &mut Oplocks,
+    oplocks: &mut OplockTable,
     handles: &HandleTable,
     handle: u64,
     more: u32,
 ) -> Result<(), NoMemory>
-    ensures rows { oplocks.new ≡ record oplocks.old { rooms = oplocks.new.rooms } }
+    ensures rows { oplocks.new ≡ record oplocks.old { rooms = oplocks.new.rooms; tables = oplocks.new.tables } }
     ensures room { OnOk result ((stream : ℕ) → stream_of_handle handles.now.rows handle ≡ Some stream → more ≤ room_in oplocks.new.rooms stream) }
     ensures kept { (other : ℕ) → room_in oplocks.old.rooms other ≤ room_in oplocks.new.rooms other }
+    ensures sorted { KeepSorted oplocks.old oplocks.new }
 {
     let Some(stream) = stream_of(handles, handle) else {
         return Ok(());

@@ -1,5 +1,7 @@
+use Rattle.std.proofs.Common.{◌+◌, ◌∷◌, []}
 use Rattle.fsa_model.proofs.SoundLaws.{IsSound-with_handle}
 use Rattle.volume_state.specs.Inside.{content_of}
+use Rattle.volume_state.proofs.SortedLaws.{sorted-added}
 use Rattle.volume_state.proofs.volume.Volume.add_handle.Goals as goal
 
 pub invariant_of-self : goal.invariant_of-self
@@ -10,4 +12,5 @@ invariant_of-self c = (
       (rw (← c.self.view_is) at c.requires.new) (rw (← c.self.view_is) at c.requires.client))),
   rw c.add.ensures.rows c.self.invariant.1,
   c.self.invariant.2,
+  rw c.add.ensures.rows (sorted-added c.self.inside.handles.rows ((c.self.inside.handles.last + 1, c.args.row) ∷ []) c.self.inside.oplocks.rows c.self.inside.oplocks.tables c.self.invariant.3),
 )

@@ -18,6 +18,7 @@ invariant_of-self c = (
       (rw (← c.self.view_is) at c.requires.one_link) (rw (← c.self.view_is) at c.requires.new))),
   c.self.invariant.1,
   c.self.invariant.2,
+  c.self.invariant.3,
 )
 
 pub returns-clause-row : goal.returns-clause-row

@@ -19,4 +19,5 @@ invariant_of-self c =
           held-with_lock c.self.inside.oplocks.rows c.self.inside.handles.locks c.self.inside.pending c.self.inside.handles.last_lock c.self.inside.oplocks.last
           (record { handle = c.args.handle; at = c.args.at; count = c.args.count; exclusive = c.args.exclusive }) c.self.invariant.0.blockers_given c.self.invariant.1),
       c.self.invariant.2,
+      rw c.add_lock.ensures.locks c.self.invariant.3,
     )

@@ -15,6 +15,7 @@ invariant_of-self c = (
       (rw (← c.self.view_is) at c.requires.no_directory) (rw (← c.self.view_is) at c.requires.new))),
   c.self.invariant.1,
   rw (c.in-Ok.ensures.rows, map-append) (tallied-push c.self.inside.files.rows (content_of c.self.inside).streams c.self.inside.space _ c.new-bytes.ensures.items c.self.invariant.2),
+  c.self.invariant.3,
 )
 
 pub returns-clause-named : goal.returns-clause-named

@@ -8,7 +8,8 @@ use Rattle.fsa_model.proofs.BreakLaws.{IsSound-with_breaks, chosen-few, with_bre
 use Rattle.volume_breaks.specs.Breaks.{with_held}
 use Rattle.volume_state.specs.Held.{is_there}
 use Rattle.volume_state.specs.Inside.{content_of}
-use Rattle.volume_breaks.specs.Oplocks.{Held}
+use Rattle.oplock_state.specs.Tables.{Tabled}
+use Rattle.oplock_state.proofs.SortLemmas.{chosen-there}
 use Rattle.volume_state.specs.Seen.{Seen}
 use Rattle.volume_state.proofs.ThereLaws.{held-with_breaks}
 use Rattle.volume_state.proofs.volume.Volume.begin.Goals as goal
@@ -34,6 +35,14 @@ break_chosen-requires-clause-copies c =
     let are = chosen-are (is_broken_before v) (is_chosen v c.args.handles c.args.handle c.args.key) v.oplocks v.last_break c.self.invariant.0.oplocks in
     rw c.choose.ensures are.1
 
+pub break_chosen-requires-clause-there : goal.break_chosen-requires-clause-there
+break_chosen-requires-clause-there c =
+    let v : Volume = content_of c.self.inside in
+    rw c.choose.ensures (chosen-there (is_broken_before v) (is_chosen v c.args.handles c.args.handle c.args.key) v.oplocks c.self.invariant.0.oplocks.handles_differ)
+
+pub break_chosen-requires-clause-sorted : goal.break_chosen-requires-clause-sorted
+break_chosen-requires-clause-sorted c = rw c.choose.ensures c.self.invariant.3
+
 pub invariant_of-self : goal.invariant_of-self
 invariant_of-self c =
     let v : Volume = content_of c.self.inside in
@@ -46,6 +55,7 @@ invariant_of-self c =
           c.break_chosen.ensures.held (is_there (with_breaks v c.args.handles c.args.class c.args.handle c.args.key).oplocks v.locks)
           (held-with_breaks v c.args.handles c.args.class c.args.handle c.args.key c.self.inside.pending c.self.invariant.0.oplocks c.self.invariant.0.blockers_given c.self.invariant.1)),
       c.self.invariant.2,
+      rw c.await_breaks.ensures.waited c.break_chosen.ensures.sorted,
     )
 
 pub returns-clause-content : goal.returns-clause-content
@@ -76,9 +86,9 @@ returns-clause-waited c =
     let broken : with_held v c.break_chosen.new.oplocks.rows c.break_chosen.new.oplocks.last c.break_chosen.new.pending.items c.break_chosen.new.ended.items
     ≡ with_breaks v c.args.handles c.args.class c.args.handle c.args.key = rw c.choose.ensures at (c.break_chosen.ensures.done v) in
     let picked : c.break_chosen.new.oplocks.chosen ≡ chosen v c.args.handles c.args.handle c.args.key
-    = ap (λ (held : Held). held.chosen) c.break_chosen.ensures.others ∙ ap (λ (held : Held). held.chosen) c.choose.ensures in
+    = ap (λ (held : Tabled). held.chosen) c.break_chosen.ensures.others ∙ ap (λ (held : Tabled). held.chosen) c.choose.ensures in
     let waited : c.await_breaks.new.self.waited ≡ awaited v c.args.handles c.args.class c.args.handle c.args.key
-    = ap (λ (held : Held). held.waited) c.await_breaks.ensures.waited
+    = ap (λ (held : Tabled). held.waited) c.await_breaks.ensures.waited
     ∙ ap (λ (w : Volume). awaited_among c.args.class c.break_chosen.new.oplocks.chosen w.oplocks) broken
     ∙ ap (λ (oplocks : List Oplock). awaited_among c.args.class oplocks (with_breaks v c.args.handles c.args.class c.args.handle c.args.key).oplocks) picked in
     rw (← c.self.view_is, waited)
@@ -86,7 +96,7 @@ returns-clause-waited c =
 pub returns-clause-others : goal.returns-clause-others
 returns-clause-others c =
     let rooms : c.await_breaks.new.self.rooms ≡ c.self.inside.oplocks.rooms
-    = ap (λ (held : Held). held.rooms) c.await_breaks.ensures.waited ∙ ap (λ (held : Held). held.rooms) c.break_chosen.ensures.others ∙ ap (λ (held : Held). held.rooms) c.choose.ensures in
+    = ap (λ (held : Tabled). held.rooms) c.await_breaks.ensures.waited ∙ ap (λ (held : Tabled). held.rooms) c.break_chosen.ensures.others ∙ ap (λ (held : Tabled). held.rooms) c.choose.ensures in
     rw (← c.self.view_is, rooms, c.break_chosen.ensures.room.0, c.break_chosen.ensures.room.1)
 
 pub returns-clause-left : goal.returns-clause-left
@@ -98,9 +108,9 @@ returns-clause-count c =
     let broken : with_held v c.break_chosen.new.oplocks.rows c.break_chosen.new.oplocks.last c.break_chosen.new.pending.items c.break_chosen.new.ended.items
     ≡ with_breaks v c.args.handles c.args.class c.args.handle c.args.key = rw c.choose.ensures at (c.break_chosen.ensures.done v) in
     let picked : c.break_chosen.new.oplocks.chosen ≡ chosen v c.args.handles c.args.handle c.args.key
-    = ap (λ (held : Held). held.chosen) c.break_chosen.ensures.others ∙ ap (λ (held : Held). held.chosen) c.choose.ensures in
+    = ap (λ (held : Tabled). held.chosen) c.break_chosen.ensures.others ∙ ap (λ (held : Tabled). held.chosen) c.choose.ensures in
     let waited : c.await_breaks.new.self.waited ≡ awaited v c.args.handles c.args.class c.args.handle c.args.key
-    = ap (λ (held : Held). held.waited) c.await_breaks.ensures.waited
+    = ap (λ (held : Tabled). held.waited) c.await_breaks.ensures.waited
     ∙ ap (λ (w : Volume). awaited_among c.args.class c.break_chosen.new.oplocks.chosen w.oplocks) broken
     ∙ ap (λ (oplocks : List Oplock). awaited_among c.args.class oplocks (with_breaks v c.args.handles c.args.class c.args.handle c.args.key).oplocks) picked in
     c.await_breaks.ensures.count ∙ ap (λ (numbers : List ℕ). length numbers) waited ∙ ap (λ (seen : Seen). length (awaited seen.content c.args.handles c.args.class c.args.handle c.args.key)) c.self.view_is

@@ -1,15 +1,17 @@
 use Rattle.fsa_model.proofs.SoundLaws.{IsSound-without_handle}
 use Rattle.volume_state.specs.Inside.{content_of}
 use Rattle.volume_state.proofs.ThereLaws.{held-without_handle}
+use Rattle.volume_state.proofs.SortedLaws.{sorted-removed}
 use Rattle.volume_state.proofs.volume.Volume.drop_handle.Goals as goal
 
 pub invariant_of-self : goal.invariant_of-self
 invariant_of-self c = (
-  rw (c.remove.ensures.rows, c.drop_of.ensures, c.drop_watch.ensures.watches, c.release_breaks.ensures.others, c.release_locks.ensures.others) (
+  rw (c.remove.ensures.rows, c.drop_of.ensures.rows, c.drop_watch.ensures.watches, c.release_breaks.ensures.others, c.release_locks.ensures.others) (
       IsSound-without_handle (content_of c.self.inside) c.args.handle c.self.invariant.0),
-  rw (c.remove.ensures.rows, c.drop_of.ensures) (
+  rw (c.remove.ensures.rows, c.drop_of.ensures.rows) (
       held-without_handle c.self.inside.oplocks.rows c.self.inside.handles.locks c.self.inside.pending c.release_locks.new.pending c.release_breaks.new.pending c.args.handle
       c.self.inside.handles.last_lock c.self.inside.oplocks.last c.self.invariant.0.locks_numbered c.self.invariant.0.oplocks
       (rw c.locks.ensures.rows at c.release_locks.ensures.held) (rw c.as_slice.ensures at c.release_breaks.ensures.held) c.self.invariant.1),
   c.self.invariant.2,
+  rw (c.remove.ensures.rows, c.drop_of.ensures.rows) (sorted-removed c.self.inside.handles.rows c.args.handle c.self.inside.oplocks.rows c.drop_of.new.self.tables (rw c.drop_of.ensures.rows at c.drop_of.ensures.sorted)),
 )

@@ -22,6 +22,7 @@ invariant_of-self c = (
       rw (c.in_default.ensures.rows, c.in_default.ensures.last, without_row-none c.self.inside.links.rows c.args.link none) c.self.invariant.0),
   c.self.invariant.1,
   c.self.invariant.2,
+  c.self.invariant.3,
 )
 
 pub returns-in_default-clause-content : goal.returns-in_default-clause-content
@@ -73,6 +74,7 @@ invariant_of-self-then-not-has_link c = (
       rw (c.remove-then-not-has_link.ensures.rows, c.drop_streams_of.ensures.rows, map-filter_seen (λ kept. kept.stream) (λ e. not (e.1.file == c.row.inside.file)) c.self.inside.streams.rows)
       (tallied-without_file c.self.inside.files.rows (content_of c.self.inside).streams c.self.inside.space c.resize.new.space c.row.inside.file 0 c.self.invariant.2
       (rw c.part_of_file-part.ensures at c.resize.ensures.some) living)),
+  c.self.invariant.3,
 )
 
 pub part_of_file-part-requires : goal.part_of_file-part-requires
@@ -101,6 +103,7 @@ invariant_of-self-else-not-has_link c = (
       (IsSound-without_link (content_of c.self.inside) c.args.link c.self.invariant.0 (rw (← c.self.view_is) at c.requires.empty) (rw (← c.self.view_is) at c.requires.unopened)))),
   c.self.invariant.1,
   c.self.invariant.2,
+  c.self.invariant.3,
 )
 
 pub returns-clause-content : goal.returns-clause-content

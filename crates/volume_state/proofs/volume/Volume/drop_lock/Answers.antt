@@ -13,4 +13,5 @@ invariant_of-self-2 c =
       rw (c.ended.ensures, c.remove_lock.ensures.locks, found) (
           held-without_lock c.self.inside.oplocks.rows c.self.inside.handles.locks c.self.inside.pending c.in-Some.number c.self.invariant.1),
       c.self.invariant.2,
+      rw c.remove_lock.ensures.locks c.self.invariant.3,
     )

@@ -25,6 +25,7 @@ invariant_of-self c = (
   rw (c.remove.ensures.rows, map-filter_seen (λ kept. kept.stream) (λ e. not (e.0 == c.args.stream)) c.self.inside.streams.rows)
       (tallied-without c.self.inside.files.rows (content_of c.self.inside).streams c.self.inside.space c.resize.new.space c.args.stream c.self.invariant.0.streams_numbered.rising
       c.self.invariant.0.tree.stream_files_live c.self.invariant.2 (rw c.part_of_stream-part.ensures at c.resize.ensures.some) (rw c.part_of_stream-part.ensures at c.resize.ensures.none)),
+  c.self.invariant.3,
 )
 
 pub returns-clause-content : goal.returns-clause-content

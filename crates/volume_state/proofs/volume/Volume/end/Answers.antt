@@ -8,4 +8,5 @@ invariant_of-self c = (
   rw (c.end_call.ensures.pending, c.end_call.ensures.ended) (IsSound-with_end (content_of c.self.inside) c.args.client c.args.number c.args.reply c.self.invariant.0),
   c.end_call.ensures.held (is_there c.self.inside.oplocks.rows c.self.inside.handles.locks) c.self.invariant.1,
   c.self.invariant.2,
+  c.self.invariant.3,
 )

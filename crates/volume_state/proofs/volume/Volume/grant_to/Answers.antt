@@ -1,50 +1,72 @@
-use Rattle.std.proofs.Common.{◌≡◌, ◌∙◌, ◌∷◌, ◌++◌, [], Some, sym, ap, subst}
-use Rattle.fsa_types.specs.OplockGrants.{after_switches, as_granted}
-use Rattle.fsa_model.specs.Grant.{switched, with_all_switched, with_granted, with_oplock}
+use Rattle.std.proofs.Common.{◌≡◌, refl, ◌∙◌, List, Some, sym, ap, subst}
+use Rattle.std.specs.Prelude.{fold}
+use Rattle.fsa_types.specs.OplockGrants.{after_grant}
+use Rattle.fsa_model.specs.Grant.{is_oplock_on, switched, with_granted}
 use Rattle.fsa_model.specs.Sound.{IsSound}
-use Rattle.fsa_model.specs.Volume.{Volume}
-use Rattle.volume_breaks.specs.Breaks.{with_held}
-use Rattle.volume_breaks.specs.Oplocks.{Held}
+use Rattle.fsa_model.specs.Volume.{Oplock, Volume}
+use Rattle.oplock_state.specs.Tables.{GrantsTabled, is_at}
+use Rattle.oplock_state.specs.declared.stream_oplocks.Grant.TheVariants as grant
+use Rattle.oplock_state.specs.declared.stream_tables.Asked.{Asked}
+use Rattle.volume_breaks.specs.Breaks.{with_calls, with_switch_told}
 use Rattle.volume_state.specs.Held.{is_there}
 use Rattle.volume_state.specs.Inside.{content_of}
 use Rattle.volume_state.specs.Room.{stream_of_handle}
-use Rattle.volume_state.proofs.GrantLaws.{IsSound-with_granted, held-granted, none-breaking, none-of}
+use Rattle.volume_state.proofs.GrantLaws.{IsSound-with_granted, granted-content, held-granted, none-breaking}
 use Rattle.volume_state.proofs.volume.Volume.grant_to.Goals as goal
 
-pub grant-requires-clause-new : goal.grant-requires-clause-new
-grant-requires-clause-new c =
+pub grant-requires-clause-home : goal.grant-requires-clause-home
+grant-requires-clause-home c = rw c.asked-asked.ensures (rw (← c.self.view_is) at c.requires.stream)
+
+pub grant-requires-clause-sorted : goal.grant-requires-clause-sorted
+grant-requires-clause-sorted c = c.self.invariant.3
+
+pub end_switched-requires : goal.end_switched-requires
+end_switched-requires c =
     let v : Volume = content_of c.self.inside in
-    let opened = c.args.opened in
-    let found : stream_of_handle v opened.handle ≡ Some opened.stream = rw (← c.self.view_is) at c.requires.stream in
-    let rows : c.switch_chosen.new.oplocks.rows ≡ after_switches v.oplocks (switched v opened.handle opened.key opened.stream)
-    = ap (λ (held : Held). held.rows) c.switch_chosen.ensures.oplocks ∙ ap (λ (held : Held). after_switches held.rows held.chosen) c.choose_switched.ensures in
-    rw rows (none-of v opened.handle opened.key opened.stream found)
+    let grants = subst (λ (asked : Asked). GrantsTabled (is_at v.handles c.args.opened.stream) asked c.self.inside.oplocks c.grant.new.self grant.Granted) (rw (← c.self.view_is) at c.asked-asked.ensures) c.in-Granted.ensures.grants in
+    record { room = rw (c.chosen.ensures, grants.2) (rw (← c.self.view_is) at c.requires.ends) }
 
 pub invariant_of-self : goal.invariant_of-self
 invariant_of-self c =
     let v : Volume = content_of c.self.inside in
-    let opened = c.args.opened in
-    let found : stream_of_handle v opened.handle ≡ Some opened.stream = rw (← c.self.view_is) at c.requires.stream in
-    let free = rw (← c.self.view_is) at c.requires.free in
-    let switched_all : with_held v c.switch_chosen.new.oplocks.rows c.switch_chosen.new.oplocks.last c.switch_chosen.new.pending.items c.switch_chosen.new.ended.items
-    ≡ with_all_switched v opened.handle opened.key opened.stream = rw c.choose_switched.ensures at (c.switch_chosen.ensures.done v) in
-    let granted : with_held v (c.switch_chosen.new.oplocks.rows ++ as_granted opened.handle opened.key c.args.level c.args.turn ∷ []) c.switch_chosen.new.oplocks.last c.switch_chosen.new.pending.items c.switch_chosen.new.ended.items
-    ≡ with_granted v opened.handle opened.key opened.stream c.args.level c.args.turn = ap (λ (w : Volume). with_oplock w opened.handle opened.key c.args.level c.args.turn) switched_all in
-    let after : (c.switch_chosen.new.oplocks.rows ++ as_granted opened.handle opened.key c.args.level c.args.turn ∷ [])
-    ≡ (with_granted v opened.handle opened.key opened.stream c.args.level c.args.turn).oplocks = ap (λ (w : Volume). w.oplocks) granted in
-    let sound = IsSound-with_granted v opened.handle opened.key opened.stream c.args.level c.args.turn c.self.invariant.0 found (rw (← c.self.view_is) at c.requires.key) in (
-      rw c.grant.ensures.rows (subst IsSound (sym granted) sound),
-      rw (c.grant.ensures.rows, after) (
-          c.switch_chosen.ensures.held (is_there (with_granted v opened.handle opened.key opened.stream c.args.level c.args.turn).oplocks v.locks)
-          (held-granted v opened.handle opened.key opened.stream c.args.level c.args.turn c.self.inside.pending
-          (none-breaking v opened.handle opened.key opened.stream c.args.level free) c.self.invariant.1)),
+    let grants = subst (λ (asked : Asked). GrantsTabled (is_at v.handles c.args.opened.stream) asked c.self.inside.oplocks c.grant.new.self grant.Refused) (rw (← c.self.view_is) at c.asked-asked.ensures) c.in-Refused.ensures.grants in (
+      rw grants.1 c.self.invariant.0,
+      rw grants.1 c.self.invariant.1,
       c.self.invariant.2,
+      c.grant.ensures.sorted,
     )
 
-pub returns-clause-content : goal.returns-clause-content
-returns-clause-content c =
+pub returns-in-Refused-clause-grants : goal.returns-in-Refused-clause-grants
+returns-in-Refused-clause-grants c =
+    let v : Volume = content_of c.self.inside in
+    let grants = subst (λ (asked : Asked). GrantsTabled (is_at v.handles c.args.opened.stream) asked c.self.inside.oplocks c.grant.new.self grant.Refused) (rw (← c.self.view_is) at c.asked-asked.ensures) c.in-Refused.ensures.grants in
+    rw (← c.self.view_is) (grants.0, rw grants.1 refl)
+
+pub invariant_of-self-in-Granted : goal.invariant_of-self-in-Granted
+invariant_of-self-in-Granted c =
     let v : Volume = content_of c.self.inside in
     let opened = c.args.opened in
-    let switched_all : with_held v c.switch_chosen.new.oplocks.rows c.switch_chosen.new.oplocks.last c.switch_chosen.new.pending.items c.switch_chosen.new.ended.items
-    ≡ with_all_switched v opened.handle opened.key opened.stream = rw c.choose_switched.ensures at (c.switch_chosen.ensures.done v) in
-    rw (← c.self.view_is, c.grant.ensures.rows) (ap (λ (w : Volume). with_oplock w opened.handle opened.key c.args.level c.args.turn) switched_all)
+    let found : stream_of_handle v opened.handle ≡ Some opened.stream = rw (← c.self.view_is) at c.requires.stream in
+    let grants = subst (λ (asked : Asked). GrantsTabled (is_at v.handles opened.stream) asked c.self.inside.oplocks c.grant.new.self grant.Granted) (rw (← c.self.view_is) at c.asked-asked.ensures) c.in-Granted.ensures.grants in
+    let granted = granted-content v opened.handle opened.key opened.stream c.args.level c.args.turn c.end_switched.new.pending.items c.end_switched.new.ended.items
+    (λ w. c.end_switched.ensures.done w ∙ ap (λ (all : List Oplock). fold with_switch_told (with_calls w v.pending v.ended) all) (c.chosen.ensures ∙ grants.2)) in
+    let after : after_grant (is_oplock_on v opened.stream) opened.handle opened.key c.args.level c.args.turn v.oplocks ≡ (with_granted v opened.handle opened.key opened.stream c.args.level c.args.turn).oplocks
+    = ap (λ (w : Volume). w.oplocks) granted in
+    let sound = IsSound-with_granted v opened.handle opened.key opened.stream c.args.level c.args.turn c.self.invariant.0 found (rw (← c.self.view_is) at c.requires.key) in (
+      rw (c.grant.ensures.rest, grants.1) (subst IsSound (sym granted) sound),
+      rw (grants.1, after) (
+          c.end_switched.ensures.held (is_there (with_granted v opened.handle opened.key opened.stream c.args.level c.args.turn).oplocks v.locks)
+          (held-granted v opened.handle opened.key opened.stream c.args.level c.args.turn c.self.inside.pending
+          (none-breaking v opened.handle opened.key opened.stream c.args.level grants.0) c.self.invariant.1)),
+      c.self.invariant.2,
+      c.grant.ensures.sorted,
+    )
+
+pub returns-in-Granted-clause-grants : goal.returns-in-Granted-clause-grants
+returns-in-Granted-clause-grants c =
+    let v : Volume = content_of c.self.inside in
+    let opened = c.args.opened in
+    let grants = subst (λ (asked : Asked). GrantsTabled (is_at v.handles opened.stream) asked c.self.inside.oplocks c.grant.new.self grant.Granted) (rw (← c.self.view_is) at c.asked-asked.ensures) c.in-Granted.ensures.grants in
+    let granted = granted-content v opened.handle opened.key opened.stream c.args.level c.args.turn c.end_switched.new.pending.items c.end_switched.new.ended.items
+    (λ w. c.end_switched.ensures.done w ∙ ap (λ (all : List Oplock). fold with_switch_told (with_calls w v.pending v.ended) all) (c.chosen.ensures ∙ grants.2)) in
+    rw (← c.self.view_is) (grants.0, rw (c.grant.ensures.rest, grants.1) granted)

@@ -20,4 +20,5 @@ invariant_of-self c =
       rw c.hold_anew.ensures.items (IsSound-with_blockers v c.args.turn c.args.blockers.items c.self.invariant.0 (all-given v c.args.blockers.items c.self.invariant.0 living)),
       c.hold_anew.ensures.held (is_there v.oplocks v.locks) c.self.invariant.1 (all-there v c.args.blockers.items living),
       c.self.invariant.2,
+      c.self.invariant.3,
     )

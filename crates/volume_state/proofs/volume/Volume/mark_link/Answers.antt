@@ -9,6 +9,7 @@ invariant_of-self c = (
       (IsSound-with_link_marked (content_of c.self.inside) c.args.link c.args.deleted c.self.invariant.0 (rw (← c.self.view_is) at c.requires.empty))),
   c.self.invariant.1,
   c.self.invariant.2,
+  c.self.invariant.3,
 )
 
 pub returns-clause-units : goal.returns-clause-units

@@ -19,6 +19,7 @@ invariant_of-self c = (
       let seen : Stream → Stream = λ row. record row { deleted = c.args.deleted } in
       rw (c.mark_stream.ensures.rows, map-change (λ kept. kept.stream) change seen c.self.inside.streams.rows c.args.stream (λ row. refl))
       (tallied-unseen c.self.inside.files.rows (content_of c.self.inside).streams c.self.inside.space c.args.stream seen c.self.invariant.0.streams_numbered.rising (λ row. refl) (λ row. refl) c.self.invariant.2)),
+  c.self.invariant.3,
 )
 
 pub returns-clause-content : goal.returns-clause-content

@@ -11,6 +11,7 @@ invariant_of-self c = (
       (rw (← c.self.view_is) at c.requires.unmarked) (rw (← c.self.view_is) at c.requires.not_below) (rw (← c.self.view_is) at c.requires.free))),
   c.self.invariant.1,
   c.self.invariant.2,
+  c.self.invariant.3,
 )
 
 pub returns-clause-units : goal.returns-clause-units

@@ -6,6 +6,7 @@ use Rattle.fsa_model.specs.Volume.{File, root}
 use Rattle.std.proofs.lemmas.Simd.{map-map}
 use Rattle.fsa_model.specs.Setup.{Client, client_of, setup_of}
 use Rattle.fsa_model.proofs.SoundLaws.{IsSound-fresh}
+use Rattle.volume_state.proofs.SortedLaws.{sorted-none}
 use Rattle.volume_state.proofs.volume.Volume.new.Goals as goal
 
 pub invariant_of-result : goal.invariant_of-result
@@ -53,6 +54,7 @@ invariant_of-result c = (
         clusters = c.in_ok-space.ensures.clusters;
         owners = All-cons (λ (entry : ℕ × File). IsSome (row_of c.in_ok-space.space.sums entry.1.owner)) (1, root) [] c.in_ok-space.ensures.owner (All-nil _);
       }),
+  rw (c.new-3.ensures.rows, c.new-6.ensures.rows, c.new-6.ensures.tables) (sorted-none []),
 )
 
 pub returns-clause-content : goal.returns-clause-content

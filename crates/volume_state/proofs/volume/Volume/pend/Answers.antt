@@ -15,4 +15,5 @@ invariant_of-self c =
           (all-given v c.args.blockers.items c.self.invariant.0 living)),
       c.pend.ensures.held (is_there v.oplocks v.locks) c.self.invariant.1 (all-there v c.args.blockers.items living),
       c.self.invariant.2,
+      c.self.invariant.3,
     )

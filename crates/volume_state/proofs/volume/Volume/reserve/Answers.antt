@@ -1,3 +1,4 @@
+use Rattle.std.proofs.Common.{rules}
 use Rattle.volume_state.proofs.volume.Volume.reserve.Goals as goal
 
 pub returns-clause-room : goal.returns-clause-room
@@ -18,3 +19,51 @@ returns-clause-room c = record {
   units = c.in_ok-reserve-6.ensures.room.1;
   dirs = c.in_ok-reserve-6.ensures.room.2;
 }
+
+pub invariant_of-self-in_err-reserve_oplocks : goal.invariant_of-self-in_err-reserve_oplocks
+invariant_of-self-in_err-reserve_oplocks c = (
+  search rules,
+  search rules,
+  search rules,
+  c.reserve_oplocks.ensures.sorted c.reserve_locks.new.self.rows (rw (c.reserve_locks.ensures.rows, c.reserve-4.ensures.rows) c.self.invariant.3),
+)
+
+pub invariant_of-self-in_err-reserve-7 : goal.invariant_of-self-in_err-reserve-7
+invariant_of-self-in_err-reserve-7 c = (
+  search rules,
+  search rules,
+  search rules,
+  c.reserve_oplocks.ensures.sorted c.reserve_locks.new.self.rows (rw (c.reserve_locks.ensures.rows, c.reserve-4.ensures.rows) c.self.invariant.3),
+)
+
+pub invariant_of-self-in_err-reserve-8 : goal.invariant_of-self-in_err-reserve-8
+invariant_of-self-in_err-reserve-8 c = (
+  search rules,
+  search rules,
+  search rules,
+  c.reserve_oplocks.ensures.sorted c.reserve_locks.new.self.rows (rw (c.reserve_locks.ensures.rows, c.reserve-4.ensures.rows) c.self.invariant.3),
+)
+
+pub invariant_of-self-in_err-reserve-9 : goal.invariant_of-self-in_err-reserve-9
+invariant_of-self-in_err-reserve-9 c = (
+  search rules,
+  search rules,
+  search rules,
+  c.reserve_oplocks.ensures.sorted c.reserve_locks.new.self.rows (rw (c.reserve_locks.ensures.rows, c.reserve-4.ensures.rows) c.self.invariant.3),
+)
+
+pub invariant_of-self-in_err-reserve-10 : goal.invariant_of-self-in_err-reserve-10
+invariant_of-self-in_err-reserve-10 c = (
+  search rules,
+  search rules,
+  search rules,
+  c.reserve_oplocks.ensures.sorted c.reserve_locks.new.self.rows (rw (c.reserve_locks.ensures.rows, c.reserve-4.ensures.rows) c.self.invariant.3),
+)
+
+pub invariant_of-self-2 : goal.invariant_of-self-2
+invariant_of-self-2 c = (
+  search rules,
+  search rules,
+  search rules,
+  c.reserve_oplocks.ensures.sorted c.reserve_locks.new.self.rows (rw (c.reserve_locks.ensures.rows, c.reserve-4.ensures.rows) c.self.invariant.3),
+)

@@ -14,6 +14,7 @@ invariant_of-self c = (
   rw (c.reserve_in.ensures.rows, c.reserve_in.ensures.last) c.self.invariant.0,
   c.self.invariant.1,
   rw c.reserve_in.ensures.rows c.self.invariant.2,
+  c.self.invariant.3,
 )
 
 pub returns-clause-room : goal.returns-clause-room

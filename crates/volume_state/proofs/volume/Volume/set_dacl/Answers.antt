@@ -12,4 +12,5 @@ invariant_of-self c = (
   c.self.invariant.1,
   rw c.set_dacl.ensures.rows
       (tallied-file_changed c.self.inside.files.rows (content_of c.self.inside).streams c.self.inside.space c.args.file (λ row. record row { dacl = option_map (λ list. list.items) c.args.dacl }) (λ row. refl) c.self.invariant.2),
+  c.self.invariant.3,
 )

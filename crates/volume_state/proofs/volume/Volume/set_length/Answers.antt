@@ -41,6 +41,7 @@ invariant_of-self c = (
       (tallied-changed c.self.inside.files.rows (content_of c.self.inside).streams c.self.inside.space c.resize.new.space c.args.stream c.self.invariant.0.streams_numbered.rising
       c.self.invariant.0.tree.stream_files_live c.self.invariant.2 (λ row. record row { bytes = cut row.bytes c.args.bytes }) (λ row. refl)
       (rw (c.part_of_stream-part.ensures, c.clusters_at-after.ensures, c.set_length_in.ensures.rows) at c.resize.ensures.some) (rw c.part_of_stream-part.ensures at c.resize.ensures.none)),
+  c.self.invariant.3,
 )
 
 pub returns-clause-bytes : goal.returns-clause-bytes

@@ -7,4 +7,5 @@ invariant_of-self c = (
   rw c.put_limit.ensures.items (IsSound-with_limit (content_of c.self.inside) c.args.sid c.args.limit c.self.invariant.0),
   c.self.invariant.1,
   c.self.invariant.2,
+  c.self.invariant.3,
 )

@@ -30,4 +30,5 @@ invariant_of-self c = (
       (tallied-owner_changed c.self.inside.files.rows (content_of c.self.inside).streams c.admit.new.self c.hand_over.new.space c.args.file c.args.owner
       (tallied-admitted c.self.inside.files.rows (content_of c.self.inside).streams c.self.inside.space c.admit.new.self c.args.owner c.admit.ensures c.self.invariant.2)
       c.admit.ensures.here (rw c.part_of_file-part.ensures at c.hand_over.ensures.some) (rw c.part_of_file-part.ensures at c.hand_over.ensures.none)),
+  c.self.invariant.3,
 )

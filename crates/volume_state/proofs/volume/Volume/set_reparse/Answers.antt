@@ -11,4 +11,5 @@ invariant_of-self c = (
   c.self.invariant.1,
   rw c.set_point.ensures.rows
       (tallied-file_changed c.self.inside.files.rows (content_of c.self.inside).streams c.self.inside.space c.args.file (λ row. record row { point = c.args.point }) (λ row. refl) c.self.invariant.2),
+  c.self.invariant.3,
 )

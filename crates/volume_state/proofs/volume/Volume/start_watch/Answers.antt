@@ -12,4 +12,5 @@ invariant_of-self c =
           (rw (← c.self.view_is) at c.requires.living) (none-passes (λ watch. watch.handle == c.args.handle) c.self.inside.watches.items new)),
       c.self.invariant.1,
       c.self.invariant.2,
+      c.self.invariant.3,
     )

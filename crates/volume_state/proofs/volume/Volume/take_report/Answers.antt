@@ -7,4 +7,5 @@ invariant_of-self c = (
   rw (c.begin_at.ensures.items, c.len-place.ensures, c.log.ensures) (IsSound-with_watch_seen (content_of c.self.inside) c.args.handle c.self.invariant.0),
   c.self.invariant.1,
   c.self.invariant.2,
+  c.self.invariant.3,
 )
