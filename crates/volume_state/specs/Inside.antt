@@ -7,7 +7,7 @@ use Rattle.volume_state.specs.declared.volume.Volume.TheInside.{Inside}
 
 abbrev pub content_of : Inside → Volume
 content_of v = record {
-  table = v.table;
+  table = v.links.table;
   clients = map client_of v.clients.items;
   files = v.files.rows;
   links = v.links.rows;

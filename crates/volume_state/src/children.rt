@@ -9,7 +9,7 @@ ghost use Rattle.volume_rows.specs.Children.{is_name_after};
 ghost use Rattle.volume_state.specs.Children.{children_after, children_from, is_unmarked};
 
 use crate::volume::Volume;
-use volume_rows::{LinkRow, find_child_after, find_link_of};
+use volume_rows::{LinkRow, find_link_of};
 
 impl Volume {
     /// The first link of a file; a directory has one, and the root has none.
@@ -30,7 +30,7 @@ impl Volume {
         ensures all { children_from self.now.content dir result ≡ children_after self.now.content dir None }
         ensures listed { filter is_unmarked (children_from self.now.content dir result) ≡ listed_links self.now.content dir }
     {
-        find_child_after(self.links.as_slice(), &self.table, dir, None)
+        self.links.child_after(dir, None)
     }
 
     /// The link of a directory, marked or not, with the least name that is greater than this one; `None`
@@ -45,6 +45,6 @@ impl Volume {
         ensures all { children_from self.now.content dir result ≡ children_after self.now.content dir (Some units.now) }
         ensures listed { filter is_unmarked (children_from self.now.content dir result) ≡ filter (λ entry. is_name_after self.now.content.table (Some units.now) entry.1.name) (listed_links self.now.content dir) }
     {
-        find_child_after(self.links.as_slice(), &self.table, dir, Some(units))
+        self.links.child_after(dir, Some(units))
     }
 }

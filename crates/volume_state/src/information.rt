@@ -22,7 +22,7 @@ impl Volume {
         ensures first { IfSome result (λ id. IfSome (row_of self.now.content.streams id) (λ row. streams_of self.now.content file ≡ (id, row) ∷ streams_after self.now.content file [])) }
         ensures none { IfNone result (streams_of self.now.content file ≡ streams_after self.now.content file []) }
     {
-        find_stream(self.streams.as_slice(), &self.table, file, &[])
+        find_stream(self.streams.as_slice(), self.links.table(), file, &[])
     }
 
     /// The stream of this file with the least name after this one, by upcased units; `None` exactly where
@@ -37,7 +37,7 @@ impl Volume {
         ensures none { IfNone result (streams_after self.now.content file units.now ≡ []) }
     {
         let streams = self.streams.as_slice();
-        find_stream_after(streams, &self.table, file, units)
+        find_stream_after(streams, self.links.table(), file, units)
     }
 }
 

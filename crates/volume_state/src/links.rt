@@ -17,8 +17,7 @@ use crate::streams::drop_streams_of;
 use crate::volume::Volume;
 use fsa_types::Name;
 use volume_rows::{
-    LinkRow, count_links, count_unmarked_links, find_child, find_link_number, has_child, has_link,
-    is_at_or_below,
+    LinkRow, count_links, count_unmarked_links, find_link_number, has_link, is_at_or_below,
 };
 
 impl Volume {
@@ -47,7 +46,7 @@ impl Volume {
         ensures found { result ≡ child_of self.now.content parent units.now }
         ensures lives { IfSome result (λ id. IsTrue (lives self.now.content.links id)) }
     {
-        find_child(self.links.as_slice(), &self.table, parent, units)
+        self.links.child(parent, units)
     }
 
     /// The link of a directory; 0 for the root.
@@ -61,7 +60,7 @@ impl Volume {
     pub fn has_child(&self, dir: u64) -> bool
         ensures { result ≡ has_child self.now.content.links dir }
     {
-        has_child(self.links.as_slice(), dir)
+        self.links.has_child(dir)
     }
 
     /// How many links of a file aren't marked for deletion, and how many there are.

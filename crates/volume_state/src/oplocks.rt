@@ -78,7 +78,7 @@ impl Volume {
         ensures count { result ≡ length (awaited self.old.content handles class handle key) }
     {
         let tree = Tree {
-            table: &self.table,
+            table: self.links.table(),
             links: &self.links,
             streams: &self.streams,
             handles: &self.handles,
@@ -169,7 +169,7 @@ impl Volume {
     {
         let asked = self.asked(opened, level, turn);
         let tree = Tree {
-            table: &self.table,
+            table: self.links.table(),
             links: &self.links,
             streams: &self.streams,
             handles: &self.handles,

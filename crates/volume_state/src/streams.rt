@@ -41,7 +41,7 @@ impl Volume {
         ensures lives { IfSome result (λ id. IsTrue (lives self.now.content.streams id)) }
         ensures of_link { IfSome result (λ id. (link : ℕ) → IsTrue (is_link_to self.now.content.links link file) → IsTrue (is_stream_of_link self.now.content.links self.now.content.streams link id)) }
     {
-        find_stream(self.streams.as_slice(), &self.table, file, units)
+        find_stream(self.streams.as_slice(), self.links.table(), file, units)
     }
 
     /// The bytes of a stream. There has to be one.

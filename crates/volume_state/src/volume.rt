@@ -28,7 +28,6 @@ use volume_tables::{HandleTable, LinkTable, SpaceTally};
 /// that are still there, and its tally of space has what the streams take.
 pub struct Volume {
     pub(crate) alloc: Global,
-    pub(crate) table: UpcaseTable,
     pub(crate) clients: ClientList,
     pub(crate) files: Table<FileRow>,
     pub(crate) links: LinkTable,
@@ -68,7 +67,6 @@ impl Drop for Volume {
     fn drop(self) {
         let Volume {
             alloc: _,
-            table: _,
             clients: _,
             files: _,
             links: _,
@@ -105,10 +103,9 @@ impl Volume {
         let space = space_of_root(alloc)?;
         Ok(Volume {
             alloc,
-            table,
             clients,
             files,
-            links: LinkTable::new(alloc),
+            links: LinkTable::new(alloc, table),
             streams: Table::new(alloc),
             space,
             handles: HandleTable::new(alloc),
@@ -153,7 +150,7 @@ impl Volume {
     pub fn table(&self) -> &UpcaseTable
         ensures { result.now ≡ self.now.content.table }
     {
-        &self.table
+        self.links.table()
     }
 
     /// The SIDs of a client; the first owns what it makes. There has to be such a client.

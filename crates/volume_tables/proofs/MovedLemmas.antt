@@ -262,3 +262,7 @@ module _ (table : List (ℕ × ℕ)) (rows : Links) (last : ℕ) (numbers : List
         go : (o : Option Link) → row_of rows id ≡ o → is_some o ≡ true → IsByName table (with_row_changed (λ row. record row { parent = parent; name = name }) rows id) new
         go None is none = absurd (false≢true none)
         go (Some row) is some = ByName-moved row new is (put row.file row.deleted)
+
+-- no links
+pub ByName-empty : (table : List (ℕ × ℕ)) (rows : Links) (numbers : List ℕ) → rows ≡ [] → numbers ≡ [] → IsByName table rows numbers
+ByName-empty table rows numbers none empty = rw (none, empty) (record { listed = refl; differ = λ j k d below within. absurd (omega arith) })

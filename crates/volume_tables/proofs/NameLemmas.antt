@@ -144,7 +144,7 @@ module _ (table : List (ℕ × ℕ)) (dir : ℕ) where
     | inr other ↦ rw other refl
   ]
 
-  first-each : (link : Link) → is_child_after table dir None link ≡ (link.parent == dir)
+  pub first-each : (link : Link) → is_child_after table dir None link ≡ (link.parent == dir)
   first-each link = elim (cases_Bool (link.parent == dir)) [ inl same ↦ rw same refl | inr other ↦ rw other refl ]
 
   -- behind a name

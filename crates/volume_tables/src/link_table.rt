@@ -1,22 +1,31 @@
-//! The links of a volume, and the room for more of them in each directory.
+//! The links of a volume in the order of their names, and the room for more of them in each directory.
 
-ghost use Rattle.std.specs.Prelude.{ℕ, ◌≡◌, ◌≤◌, ◌<◌, ◌+◌, ◌^◌, ◌++◌, ◌∷◌, [], ◌==◌, false, OnOk, OnErr, position};
+ghost use Rattle.std.specs.Prelude.{ℕ, ◌≡◌, ◌≤◌, ◌<◌, ◌+◌, ◌^◌, ◌++◌, ◌∷◌, ◌&&◌, not, [], ◌==◌, false, None, OnOk, OnErr, find, option_map, position, slice_get};
+ghost use Rattle.std.specs.List.{list_any};
 ghost use Rattle.std.specs.Option.{option_copied};
 ghost use Rattle.fsa_types.specs.Rows.{row_of, without_row, with_row_changed, IsNumbered};
+ghost use Rattle.fsa_model.specs.Lookups.{has_child, is_named};
+ghost use Rattle.volume_rows.specs.Children.{links_after};
 ghost use Rattle.volume_tables.specs.Rooms.{room_in};
 
+use crate::name_index::NameIndex;
 use crate::room_list::RoomList;
-use fsa_types::{Name, NoMemory};
+use fsa_types::{Name, NoMemory, UpcaseTable};
 use object_tables::Table;
 use std::alloc::Global;
 use std::marker::Model;
 use volume_rows::LinkRow;
 
 /// Links under numbers that rise from 1, and for each directory how many more can be added to it
-/// without taking memory. Adding to one directory leaves the room of the others.
+/// without taking memory. Adding to one directory leaves the room of the others. A name is found in its
+/// directory, and the one that follows it, by binary search; names compare by the case table, and those of one
+/// directory differ.
 #[derive(Debug, Drop)]
 pub struct LinkTable {
-    table: Table<LinkRow>,
+    table: UpcaseTable,
+    links: Table<LinkRow>,
+    // The numbers of all links, in the order of their directories and names.
+    names: NameIndex,
     // What was promised to each directory, all of which the table has.
     rooms: RoomList,
 }
@@ -24,24 +33,28 @@ pub struct LinkTable {
 impl Model for LinkTable {
     ghost use Rattle.std.specs.Prelude.{◌≤◌};
     ghost use Rattle.volume_tables.specs.LinkTable.{LinkRows};
+    ghost use Rattle.volume_tables.specs.Names.{IsByName};
     ghost use Rattle.volume_tables.specs.Rooms.{all_rooms};
 
     ghost Value = { LinkRows };
 
-    ghost view = { λ t. record { rows = t.table.rows; last = t.table.last; rooms = t.rooms } };
+    ghost view = { λ t. record { table = t.table; rows = t.links.rows; last = t.links.last; rooms = t.rooms } };
 
-    ghost invariant = { λ t. all_rooms t.rooms ≤ t.table.room };
+    ghost invariant = { λ t. (all_rooms t.rooms ≤ t.links.room) × (all_rooms t.rooms ≤ t.names.room) × IsByName t.table t.links.rows t.names.numbers };
 }
 
 impl LinkTable {
-    /// A table without links and without room. It takes no memory.
-    pub fn new(alloc: Global) -> LinkTable
+    /// A table without links and without room, whose names compare by this case table. It takes no memory.
+    pub fn new(alloc: Global, table: UpcaseTable) -> LinkTable
+        ensures table { result.table ≡ table }
         ensures rows { result.rows ≡ [] }
         ensures last { result.last ≡ 0 }
         ensures rooms { result.rooms ≡ [] }
     {
         LinkTable {
-            table: Table::new(alloc),
+            table,
+            links: Table::new(alloc),
+            names: NameIndex::new(alloc),
             rooms: RoomList::new(alloc),
         }
     }
@@ -49,6 +62,7 @@ impl LinkTable {
     /// Takes room for so many links of this directory, in all that it has room for. `NoMemory` where
     /// there is none.
     pub fn reserve(&mut self, dir: u64, links: usize) -> Result<(), NoMemory>
+        ensures table { self.new.table ≡ self.old.table }
         ensures rows { self.new.rows ≡ self.old.rows }
         ensures last { self.new.last ≡ self.old.last }
         ensures room { OnOk result (links ≤ room_in self.new.rooms dir) }
@@ -60,15 +74,18 @@ impl LinkTable {
         let Some(all) = self.rooms.all_with(dir, links) else {
             return Err(NoMemory);
         };
-        self.table.reserve(all)?;
+        self.links.reserve(all)?;
+        self.names.reserve(all)?;
         self.rooms.set(dir, links)
     }
 
     /// Adds a link to its parent and gives its number, one more than the last one given. Room has to
-    /// be reserved there, and fewer than 2^32 numbers to be given so far.
+    /// be reserved there, fewer than 2^32 numbers to be given so far, and the name to be new there.
     pub fn add(&mut self, row: LinkRow) -> u64
         requires room { 1 ≤ room_in self.old.rooms row.parent }
         requires ids_left { self.old.last < 2 ^ 32 }
+        requires is_new { option_map (λ entry. entry.0) (find (λ entry. is_named self.old.table row.parent row.name entry.1) self.old.rows) ≡ None }
+        ensures table { self.new.table ≡ self.old.table }
         ensures rows { self.new.rows ≡ self.old.rows ++ (self.old.last + 1, row) ∷ [] }
         ensures last { self.new.last ≡ self.old.last + 1 }
         ensures left { room_in self.old.rooms row.parent ≤ room_in self.new.rooms row.parent + 1 }
@@ -76,10 +93,43 @@ impl LinkTable {
         ensures id { result ≡ self.old.last + 1 }
     {
         self.rooms.take_one(row.parent);
-        let Ok(id) = self.table.add(row) else {
+        let id = self.links.last() + 1;
+        let units = row.name.units();
+        self.names
+            .add(&self.links, &self.table, id, row.parent, units);
+        let Ok(_) = self.links.add(row) else {
             unreachable!()
         };
         id
+    }
+
+    /// The case table by which names compare.
+    pub fn table(&self) -> &UpcaseTable
+        ensures { result.now ≡ self.now.table }
+    {
+        &self.table
+    }
+
+    /// The link of this name in this directory; `None` exactly where there is none.
+    pub fn child(&self, parent: u64, units: &[u16]) -> Option<u64>
+        ensures { result ≡ option_map (λ entry. entry.0) (find (λ entry. is_named self.now.table parent units.now entry.1) self.now.rows) }
+    {
+        self.names.child(&self.links, &self.table, parent, units)
+    }
+
+    /// The first of the links of a directory, marked or not, whose names are greater than that one, in the order of
+    /// names; of all of them where there is no name.
+    pub fn child_after(&self, dir: u64, after: Option<&[u16]>) -> Option<u64>
+        ensures { result ≡ option_map (λ entry. entry.0) (slice_get (links_after self.now.table dir (option_copied after.entry) self.now.rows) 0) }
+    {
+        self.names.child_after(&self.links, &self.table, dir, after)
+    }
+
+    /// Whether there is a link in this directory.
+    pub fn has_child(&self, dir: u64) -> bool
+        ensures { result ≡ has_child self.now.rows dir }
+    {
+        self.child_after(dir, None).is_some()
     }
 
     /// All links with their numbers, by rising number.
@@ -87,44 +137,54 @@ impl LinkTable {
         ensures rows { result.now ≡ self.now.rows }
         ensures numbered { IsNumbered self.now.rows self.now.last }
     {
-        self.table.as_slice()
+        self.links.as_slice()
     }
 
     /// The link of this number; `None` exactly where there is none.
     pub fn get(&self, id: u64) -> Option<&LinkRow>
         ensures { option_copied result ≡ row_of self.now.rows id }
     {
-        self.table.get(id)
+        self.links.get(id)
     }
 
     /// Marks a link for deletion, or clears its mark.
     pub fn mark(&mut self, id: u64, deleted: bool)
+        ensures table { self.new.table ≡ self.old.table }
         ensures rows { self.new.rows ≡ with_row_changed (λ row. record row { deleted = deleted }) self.old.rows id }
         ensures last { self.new.last ≡ self.old.last }
         ensures rooms { self.new.rooms ≡ self.old.rooms }
     {
-        mark(&mut self.table, id, deleted);
+        mark(&mut self.links, id, deleted);
     }
 
-    /// Gives a link another name, in this directory or in another one. It takes no memory, and leaves the
-    /// room of each directory.
+    /// Gives a link another name, in this directory or in another one, which no other link has there. It takes no
+    /// memory, and leaves the room of each directory.
     pub fn move_to(&mut self, id: u64, parent: u64, name: Name)
+        requires free { list_any (λ entry. not (entry.0 == id) && is_named self.old.table parent name entry.1) self.old.rows ≡ false }
+        ensures table { self.new.table ≡ self.old.table }
         ensures rows { self.new.rows ≡ with_row_changed (λ row. record row { parent = parent; name = name }) self.old.rows id }
         ensures last { self.new.last ≡ self.old.last }
         ensures rooms { self.new.rooms ≡ self.old.rooms }
     {
-        move_to(&mut self.table, id, parent, name);
+        if self.links.get(id).is_none() {
+            return;
+        }
+        self.names
+            .move_to(&self.links, &self.table, id, parent, name.units());
+        move_to(&mut self.links, id, parent, name);
     }
 
     /// Takes the link of this number out; `None` exactly where there is none. It takes no memory, and
     /// leaves the room of each directory.
     pub fn remove(&mut self, id: u64) -> Option<LinkRow>
         ensures row { result ≡ row_of self.old.rows id }
+        ensures table { self.new.table ≡ self.old.table }
         ensures rows { self.new.rows ≡ without_row self.old.rows id }
         ensures last { self.new.last ≡ self.old.last }
         ensures rooms { self.new.rooms ≡ self.old.rooms }
     {
-        self.table.remove(id)
+        self.names.take(&self.links, &self.table, id);
+        self.links.remove(id)
     }
 }
 

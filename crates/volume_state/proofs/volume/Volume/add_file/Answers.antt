@@ -31,5 +31,5 @@ returns-clause-unlinked c = rw c.in-Ok.ensures.id (next-unlinked (content_of c.s
 
 pub returns-clause-no_stream : goal.returns-clause-no_stream
 returns-clause-no_stream c =
-    rw c.in-Ok.ensures.id (λ name. number-none (is_stream_named c.self.inside.table (c.self.inside.files.last + 1) name) (content_of c.self.inside).streams
+    rw c.in-Ok.ensures.id (λ name. number-none (is_stream_named c.self.inside.links.table (c.self.inside.files.last + 1) name) (content_of c.self.inside).streams
     (λ k d within. and_left _ _ (next-no_stream (content_of c.self.inside) c.self.invariant.0 k d within)))

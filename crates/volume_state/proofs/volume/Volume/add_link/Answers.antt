@@ -11,7 +11,7 @@ use Rattle.volume_state.proofs.volume.Volume.add_link.Goals as goal
 
 pub invariant_of-self : goal.invariant_of-self
 invariant_of-self c = (
-  (rw (c.add.ensures.rows, c.add.ensures.last)
+  (rw (c.add.ensures.table, c.add.ensures.rows, c.add.ensures.last)
       (IsSound-with_link (content_of c.self.inside) c.args.parent c.args.name c.args.file c.self.invariant.0
       (rw (← c.self.view_is) at c.requires.ids_left) (rw (← c.self.view_is) at c.requires.parent) (rw (← c.self.view_is) at c.requires.leads)
       (rw (← c.self.view_is) at c.requires.unmarked) (rw (← c.self.view_is) at c.requires.file) c.requires.not_root
@@ -38,3 +38,6 @@ returns-clause-directory c =
     rw (← c.self.view_is, c.add.ensures.id, c.add.ensures.rows) (λ directory. or_right (last == 0) _
     (any-last (λ (l : ℕ × Link). l.0 == last && is_directory c.self.inside.files.rows l.1.file) c.self.inside.links.rows _
     (and_from (last == last) (is_directory c.self.inside.files.rows c.args.file) (eq-eqb last last refl) directory)))
+
+pub add-requires-clause-is_new : goal.add-requires-clause-is_new
+add-requires-clause-is_new c = rw (← c.self.view_is) at c.requires.new

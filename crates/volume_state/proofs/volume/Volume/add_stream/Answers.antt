@@ -20,7 +20,7 @@ invariant_of-self c = (
 
 pub returns-clause-named : goal.returns-clause-named
 returns-clause-named c =
-    rw (← c.self.view_is, c.in-Ok.ensures.rows, map-append) (λ other units differ. number_of-push (is_stream_named c.self.inside.table other units) (content_of c.self.inside).streams _ differ)
+    rw (← c.self.view_is, c.in-Ok.ensures.rows, map-append) (λ other units differ. number_of-push (is_stream_named c.self.inside.links.table other units) (content_of c.self.inside).streams _ differ)
 
 pub returns-clause-units : goal.returns-clause-units
 returns-clause-units c =

@@ -19,7 +19,7 @@ use Rattle.volume_state.proofs.volume.Volume.drop_link.Goals as goal
 pub invariant_of-self : goal.invariant_of-self
 invariant_of-self c = (
   (let none = sym c.in_default.ensures.row in
-      rw (c.in_default.ensures.rows, c.in_default.ensures.last, without_row-none c.self.inside.links.rows c.args.link none) c.self.invariant.0),
+      rw (c.in_default.ensures.table, c.in_default.ensures.rows, c.in_default.ensures.last, without_row-none c.self.inside.links.rows c.args.link none) c.self.invariant.0),
   c.self.invariant.1,
   c.self.invariant.2,
   c.self.invariant.3,
@@ -28,7 +28,7 @@ invariant_of-self c = (
 pub returns-in_default-clause-content : goal.returns-in_default-clause-content
 returns-in_default-clause-content c =
     let none = sym c.in_default.ensures.row in
-    rw (← c.self.view_is, c.in_default.ensures.rows, c.in_default.ensures.last, without_row-none c.self.inside.links.rows c.args.link none, none)
+    rw (← c.self.view_is, c.in_default.ensures.table, c.in_default.ensures.rows, c.in_default.ensures.last, without_row-none c.self.inside.links.rows c.args.link none, none)
 
 -- the last link of a file
 pub returns-then-not-has_link-clause-content : goal.returns-then-not-has_link-clause-content
@@ -39,6 +39,7 @@ returns-then-not-has_link-clause-content c =
     = rw (← c.in-Some.ensures.rows, ← c.as_slice.ensures.rows) (sym c.has_link.ensures ∙ c.if-not-has_link.true) in
     rw (
       ← c.self.view_is,
+      c.in-Some.ensures.table,
       c.in-Some.ensures.rows,
       c.in-Some.ensures.last,
       c.remove-then-not-has_link.ensures.rows,
@@ -56,6 +57,7 @@ invariant_of-self-then-not-has_link c = (
       let linked : has_row (λ l. l.file == c.row.inside.file) (without_row c.self.inside.links.rows c.args.link) ≡ false
       = rw (← c.in-Some.ensures.rows, ← c.as_slice.ensures.rows) (sym c.has_link.ensures ∙ c.if-not-has_link.true) in
       rw (
+        c.in-Some.ensures.table,
         c.in-Some.ensures.rows,
         c.in-Some.ensures.last,
         c.remove-then-not-has_link.ensures.rows,
@@ -98,7 +100,7 @@ invariant_of-self-else-not-has_link c = (
       let found : row_of c.self.inside.links.rows c.args.link ≡ Some row = sym (rw (← c.row.view_is) at c.in-Some.ensures.row) in
       let linked : has_row (λ l. l.file == c.row.inside.file) (without_row c.self.inside.links.rows c.args.link) ≡ true
       = rw (← c.in-Some.ensures.rows, ← c.as_slice.ensures.rows) (sym c.has_link.ensures ∙ c.if-not-has_link.false) in
-      rw (c.in-Some.ensures.rows, c.in-Some.ensures.last)
+      rw (c.in-Some.ensures.table, c.in-Some.ensures.rows, c.in-Some.ensures.last)
       (subst IsSound (without_link-other (content_of c.self.inside) c.args.link row found linked)
       (IsSound-without_link (content_of c.self.inside) c.args.link c.self.invariant.0 (rw (← c.self.view_is) at c.requires.empty) (rw (← c.self.view_is) at c.requires.unopened)))),
   c.self.invariant.1,
@@ -112,7 +114,7 @@ returns-clause-content c =
     let found : row_of c.self.inside.links.rows c.args.link ≡ Some row = sym (rw (← c.row.view_is) at c.in-Some.ensures.row) in
     let linked : has_row (λ l. l.file == c.row.inside.file) (without_row c.self.inside.links.rows c.args.link) ≡ true
     = rw (← c.in-Some.ensures.rows, ← c.as_slice.ensures.rows) (sym c.has_link.ensures ∙ c.if-not-has_link.false) in
-    rw (← c.self.view_is, c.in-Some.ensures.rows, c.in-Some.ensures.last)
+    rw (← c.self.view_is, c.in-Some.ensures.table, c.in-Some.ensures.rows, c.in-Some.ensures.last)
     (sym (without_link-other (content_of c.self.inside) c.args.link row found linked))
 
 pub returns-then-not-has_link-clause-bytes_kept : goal.returns-then-not-has_link-clause-bytes_kept

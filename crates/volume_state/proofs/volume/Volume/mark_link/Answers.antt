@@ -5,7 +5,7 @@ use Rattle.volume_state.proofs.volume.Volume.mark_link.Goals as goal
 
 pub invariant_of-self : goal.invariant_of-self
 invariant_of-self c = (
-  (rw (c.mark.ensures.rows, c.mark.ensures.last)
+  (rw (c.mark.ensures.table, c.mark.ensures.rows, c.mark.ensures.last)
       (IsSound-with_link_marked (content_of c.self.inside) c.args.link c.args.deleted c.self.invariant.0 (rw (← c.self.view_is) at c.requires.empty))),
   c.self.invariant.1,
   c.self.invariant.2,

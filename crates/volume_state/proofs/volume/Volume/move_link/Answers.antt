@@ -1,11 +1,11 @@
-use Rattle.fsa_model.proofs.MoveLaws.{IsSound-moved}
+use Rattle.fsa_model.proofs.MoveLaws.{IsSound-moved, free-named}
 use Rattle.volume_state.specs.Inside.{content_of}
 use Rattle.volume_state.proofs.MovedLaws.{units_noted-moved, dirs_noted-moved}
 use Rattle.volume_state.proofs.volume.Volume.move_link.Goals as goal
 
 pub invariant_of-self : goal.invariant_of-self
 invariant_of-self c = (
-  (rw (c.move_to.ensures.rows, c.move_to.ensures.last)
+  (rw (c.move_to.ensures.table, c.move_to.ensures.rows, c.move_to.ensures.last)
       (IsSound-moved (content_of c.self.inside) c.args.link c.args.parent c.args.name c.self.invariant.0
       (rw (← c.self.view_is) at c.requires.parent) (rw (← c.self.view_is) at c.requires.leads)
       (rw (← c.self.view_is) at c.requires.unmarked) (rw (← c.self.view_is) at c.requires.not_below) (rw (← c.self.view_is) at c.requires.free))),
@@ -23,3 +23,6 @@ pub returns-clause-dirs : goal.returns-clause-dirs
 returns-clause-dirs c =
     rw (← c.self.view_is, c.move_to.ensures.rows) (λ stream. dirs_noted-moved (content_of c.self.inside) c.args.link c.args.parent c.args.name stream c.self.invariant.0
     (rw (← c.self.view_is) at c.requires.parent) (rw (← c.self.view_is) at c.requires.not_below))
+
+pub move_to-requires : goal.move_to-requires
+move_to-requires c = record { free = free-named (content_of c.self.inside) c.args.link c.args.parent c.args.name c.self.invariant.0 (rw (← c.self.view_is) at c.requires.free) }
