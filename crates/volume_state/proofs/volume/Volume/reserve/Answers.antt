@@ -56,7 +56,8 @@ pub invariant_of-self-in_err-reserve-10 : goal.invariant_of-self-in_err-reserve-
 invariant_of-self-in_err-reserve-10 c = (
   search rules,
   search rules,
-  search rules,
+  (let tallied = c.self.invariant.2 in
+      rw (c.reserve-10.ensures.space, c.reserve-3.ensures.rows, c.reserve.ensures.rows) (record { charges = tallied.charges; clusters = tallied.clusters; owners = tallied.owners })),
   c.reserve_oplocks.ensures.sorted c.reserve_locks.new.self.rows (rw (c.reserve_locks.ensures.rows, c.reserve-4.ensures.rows) c.self.invariant.3),
 )
 
@@ -64,6 +65,7 @@ pub invariant_of-self-2 : goal.invariant_of-self-2
 invariant_of-self-2 c = (
   search rules,
   search rules,
-  search rules,
+  (let tallied = c.self.invariant.2 in
+      rw (c.reserve-10.ensures.space, c.reserve-3.ensures.rows, c.reserve.ensures.rows) (record { charges = tallied.charges; clusters = tallied.clusters; owners = tallied.owners })),
   c.reserve_oplocks.ensures.sorted c.reserve_locks.new.self.rows (rw (c.reserve_locks.ensures.rows, c.reserve-4.ensures.rows) c.self.invariant.3),
 )
