@@ -9,7 +9,5 @@ mod racing;
 mod runner;
 
 pub use closed::race;
-pub use drive::{Later, Task};
 pub use pass_desk::PassDesk;
 pub use racing::race_history;
-pub use runner::Runner;

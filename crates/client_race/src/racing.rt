@@ -56,7 +56,11 @@ fn finished(runners: Vec<Runner>, passes: Vec<Pass>) -> Result<Vec<Pass>, NoMemo
         if !runner.is_done() {
             return Err(NoMemory);
         }
-        let Runner { pass, run: _ } = runner;
+        let Runner {
+            pass,
+            run: _,
+            pending_at: _,
+        } = runner;
         passes.push_reserved(pass);
     }
     Ok(passes)

@@ -17,6 +17,8 @@ use wire_io::Gate;
 pub struct Runner {
     pub pass: Pass,
     pub run: ClientRun,
+    /// The number of entries that the history had, at least, when the run's wait was found pending.
+    pub pending_at: Option<u64>,
 }
 
 impl Runner {
@@ -31,6 +33,7 @@ impl Runner {
         Runner {
             pass,
             run: ClientRun::new(client, calls),
+            pending_at: None,
         }
     }
 
@@ -41,8 +44,16 @@ impl Runner {
         self.run.is_done()
     }
 
-    /// Makes one step.
-    pub fn step<G: Gate>(&mut self, alloc: Global, volume: &SharedVolume, gate: &G) -> Step
+    // The number of entries of the history, which the pass has then seen.
+    fn entries(&mut self, volume: &SharedVolume) -> u64
+        requires ready { IsReady volume.now self.old }
+        ensures { Follows volume.now self.old self.new }
+    {
+        volume.front(&mut self.pass)
+    }
+
+    // Asks the next call, or looks at the wait that is pending.
+    fn ask<G: Gate>(&mut self, alloc: Global, volume: &SharedVolume, gate: &G) -> Step
         requires ready { IsReady volume.now self.old }
         requires gate { (client number : ℕ) → G.is_for gate.now client number }
         ensures { Follows volume.now self.old self.new }
@@ -52,5 +63,24 @@ impl Runner {
             pass: &mut self.pass,
         };
         self.run.step(alloc, &mut desk, gate)
+    }
+
+    /// Makes one step. Where the wait was pending and the history hasn't grown since, it still is, and no turn
+    /// is taken to look at it.
+    pub fn step<G: Gate>(&mut self, alloc: Global, volume: &SharedVolume, gate: &G) -> Step
+        requires ready { IsReady volume.now self.old }
+        requires gate { (client number : ℕ) → G.is_for gate.now client number }
+        ensures { Follows volume.now self.old self.new }
+    {
+        let entries = self.entries(volume);
+        if self.pending_at == Some(entries) {
+            return Step::Waiting;
+        }
+        let step = self.ask(alloc, volume, gate);
+        self.pending_at = match step {
+            Step::Waiting => Some(entries),
+            _ => None,
+        };
+        step
     }
 }
