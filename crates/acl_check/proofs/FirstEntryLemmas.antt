@@ -7,7 +7,7 @@ use Rattle.std.proofs.lemmas.Bool.{cases_Bool, cond-true, cond-false, eqb-true, 
 use Rattle.std.proofs.lemmas.Nat.Bits.{bit_at_and, bit_at-lt, bit_at-zero, same_from_bits}
 use Rattle.fsa_types.specs.declared.request.Ace.{Ace}
 use Rattle.fsa_types.specs.Access.{asked_of_list, check, entries_for, has_any, walk_denies, without}
-use Rattle.acl_check.specs.FirstEntry.{has_right, allows, AllowEach, Grants}
+use Rattle.acl_check.specs.FirstEntry.{has_right, allows, AllowEach, ListAllows}
 use Rattle.acl_check.proofs.BitLemmas.{bit_at-without}
 
 -- a right is there or not
@@ -110,7 +110,7 @@ walk_denies-allows (entry ∷ entries) wanted granted right has = elim (cases_Bo
 
 -- what the check answers, as the first entries have it
 pub check-grants : (dacl : Option (List Ace)) (owner : ℕ) (sids : List ℕ) (wanted : ℕ) (granted : Option ℕ)
-    → granted ≡ check dacl owner sids wanted → IsSome granted ↔ Grants dacl owner sids wanted
+    → granted ≡ check dacl owner sids wanted → IsSome granted ↔ ListAllows dacl owner sids wanted
 check-grants None owner sids wanted granted is = (λ _. tt, λ _. rw is refl)
 check-grants (Some entries) owner sids wanted granted is =
     let walk = walk_denies (entries_for sids entries) (asked_of_list owner sids wanted) in

@@ -21,9 +21,9 @@ abbrev pub AllowEach : List Ace → ℕ → Type 0
 AllowEach entries wanted = (right : ℕ) → IsTrue (has_right wanted right) → IsTrue (allows entries right)
 
 -- there is no list, or its entries for the client allow each right that is asked of it
-abbrev pub Grants : Option (List Ace) → ℕ → List ℕ → ℕ → Type 0
-Grants None owner sids wanted = Unit {0}
-Grants (Some entries) owner sids wanted = AllowEach (entries_for sids entries) (asked_of_list owner sids wanted)
+abbrev pub ListAllows : Option (List Ace) → ℕ → List ℕ → ℕ → Type 0
+ListAllows None owner sids wanted = Unit {0}
+ListAllows (Some entries) owner sids wanted = AllowEach (entries_for sids entries) (asked_of_list owner sids wanted)
 
 -- some of the entries name each right of the mask
 abbrev pub NameEach : List Ace → ℕ → Type 0

@@ -4,7 +4,7 @@ ghost use Rattle.std.specs.Prelude.{◌≡◌, ◌↔◌, IsSome, Some, List, �
 ghost use Rattle.std.specs.Option.{option_copied};
 ghost use Rattle.fsa_types.specs.Access.{asked_of_list, check, entries_for, entries_of, walk_denies, without};
 ghost use Rattle.fsa_types.specs.declared.request.Ace.{Ace};
-ghost use Rattle.acl_check.specs.FirstEntry.{Grants, NameEach};
+ghost use Rattle.acl_check.specs.FirstEntry.{ListAllows, NameEach};
 
 use fsa_types::{Ace, Dacl};
 
@@ -24,7 +24,7 @@ pub fn check(dacl: Option<&Dacl>, owner: u32, sids: &[u32], wanted: u32) -> Opti
     ensures checked { result ≡ check (entries_of (option_copied dacl.entry)) owner sids.now wanted }
     // The first entry for the client that names a right decides it.
     ensures first_entry { IsSome result
-        ↔ Grants (entries_of (option_copied dacl.entry)) owner sids.now wanted }
+        ↔ ListAllows (entries_of (option_copied dacl.entry)) owner sids.now wanted }
     // An entry makes no difference where earlier entries for the client name each of its rights: an
     // allow entry doesn't help after deny entries of its rights, nor does a deny entry hurt after
     // allow entries of them.

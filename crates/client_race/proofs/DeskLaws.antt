@@ -17,16 +17,16 @@ use Rattle.fsa_types.specs.declared.request.What.{What}
 use Rattle.fsa_model.specs.History.{HistoryEntry}
 use Rattle.fsa_model.specs.Once.{is_end}
 use Rattle.fsa_model.specs.Setup.{Setup}
-use Rattle.fsa_machine.specs.Stands.{ended_with_list, holds_list as copies_list}
+use Rattle.fsa_machine.specs.MachineView.{ended_with_list, holds_list as copies_list}
 use Rattle.history_lock.specs.Passes.{Refreshed}
 use Rattle.history_lock.specs.Turns.{beaten}
-use Rattle.shared_volume.specs.Histories.{IsHistory as IsNumberedHistory, MayRefuse}
+use Rattle.shared_volume.specs.Histories.{IsMachineHistory as IsNumberedHistory, MayRefuse}
 use Rattle.shared_volume.specs.Shared.{Known, Submits, EndedWithList as EndedWithListThere}
 use Rattle.shared_volume.proofs.HistoryLaws.{numbered-differ}
 use Rattle.history_laws.specs.CallAnswers.{HasEnded, IfBusy, IfDid, IfDone, IfRefused, OnBusy, OnNoMemory, OnPending, Pends}
 use Rattle.client_run.specs.Calls.{calls_in}
 use Rattle.client_run.specs.Desks.{Asks, OnlySees, SeesHistory}
-use Rattle.client_run.specs.Shown.{EndedWithList, IsHistory, holds_list}
+use Rattle.client_run.specs.Shown.{EndedWithList, IsRunOfDistinctCalls, holds_list}
 use Rattle.client_race.specs.Passes.{shown}
 
 pub asks : (setup : Setup) (what : What) (number : ℕ) (answer : Answer) (v w : Known) → Submits setup what number answer v w → Asks what number answer (shown setup v) (shown setup w)
@@ -86,7 +86,7 @@ full_at seen HistoryFull may is = eqb-true (length seen) 1000000 (sym may)
 full_at seen NoMemory may is = cc
 
 -- calls that are numbered differ
-pub differ : (setup : Setup) (entries : List HistoryEntry) → IsNumberedHistory setup entries → IsHistory setup entries
+pub differ : (setup : Setup) (entries : List HistoryEntry) → IsNumberedHistory setup entries → IsRunOfDistinctCalls setup entries
 differ setup entries history = record { runs = history.runs; differ = numbered-differ entries history.numbered }
 
 pub sees_history : (setup : Setup) (v : Known) → IsNumberedHistory setup v.own.seen → v.own.mine ≡ calls_in v.own.client v.own.seen → SeesHistory (shown setup v)

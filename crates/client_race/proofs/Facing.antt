@@ -1,7 +1,7 @@
 -- Lists whose items belong together, as items are taken from one and put to the other.
 use Rattle.std.proofs.Common.{◌≡◌, ◌≢◌, ℕ, zero, suc, ◌+◌, ◌-◌, ◌<◌, List, [], ◌∷◌, ◌++◌, length, set, refl, ap, sym, ◌∙◌, subst, arith, length-append, slice_get, None, Some}
 use Rattle.history_lock.proofs.Places.{each_given, given_longer, given_end, given_below}
-use Rattle.client_race.specs.Lists.{Beside, Faces, Leads}
+use Rattle.client_race.specs.Lists.{Pointwise, Faces, Leads}
 
 module _ {A : Type 0} where
   same_at : (l : List A) (i : ℕ) (a b : A) → slice_get l i ≡ Some a → slice_get l i ≡ Some b → a ≡ b
@@ -38,13 +38,13 @@ faces_more {A} {B} P whole l m a ys zs b is leads put count faces new i j x y fa
     j y there i x facing at
 
 pub beside_then : {A B C : Type 0} (P : A → B → Type 0) (Q : B → C → Type 0) (R : A → C → Type 0) (xs : List A) (ys : List B) (zs : List C) → length ys ≡ length zs
-    → ((x : A) (y : B) (z : C) → P x y → Q y z → R x z) → Beside P xs ys → Beside Q ys zs → Beside R xs zs
+    → ((x : A) (y : B) (z : C) → P x y → Q y z → R x z) → Pointwise P xs ys → Pointwise Q ys zs → Pointwise R xs zs
 beside_then P Q R xs ys zs size both first second i x z at there =
     let y = some_at ys i (let h = given_below zs i z there in omega arith) in both x y.0 z (first i x y.0 at y.1) (second i y.0 z y.1 there)
 
 -- what faces, moves and faces again stands beside
 pub faces_back : {A B C : Type 0} (P : A → B → Type 0) (M : B → B → Type 0) (G : B → C → Type 0) (R : A → C → Type 0) (xs : List A) (ys zs : List B) (ws : List C) → length ys ≡ length xs → length zs ≡ length xs
-    → ((x : A) (y z : B) (w : C) → P x y → M y z → G z w → R x w) → Faces P xs ys → Beside M ys zs → Faces G zs ws → Beside R xs ws
+    → ((x : A) (y z : B) (w : C) → P x y → M y z → G z w → R x w) → Faces P xs ys → Pointwise M ys zs → Faces G zs ws → Pointwise R xs ws
 faces_back P M G R xs ys zs ws size more all first moves last i x w at there =
     let h = given_below xs i x at in
     let j : ℕ = length xs - (i + 1) in

@@ -17,7 +17,7 @@ use Rattle.client_run.specs.Shown.{IsOrderly}
 use Rattle.client_run.proofs.Ordering.{orderly_closed}
 use Rattle.client_run.proofs.ServeLaws.{serves_new}
 use Rattle.client_race.specs.declared.runner.Runner.{Runner}
-use Rattle.client_race.specs.Lists.{Beside, Each, Faces}
+use Rattle.client_race.specs.Lists.{Pointwise, Each, Faces}
 use Rattle.client_race.specs.Passes.{view_of}
 use Rattle.client_race.specs.Runners.{Follows, IsFresh, IsReady, client_of, plan_of, todo_of}
 use Rattle.client_race.proofs.DeskLaws.{sees_history}
@@ -72,7 +72,7 @@ module _ {L : Type 0} (calls : L → List Call) (volume : SharedVolume) where
 
   pub all_end : (passes : List _) (lines : List L) (runners done : List Runner) (out : List _) → length passes ≡ length lines → length runners ≡ length lines → length done ≡ length lines
       → ((i : ℕ) (p : _) → slice_get passes i ≡ Some p → IsPass volume p × ((known p).own ≡ record { client = i; seen = []; mine = [] }))
-      → Faces (λ pass runner. (runner.pass ≡ pass) × IsFresh runner) passes runners → Faces (λ line runner. todo_of runner ≡ calls line) lines runners → Beside (Follows volume) runners done
+      → Faces (λ pass runner. (runner.pass ≡ pass) × IsFresh runner) passes runners → Faces (λ line runner. todo_of runner ≡ calls line) lines runners → Pointwise (Follows volume) runners done
       → Faces (λ runner pass. (runner.pass ≡ pass) × (todo_of runner ≡ [])) done out
       → (i : ℕ) (line : L) (q : _) → slice_get lines i ≡ Some line → slice_get out i ≡ Some q
       → IsPass volume q × ((known q).own.client ≡ i) × ((known q).own.mine ≡ calls line) × IsOrderly (setup_at volume) i (known q).own.seen

@@ -8,7 +8,7 @@ use Rattle.fsa_model.specs.Lines.{Line}
 use Rattle.fsa_model.specs.Script.{script_of}
 use Rattle.fsa_model.specs.ScriptText.{SpellsLines, call_line, client_line}
 use Rattle.fsa_model.specs.Setup.{Script}
-use Rattle.fsa_model.specs.Spelling.{is_built, is_line}
+use Rattle.fsa_model.specs.Spelling.{can_be_spelled, is_line}
 use Rattle.fsa_model.specs.Text.{name_of}
 use Rattle.fsa_model.specs.Words.{is_name, most_id}
 use Rattle.fsa_model.proofs.CountLaws.{and_right}
@@ -31,8 +31,8 @@ each_is_line [] bytes spelled k line at = (let impossible : None ≡ Some line =
 each_is_line (one ∷ lines) bytes spelled zero line at = (let same : one ≡ line = (let e : Some one ≡ Some line = at in cc) in ap is_line (sym same) ∙ spelled.4)
 each_is_line (one ∷ lines) bytes spelled (suc k) line at = each_is_line lines spelled.1 spelled.6 k line at
 
-leave_isnt_built : (what : What) → what ≡ Leave → is_built what ≡ true → ⊥
-leave_isnt_built what is built = (let impossible : false ≡ true = ap is_built (sym is) ∙ built in cc)
+leave_isnt_built : (what : What) → what ≡ Leave → can_be_spelled what ≡ true → ⊥
+leave_isnt_built what is built = (let impossible : false ≡ true = ap can_be_spelled (sym is) ∙ built in cc)
 
 pub no_line_leaves : (bytes : List ℕ) (script : Script) → script_of bytes ≡ Ok script → (place : ℕ) (call : Call) → slice_get script.lines place ≡ Some call → call.what ≡ Leave → ⊥
 no_line_leaves bytes script is place call at leaves =
@@ -41,7 +41,7 @@ no_line_leaves bytes script is place call at leaves =
     let there = second_at spells.says.table _ behind.0 (call_line script.setup.clients call) behind.1 in
     let line : is_line (call_line script.setup.clients call) ≡ true
     = each_is_line spells.lines bytes spells.spelled (suc there.0) (call_line script.setup.clients call) (ap (λ (lines : List Line). slice_get lines (suc there.0)) spells.says.in_order ∙ there.1) in
-    leave_isnt_built call.what leaves (and_right (is_name (name_of script.setup.clients call.client) && nat_le call.number most_id) (is_built call.what) line)
+    leave_isnt_built call.what leaves (and_right (is_name (name_of script.setup.clients call.client) && nat_le call.number most_id) (can_be_spelled call.what) line)
 
 -- so a script that was read can be raced, where it is within the limits
 pub script-races : (bytes : List ℕ) (script : Script) → script_of bytes ≡ Ok script → length script.lines ≤ 40000 → length script.setup.clients ≤ 64 → CanRace script

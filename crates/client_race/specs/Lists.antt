@@ -6,8 +6,8 @@ abbrev pub Faces : {A B : Type 0} → (A → B → Type 0) → List A → List B
 Faces {A} {B} P xs ys = (i j : ℕ) (x : A) (y : B) → i + j + 1 ≡ length xs → slice_get xs i ≡ Some x → slice_get ys j ≡ Some y → P x y
 
 -- the items at one place belong together
-abbrev pub Beside : {A B : Type 0} → (A → B → Type 0) → List A → List B → Type 0
-Beside {A} {B} P xs ys = (i : ℕ) (x : A) (y : B) → slice_get xs i ≡ Some x → slice_get ys i ≡ Some y → P x y
+abbrev pub Pointwise : {A B : Type 0} → (A → B → Type 0) → List A → List B → Type 0
+Pointwise {A} {B} P xs ys = (i : ℕ) (x : A) (y : B) → slice_get xs i ≡ Some x → slice_get ys i ≡ Some y → P x y
 
 abbrev pub Each : {A : Type 0} → (A → Type 0) → List A → Type 0
 Each {A} P xs = (i : ℕ) (x : A) → slice_get xs i ≡ Some x → P x

@@ -4,7 +4,7 @@ use Rattle.fsa_types.specs.declared.request.Call.{Call}
 use Rattle.history_lock.specs.Lock.{known}
 use Rattle.shared_volume.specs.declared.shared.SharedVolume.{SharedVolume}
 use Rattle.shared_volume.specs.Shared.{IsPass}
-use Rattle.client_run.specs.Serving.{Serves, planned, todo_in}
+use Rattle.client_run.specs.Serving.{FitsDesk, planned, todo_in}
 use Rattle.client_race.specs.declared.runner.Runner.{Runner}
 use Rattle.client_race.specs.Passes.{view_of}
 
@@ -24,7 +24,7 @@ IsFresh runner = (runner.run.waits ≡ None) × (runner.run.client ≡ client_of
 
 -- its pass is one of this volume, and its run is that pass's
 abbrev pub IsReady : SharedVolume → Runner → Type 0
-IsReady volume runner = IsPass volume runner.pass × Serves (view_of volume runner.pass) runner.run
+IsReady volume runner = IsPass volume runner.pass × FitsDesk (view_of volume runner.pass) runner.run
 
 -- the second runner is the first one, later
 abbrev pub Follows : SharedVolume → Runner → Runner → Type 0

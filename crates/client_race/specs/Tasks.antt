@@ -7,9 +7,9 @@ use Rattle.client_race.specs.declared.runner.Runner.{Runner}
 use Rattle.client_race.specs.Runners.{IsReady, Follows}
 
 -- the task is this runner, later
-abbrev pub Stands : SharedVolume → Runner → Task → Type 0
-Stands volume v (There handle) = (handle.promise.volume.value ≡ volume) × (handle.promise.runner.value ≡ v)
-Stands volume v (Here runner) = Follows volume v runner
+abbrev pub IsTaskOf : SharedVolume → Runner → Task → Type 0
+IsTaskOf volume v (There handle) = (handle.promise.volume.value ≡ volume) × (handle.promise.runner.value ≡ v)
+IsTaskOf volume v (Here runner) = Follows volume v runner
 
 -- where it's here, its pass is one of this volume
 abbrev pub IsFit : SharedVolume → Task → Type 0
@@ -18,8 +18,8 @@ IsFit volume (Here runner) = IsReady volume runner
 
 -- the second task is of the same runner as the first
 abbrev pub Moves : SharedVolume → Task → Task → Type 0
-Moves volume u t = (IsFit volume u → IsFit volume t) × ((v : Runner) → Stands volume v u → Stands volume v t)
+Moves volume u t = (IsFit volume u → IsFit volume t) × ((v : Runner) → IsTaskOf volume v u → IsTaskOf volume v t)
 
 -- the task gives this runner
-abbrev pub Gives : Task → Runner → Type 0
-Gives t r = (volume : SharedVolume) (v : Runner) → Stands volume v t → Follows volume v r
+abbrev pub GivesRunner : Task → Runner → Type 0
+GivesRunner t r = (volume : SharedVolume) (v : Runner) → IsTaskOf volume v t → Follows volume v r

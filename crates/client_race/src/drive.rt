@@ -1,9 +1,9 @@
 //! Runs each client on a thread of its own, or here where none can be made.
 ghost use Rattle.std.specs.Prelude.{◌≡◌, ℕ, ◌+◌, ◌<◌, ◌≤◌, slice_get, Some, vec_len, vec_capacity, []};
 ghost use Rattle.std.specs.Thread.{IsSync};
-ghost use Rattle.client_race.specs.Lists.{Beside, Each, Faces};
+ghost use Rattle.client_race.specs.Lists.{Pointwise, Each, Faces};
 ghost use Rattle.client_race.specs.Runners.{Follows, IsReady};
-ghost use Rattle.client_race.specs.Tasks.{Gives, IsFit, Moves, Stands};
+ghost use Rattle.client_race.specs.Tasks.{GivesRunner, IsFit, Moves, IsTaskOf};
 
 use crate::runner::Runner;
 use client_run::Step;
@@ -84,7 +84,7 @@ fn start<'s, E, R: Threads + Wait + Sync, G: Gate + Sync>(
 ) -> Task
     requires ready { IsReady volume.now runner }
     requires gate { (client number : ℕ) → G.is_for gate.now client number }
-    ensures stands { Stands volume.now runner result }
+    ensures stands { IsTaskOf volume.now runner result }
     ensures fit { IsFit volume.now result }
 {
     let client = runner.pass.client() as u64 + 1;
@@ -126,7 +126,7 @@ fn start_all<'s, E, R: Threads + Wait + Sync, G: Gate + Sync>(
     requires gate { (client number : ℕ) → G.is_for gate.now client number }
     requires room { (tasks.items ≡ []) × (vec_len tasks ≡ 0) × (vec_len runners ≤ vec_capacity tasks) }
     ensures one_each { vec_len result ≡ vec_len runners }
-    ensures stands { Faces (Stands volume.now) runners.items result.items }
+    ensures stands { Faces (IsTaskOf volume.now) runners.items result.items }
     ensures fit { Each (IsFit volume.now) result.items }
 {
     let mut runners = runners;
@@ -179,7 +179,7 @@ fn step_each<G: Gate>(
     requires gate { (client number : ℕ) → G.is_for gate.now client number }
     ensures one_each { vec_len tasks.new ≡ vec_len tasks.old }
     ensures fit { Each (IsFit volume.now) tasks.new.items }
-    ensures moves { Beside (Moves volume.now) tasks.old.items tasks.new.items }
+    ensures moves { Pointwise (Moves volume.now) tasks.old.items tasks.new.items }
 {
     let mut goes_on = false;
     for i in 0..tasks.len() {
@@ -203,7 +203,7 @@ fn rotate<R: Wait, G: Gate>(
     requires gate { (client number : ℕ) → G.is_for gate.now client number }
     ensures one_each { vec_len tasks.new ≡ vec_len tasks.old }
     ensures fit { Each (IsFit volume.now) tasks.new.items }
-    ensures moves { Beside (Moves volume.now) tasks.old.items tasks.new.items }
+    ensures moves { Pointwise (Moves volume.now) tasks.old.items tasks.new.items }
 {
     for _ in rt.forever() {
         if !step_each(alloc, volume, gate, signals, tasks) {
@@ -215,7 +215,7 @@ fn rotate<R: Wait, G: Gate>(
 
 // Waits for the thread of a runner.
 fn join_one<R: Threads>(rt: &R, task: Task) -> Runner
-    ensures { Gives task result }
+    ensures { GivesRunner task result }
 {
     match task {
         Task::There(handle) => handle.join(rt),
@@ -227,7 +227,7 @@ fn join_one<R: Threads>(rt: &R, task: Task) -> Runner
 fn join_all<R: Threads>(rt: &R, tasks: Vec<Task>, runners: Vec<Runner>) -> Vec<Runner>
     requires room { (runners.items ≡ []) × (vec_len runners ≡ 0) × (vec_len tasks ≤ vec_capacity runners) }
     ensures one_each { vec_len result ≡ vec_len tasks }
-    ensures gives { Faces Gives tasks.items result.items }
+    ensures gives { Faces GivesRunner tasks.items result.items }
 {
     let mut tasks = tasks;
     let mut runners = runners;
@@ -253,7 +253,7 @@ pub(crate) fn drive<R: Threads + Wait + Sync, G: Gate + Sync>(
     requires tasks { (tasks.items ≡ []) × (vec_len tasks ≡ 0) × (vec_len runners ≤ vec_capacity tasks) }
     requires done { (done.items ≡ []) × (vec_len done ≡ 0) × (vec_len runners ≤ vec_capacity done) }
     ensures one_each { vec_len result ≡ vec_len runners }
-    ensures follows { Beside (Follows volume.now) runners.items result.items }
+    ensures follows { Pointwise (Follows volume.now) runners.items result.items }
 {
     let signals = Signals {
         kept: AtomicU64::new(0),
@@ -265,7 +265,7 @@ pub(crate) fn drive<R: Threads + Wait + Sync, G: Gate + Sync>(
         rt,
         move |scope| -> Vec<Runner>
             requires { IsSync R.row × IsSync G.row × Each (IsReady volume.now) runners.items × ((client number : ℕ) → G.is_for gate.now client number) × (tasks.items ≡ []) × (vec_len tasks ≡ 0) × (vec_len runners ≤ vec_capacity tasks) × (done.items ≡ []) × (vec_len done ≡ 0) × (vec_len runners ≤ vec_capacity done) }
-            ensures { (vec_len result ≡ vec_len runners) × Beside (Follows volume.entry.now) runners.items result.items }
+            ensures { (vec_len result ≡ vec_len runners) × Pointwise (Follows volume.entry.now) runners.items result.items }
         {
             let mut tasks = start_all(scope, rt, alloc, volume, gate, signals, runners, tasks);
             rotate(rt, alloc, volume, gate, signals, &mut tasks);

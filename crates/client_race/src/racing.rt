@@ -7,7 +7,7 @@ ghost use Rattle.shared_volume.specs.Shared.{IsPass, setup_at};
 ghost use Rattle.script_read.specs.ScriptView.{contents};
 ghost use Rattle.client_run.specs.Calls.{IsLined};
 ghost use Rattle.client_run.specs.Shown.{IsOrderly};
-ghost use Rattle.client_race.specs.Lists.{Beside, Faces};
+ghost use Rattle.client_race.specs.Lists.{Pointwise, Faces};
 ghost use Rattle.client_race.specs.Races.{CanRace};
 ghost use Rattle.client_race.specs.Runners.{IsFresh, todo_of};
 
@@ -82,7 +82,7 @@ fn made<R: Threads + Wait + Sync, G: Gate + Sync>(
     ensures one_each { IfOk result (λ v. vec_len v ≡ vec_len lines) }
     ensures passes { IfOk result (λ v. (i : ℕ) (p : _) → slice_get v.items i ≡ Some p → IsPass volume.now p × ((known p).own.client ≡ i)) }
     ensures orderly { IfOk result (λ v. (i : ℕ) (p : _) → slice_get v.items i ≡ Some p → IsOrderly (setup_at volume.now) i (known p).own.seen) }
-    ensures made { IfOk result (λ v. Beside (λ line p. (known p).own.mine ≡ line.items) lines.items v.items) }
+    ensures made { IfOk result (λ v. Pointwise (λ line p. (known p).own.mine ≡ line.items) lines.items v.items) }
 {
     let runners = Vec::with_capacity(alloc, lines.len())?;
     let tasks = Vec::with_capacity(alloc, lines.len())?;

@@ -16,7 +16,7 @@ use Rattle.client_run.specs.declared.run.ClientRun.{ClientRun}
 use Rattle.history_laws.specs.CallAnswers.{CanAsk, HasEnded}
 use Rattle.client_run.specs.Calls.{HasLeft, IsLined, calls_in}
 use Rattle.client_run.specs.Desks.{Asks, DeskView, OnlySees, SeesHistory}
-use Rattle.client_run.specs.Serving.{Makes, Serves, holding, planned, todo_in}
+use Rattle.client_run.specs.Serving.{MakesNextCall, FitsDesk, holding, planned, todo_in}
 use Rattle.client_run.specs.Shown.{IsOrderly, WaitsOnlyBy}
 use Rattle.client_run.proofs.Ordering.{at_front, last_same, none_added, orderly_did, orderly_more, orderly_none}
 use Rattle.client_run.proofs.RunLaws.{differ-front, run-front, run-last}
@@ -38,9 +38,9 @@ waited_later setup client by seen later whole is none differ waited s runs =
     only_later setup client by seen later s none (subst CallsDiffer is differ) first.0 first.1 (waited first.0 first.1) longer
 
 -- more was seen, and no call was made
-pub serves_on : (v w : DeskView) (client_run : ClientRun) → Serves v client_run → OnlySees v w → SeesHistory w → Serves w client_run
+pub serves_on : (v w : DeskView) (client_run : ClientRun) → FitsDesk v client_run → OnlySees v w → SeesHistory w → FitsDesk w client_run
 serves_on v w client_run before sees history =
-    let s : Serves (moved v w) client_run = subst (λ (z : DeskView). Serves z client_run) (moved_is v w sees.setup sees.client) before in
+    let s : FitsDesk (moved v w) client_run = subst (λ (z : DeskView). FitsDesk z client_run) (moved_is v w sees.setup sees.client) before in
     let grown : calls_in w.client w.seen ≡ calls_in w.client v.seen = sym history.own ∙ (sees.made ∙ s.sees.own) in
     let none : calls_in w.client sees.seen.later ≡ [] = none_added w.client v.seen sees.seen.later (ap (calls_in w.client) (sym sees.seen.whole) ∙ grown) in record {
       served = s.served;
@@ -53,8 +53,8 @@ serves_on v w client_run before sees history =
     }
 
 -- the wait has ended
-pub serves_over : (w : DeskView) (client_run : ClientRun) (number : ℕ) (reply : Reply) → Serves w client_run → client_run.waits ≡ Some number → HasEnded w.setup w.seen w.client number reply
-    → Serves w (record client_run { waits = None })
+pub serves_over : (w : DeskView) (client_run : ClientRun) (number : ℕ) (reply : Reply) → FitsDesk w client_run → client_run.waits ≡ Some number → HasEnded w.setup w.seen w.client number reply
+    → FitsDesk w (record client_run { waits = None })
 serves_over w client_run number reply s waited ended = record {
   served = s.served;
   lined = s.lined;
@@ -66,21 +66,21 @@ serves_over w client_run number reply s waited ended = record {
 }
 
 -- the call that is next
-pub next_can : (v : DeskView) (client_run : ClientRun) (call : Call) → Serves v (holding call client_run) → CanAsk call.what
+pub next_can : (v : DeskView) (client_run : ClientRun) (call : Call) → FitsDesk v (holding call client_run) → CanAsk call.what
 next_can v client_run call s = (s.lined.each (length v.made) call (at_front v.made client_run.rest.items call)).1.1
 
 rest_is : (client_run : ClientRun) → client_run.held ≡ None → todo_in client_run ≡ client_run.rest.items
 rest_is client_run held = ap (λ (h : Option Call). option_to_list h ++ client_run.rest.items) held
 
-asked_is : (v w : DeskView) (number : ℕ) (answer : Answer) (call : Call) (client_run : ClientRun) → Serves v (holding call client_run) → Asks call.what number answer v w
+asked_is : (v w : DeskView) (number : ℕ) (answer : Answer) (call : Call) (client_run : ClientRun) → FitsDesk v (holding call client_run) → Asks call.what number answer v w
     → record { client = v.client; number = number; what = call.what } ≡ call
 asked_is v w number answer call client_run s a =
     let own = s.lined.each (length v.made) call (at_front v.made client_run.rest.items call) in
     let same_number : number ≡ call.number = a.count ∙ sym own.1.0 in
     λ i. record { client = sym own.0 i; number = same_number i; what = call.what }
 
-pub made_next : (v w : DeskView) (number : ℕ) (answer : Answer) (call : Call) (client_run : ClientRun) (by : Option ℕ) → client_run.held ≡ None → Serves v (holding call client_run) → Asks call.what number answer v w
-    → Makes v w (holding call client_run) (record client_run { waits = by })
+pub made_next : (v w : DeskView) (number : ℕ) (answer : Answer) (call : Call) (client_run : ClientRun) (by : Option ℕ) → client_run.held ≡ None → FitsDesk v (holding call client_run) → Asks call.what number answer v w
+    → MakesNextCall v w (holding call client_run) (record client_run { waits = by })
 made_next v w number answer call client_run by held s a = record {
   call = call;
   more = a.made ∙ ap (λ (c : Call). v.made ++ c ∷ []) (asked_is v w number answer call client_run s a);
@@ -88,7 +88,7 @@ made_next v w number answer call client_run by held s a = record {
 }
 
 -- the plan is the same
-pub made_plan : (v w : DeskView) (number : ℕ) (answer : Answer) (call : Call) (client_run : ClientRun) (by : Option ℕ) → client_run.held ≡ None → Serves v (holding call client_run) → Asks call.what number answer v w
+pub made_plan : (v w : DeskView) (number : ℕ) (answer : Answer) (call : Call) (client_run : ClientRun) (by : Option ℕ) → client_run.held ≡ None → FitsDesk v (holding call client_run) → Asks call.what number answer v w
     → planned w.made (record client_run { waits = by }) ≡ planned v.made (holding call client_run)
 made_plan v w number answer call client_run by held s a =
     ap (λ (m : List Call). m ++ todo_in client_run) (a.made ∙ ap (λ (c : Call). v.made ++ c ∷ []) (asked_is v w number answer call client_run s a))
@@ -99,10 +99,10 @@ leave_isnt_wait what is wait = (let f : false ≡ true = ap is_wait (sym is) ∙
 
 -- the call was made
 pub serves_did : (v w : DeskView) (number : ℕ) (answer : Answer) (call : Call) (client_run : ClientRun) (by : Option ℕ) → client_run.held ≡ None → client_run.waits ≡ None
-    → Serves v (holding call client_run) → Asks call.what number answer v w → SeesHistory w
-    → (by ≡ None → is_wait call.what ≡ true → ends_at_once answer ≡ true) → ((n : ℕ) → by ≡ Some n → (n ≡ number) × (is_wait call.what ≡ true)) → Serves w (record client_run { waits = by })
+    → FitsDesk v (holding call client_run) → Asks call.what number answer v w → SeesHistory w
+    → (by ≡ None → is_wait call.what ≡ true → ends_at_once answer ≡ true) → ((n : ℕ) → by ≡ Some n → (n ≡ number) × (is_wait call.what ≡ true)) → FitsDesk w (record client_run { waits = by })
 serves_did v w number answer call client_run by held free before a history ended only =
-    let s : Serves (moved v w) (holding call client_run) = subst (λ (z : DeskView). Serves z (holding call client_run)) (moved_is v w a.setup a.client) before in
+    let s : FitsDesk (moved v w) (holding call client_run) = subst (λ (z : DeskView). FitsDesk z (holding call client_run)) (moved_is v w a.setup a.client) before in
     let more : w.made ≡ v.made ++ call ∷ [] = a.made ∙ ap (λ (c : Call). v.made ++ c ∷ []) (asked_is v w number answer call client_run before a) in
     let plan = made_plan v w number answer call client_run by held before a in
     let called : a.entry.call ≡ call = a.called ∙ asked_is v w number answer call client_run before a in
@@ -137,7 +137,7 @@ serves_did v w number answer call client_run by held free before a history ended
 
 -- a new run serves a desk of the client that has made no call
 pub serves_new : (v : DeskView) (client_run : ClientRun) → client_run.client ≡ v.client → client_run.waits ≡ None → v.made ≡ [] → SeesHistory v
-    → ((r : Run) → run v.setup v.seen ≡ Some r → waits r.volume v.client ≡ false) → IsLined v.client (todo_in client_run) → Serves v client_run
+    → ((r : Run) → run v.setup v.seen ≡ Some r → waits r.volume v.client ≡ false) → IsLined v.client (todo_in client_run) → FitsDesk v client_run
 serves_new v client_run by free none history quiet lined = record {
   served = by;
   lined = subst (λ (made : List Call). IsLined v.client (made ++ todo_in client_run)) (sym none) lined;
@@ -155,7 +155,7 @@ some_at [] place within = absurd (omega arith)
 some_at (call ∷ calls) zero within = (call, refl)
 some_at (call ∷ calls) (suc place) within = some_at calls place (omega arith)
 
-pub done_left : (v : DeskView) (client_run : ClientRun) → Serves v client_run → todo_in client_run ≡ [] → HasLeft v.made
+pub done_left : (v : DeskView) (client_run : ClientRun) → FitsDesk v client_run → todo_in client_run ≡ [] → HasLeft v.made
 done_left v client_run s done =
     let plan : planned v.made client_run ≡ v.made = ap (λ (rest : List Call). v.made ++ rest) done ∙ append-nil v.made in
     let some : 1 ≤ length v.made = subst (λ (calls : List Call). 1 ≤ length calls) plan s.lined.some in
@@ -166,7 +166,7 @@ done_left v client_run s done =
       leaves = (s.lined.leaves (length v.made - 1) last.0 (ap (λ (calls : List Call). slice_get calls (length v.made - 1)) plan ∙ last.1)).1 (let whole : length (planned v.made client_run) ≡ length v.made = ap length plan in omega arith);
     }
 
-pub left_done : (v : DeskView) (client_run : ClientRun) → Serves v client_run → HasLeft v.made → todo_in client_run ≡ []
+pub left_done : (v : DeskView) (client_run : ClientRun) → FitsDesk v client_run → HasLeft v.made → todo_in client_run ≡ []
 left_done v client_run s left =
     let there : slice_get (planned v.made client_run) left.place ≡ Some left.call = given_longer v.made (todo_in client_run) left.place left.call left.there in
     let last : left.place + 1 ≡ length (planned v.made client_run) = (s.lined.leaves left.place left.call there).0 left.leaves in

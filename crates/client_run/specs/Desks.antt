@@ -7,7 +7,7 @@ use Rattle.fsa_model.specs.History.{HistoryEntry}
 use Rattle.fsa_model.specs.Setup.{Setup}
 use Rattle.history_lock.specs.History.{Begins}
 use Rattle.client_run.specs.Calls.{calls_in}
-use Rattle.client_run.specs.Shown.{Answers, IsHistory}
+use Rattle.client_run.specs.Shown.{LastTurnAnswered, IsRunOfDistinctCalls}
 
 -- what a desk shows of itself
 pub record DeskView : Type 0 where
@@ -39,11 +39,11 @@ pub record Asks (what : What) (number : ℕ) (answer : Answer) (v w : DeskView) 
   pub seen : w.seen ≡ front ++ entry ∷ []
   pub after : Begins v.seen front
   pub called : entry.call ≡ record { client = v.client; number = number; what = what }
-  pub answers : Answers w.setup w.seen answer
+  pub answers : LastTurnAnswered w.setup w.seen answer
   pub loads : v.loads ≤ w.loads
   pub lost : v.lost ≤ w.lost
 
 -- what is seen is a history, and the calls made are the client's calls in it
 pub record SeesHistory (v : DeskView) : Type 0 where
-  pub history : IsHistory v.setup v.seen
+  pub history : IsRunOfDistinctCalls v.setup v.seen
   pub own : v.made ≡ calls_in v.client v.seen

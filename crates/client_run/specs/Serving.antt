@@ -27,7 +27,7 @@ holding call run = record run { held = Some call }
 
 -- The run is of the desk's client, and the calls made are the first of its calls. Each of them stands where no wait
 -- of the client was pending, and none is pending now but the one for which the run waits
-pub record Serves (desk : DeskView) (client_run : ClientRun) : Type 0 where
+pub record FitsDesk (desk : DeskView) (client_run : ClientRun) : Type 0 where
   pub served : client_run.client ≡ desk.client
   pub lined : IsLined desk.client (planned desk.made client_run)
   pub sees : SeesHistory desk
@@ -37,7 +37,7 @@ pub record Serves (desk : DeskView) (client_run : ClientRun) : Type 0 where
   pub waited : (r : Run) → run desk.setup desk.seen ≡ Some r → WaitsOnlyBy r.volume desk.client client_run.waits
 
 -- the next call was made
-pub record Makes (v w : DeskView) (before after : ClientRun) : Type 0 where
+pub record MakesNextCall (v w : DeskView) (before after : ClientRun) : Type 0 where
   pub call : Call
   pub more : w.made ≡ v.made ++ call ∷ []
   pub next : todo_in before ≡ call ∷ todo_in after
@@ -69,7 +69,7 @@ pub record StaysNext (v w : DeskView) (before after : ClientRun) : Type 0 where
 
 -- what the step answers
 abbrev pub Steps : DeskView → DeskView → ClientRun → ClientRun → Step → Type 0
-Steps v w before after Moved = Makes v w before after ⊎ WaitEnds v w before after
+Steps v w before after Moved = MakesNextCall v w before after ⊎ WaitEnds v w before after
 Steps v w before after Waiting = WaitPends v w before after
 Steps v w before after Busy = (v.lost + 1 ≤ w.lost) × StaysNext v w before after
 Steps v w before after Ended = todo_in after ≡ []

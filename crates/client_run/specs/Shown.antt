@@ -15,12 +15,12 @@ use Rattle.fsa_model.specs.Volume.{Volume}
 use Rattle.fsa_model.specs.Waiting.{is_wait, waits}
 
 -- the turns of these entries can be made, and no call is there twice
-pub record IsHistory (setup : Setup) (entries : List HistoryEntry) : Type 0 where
+pub record IsRunOfDistinctCalls (setup : Setup) (entries : List HistoryEntry) : Type 0 where
   pub runs : IsSome (run setup entries)
   pub differ : CallsDiffer entries
 
 -- the turn that the last entry stands for answered its own call so
-pub record Answers (setup : Setup) (seen : List HistoryEntry) (answer : Answer) : Type 0 where
+pub record LastTurnAnswered (setup : Setup) (seen : List HistoryEntry) (answer : Answer) : Type 0 where
   pub state : Run
   pub runs : run setup seen ≡ Some state
   pub out : TurnOut

@@ -4,7 +4,7 @@ ghost use Rattle.fsa_types.specs.declared.request.Call.{Call};
 ghost use Rattle.fsa_model.specs.Engine.{ends_at_once};
 ghost use Rattle.fsa_model.specs.Waiting.{is_wait};
 ghost use Rattle.client_run.specs.Calls.{HasLeft, IsLined};
-ghost use Rattle.client_run.specs.Serving.{Serves, Steps, holding, planned, todo_in};
+ghost use Rattle.client_run.specs.Serving.{FitsDesk, Steps, holding, planned, todo_in};
 ghost use Rattle.client_run.specs.declared.run.Step.TheVariants.{Ended};
 
 use crate::desk::Desk;
@@ -78,12 +78,12 @@ impl ClientRun {
     // Looks whether the wait of this number has ended.
     fn wait<D: Desk>(&mut self, alloc: Global, desk: &mut D, number: u32) -> Step
         requires open { D.is_open desk.old }
-        requires serves { Serves (D.view desk.old) self.old }
+        requires serves { FitsDesk (D.view desk.old) self.old }
         requires waits { self.old.waits ≡ Some number }
         ensures open { D.is_open desk.new }
         ensures stays { D.stays desk.old desk.new }
         ensures same { ((D.view desk.new).setup ≡ (D.view desk.old).setup) × ((D.view desk.new).client ≡ (D.view desk.old).client) }
-        ensures serves { Serves (D.view desk.new) self.new }
+        ensures serves { FitsDesk (D.view desk.new) self.new }
         ensures plan { planned (D.view desk.new).made self.new ≡ planned (D.view desk.old).made self.old }
         ensures steps { Steps (D.view desk.old) (D.view desk.new) self.old self.new result }
         ensures goes_on { todo_in self.new ≡ todo_in self.old }
@@ -104,11 +104,11 @@ impl ClientRun {
     fn ask<D: Desk>(&mut self, alloc: Global, desk: &mut D, call: Call) -> Step
         requires next { (self.old.held ≡ None) × (self.old.waits ≡ None) }
         requires open { D.is_open desk.old }
-        requires serves { Serves (D.view desk.old) (holding call self.old) }
+        requires serves { FitsDesk (D.view desk.old) (holding call self.old) }
         ensures open { D.is_open desk.new }
         ensures stays { D.stays desk.old desk.new }
         ensures same { ((D.view desk.new).setup ≡ (D.view desk.old).setup) × ((D.view desk.new).client ≡ (D.view desk.old).client) }
-        ensures serves { Serves (D.view desk.new) self.new }
+        ensures serves { FitsDesk (D.view desk.new) self.new }
         ensures plan { planned (D.view desk.new).made self.new ≡ planned (D.view desk.old).made (holding call self.old) }
         ensures steps { Steps (D.view desk.old) (D.view desk.new) (holding call self.old) self.new result }
         ensures ended { (result ≡ Ended) ↔ (todo_in self.new ≡ []) }
@@ -158,12 +158,12 @@ impl ClientRun {
     /// The gate is passed once before each call's first try.
     pub fn step<D: Desk, G: Gate>(&mut self, alloc: Global, desk: &mut D, gate: &G) -> Step
         requires open { D.is_open desk.old }
-        requires serves { Serves (D.view desk.old) self.old }
+        requires serves { FitsDesk (D.view desk.old) self.old }
         requires gate { (number : ℕ) → G.is_for gate.now self.old.client number }
         ensures open { D.is_open desk.new }
         ensures stays { D.stays desk.old desk.new }
         ensures same { ((D.view desk.new).setup ≡ (D.view desk.old).setup) × ((D.view desk.new).client ≡ (D.view desk.old).client) }
-        ensures serves { Serves (D.view desk.new) self.new }
+        ensures serves { FitsDesk (D.view desk.new) self.new }
         ensures plan { planned (D.view desk.new).made self.new ≡ planned (D.view desk.old).made self.old }
         ensures steps { Steps (D.view desk.old) (D.view desk.new) self.old self.new result }
         ensures ended { (result ≡ Ended) ↔ HasLeft (D.view desk.new).made }

@@ -19,7 +19,7 @@ use Rattle.fsa_model.specs.Frame.{FitsReply, FramedTo, InFrame, KeepsFrame, Only
 use Rattle.fsa_model.specs.LineCalls.{IsLineCall, ticks_fit}
 use Rattle.fsa_model.specs.Once.{IsOnce, how_many, is_end, made, times}
 use Rattle.fsa_model.specs.Outcome.{Outcome, Done, Stay, Hold}
-use Rattle.fsa_model.specs.Settling.{Extends, HasGiven, HasOneOplockEach, is_call_of, unbroken}
+use Rattle.fsa_model.specs.Settling.{AddsEnds, HasGiven, HasOneOplockEach, is_call_of, unbroken}
 use Rattle.fsa_model.specs.Try.{try}
 use Rattle.fsa_model.specs.Setup.{Setup}
 use Rattle.fsa_model.specs.Sound.{PointFits}
@@ -28,7 +28,7 @@ use Rattle.fsa_model.specs.Waiting.{blocker_lives, has_ended, is_breaking}
 use Rattle.fsa_model.proofs.CountLaws.{and_right, how_many-append, how_many-filter_le, how_many-map, how_many-none, how_many-same, how_many-some, how_many-split, how_many-weaker, some-how_many}
 use Rattle.fsa_model.proofs.FrameLaws.{AddsNothing, AddsNothing-only_breaks}
 use Rattle.fsa_model.proofs.GrantLaws.{StaysUnder}
-use Rattle.fsa_model.proofs.OnceLaws.{Extends-length, IsOnce-kept, is_same-refl, length-filter_split}
+use Rattle.fsa_model.proofs.OnceLaws.{AddsEnds-length, IsOnce-kept, is_same-refl, length-filter_split}
 use Rattle.fsa_model.proofs.RowLaws.{change_at}
 use Rattle.fsa_model.proofs.TryFrame.{try-frame}
 use Rattle.fsa_model.proofs.TryLaws.{AreLiving, FewNumbers, KeepsNumbers, SameNumbers}
@@ -71,7 +71,7 @@ all-append test items last all is =
 
 -- ---- ends and numbers
 
-ended-later : (v w : Volume) (client number : ℕ) → Extends v.ended w.ended → IsTrue (has_ended v client number) → IsTrue (has_ended w client number)
+ended-later : (v w : Volume) (client number : ℕ) → AddsEnds v.ended w.ended → IsTrue (has_ended v client number) → IsTrue (has_ended w client number)
 ended-later v w client number extends is =
     some-how_many (is_end client number) w.ended
     (let some = how_many-some (is_end client number) v.ended is in
@@ -89,8 +89,8 @@ own-ended v client number reply =
     last : EndOf
     last = record { client = client; number = number; reply = reply }
 
-Extends-end : (v : Volume) (client number : ℕ) (reply : Reply) → Extends v.ended (with_end v client number reply).ended
-Extends-end v client number reply = record { more = record { client = client; number = number; reply = reply } ∷ []; is = refl }
+AddsEnds-end : (v : Volume) (client number : ℕ) (reply : Reply) → AddsEnds v.ended (with_end v client number reply).ended
+AddsEnds-end v client number reply = record { more = record { client = client; number = number; reply = reply } ∷ []; is = refl }
 
 pub GivesUpTo-more : (v : Volume) (few many : ℕ) → few ≤ many → GivesUpTo v few → GivesUpTo v many
 GivesUpTo-more v few many more gives =
@@ -208,7 +208,7 @@ pub record Ends (call : Call) (v w : Volume) : Type 0 where
   pub base : SameBase v w
   pub points : PointsFit w
   pub pending : (test : ℕ × Pending → Bool) → how_many test w.pending ≤ how_many test v.pending
-  pub ended : Extends v.ended w.ended
+  pub ended : AddsEnds v.ended w.ended
   pub handles : (test : Handle → Bool) → All (λ entry. IsTrue (test (unenumerated entry.1))) v.handles
       → ((handle : Handle) → handle.client ≡ call.client → handle.number ≡ call.number → IsTrue (test (unenumerated handle))) → All (λ entry. IsTrue (test (unenumerated entry.1))) w.handles
   pub gives : GivesUpTo w (length v.ended + 2)
@@ -295,7 +295,7 @@ record Alike (v w : Volume) : Type 0 where
   base : SameBase v w
   points : PointsFit w
   pending : (test : ℕ × Pending → Bool) → how_many test w.pending ≤ how_many test v.pending
-  ended : Extends v.ended w.ended
+  ended : AddsEnds v.ended w.ended
   times : (client number : ℕ) → times client number w ≡ times client number v
   handles : (test : ℕ × Handle → Bool) → All (λ entry. IsTrue (test entry)) v.handles → All (λ entry. IsTrue (test entry)) w.handles
   same : SameNumbers v w
@@ -303,7 +303,7 @@ record Alike (v w : Volume) : Type 0 where
 
 serves-alike : (v w : Volume) (most : ℕ) → Serves v → Alike v w → w.last_break + unbroken w ≤ most → ServesWithin w most
 serves-alike v w most serves alike few =
-    let longer = Extends-length alike.ended in
+    let longer = AddsEnds-length alike.ended in
     let up : GivesUpTo v (length v.ended + 1) = serves.gives in
     record {
       points = alike.points;
@@ -407,7 +407,7 @@ record Lasts (v w : Volume) : Type 0 where
   base : SameBase v w
   points : PointsFit w
   pending : (test : ℕ × Pending → Bool) → how_many test w.pending ≤ how_many test v.pending
-  ended : Extends v.ended w.ended
+  ended : AddsEnds v.ended w.ended
   gives : GivesUpTo w (length v.ended + 2)
   once : IsOnce w
   breaks : w.last_break + unbroken w ≤ made w
@@ -417,7 +417,7 @@ end-serves : (v w : Volume) (client number : ℕ) (reply : Reply) → Serves v �
     → All (λ entry. IsTrue (has_ended (with_end w client number reply) entry.1.client entry.1.number)) w.handles → All (λ entry. IsTrue (nat_lt 0 entry.1.number)) w.handles
     → Serves (with_end w client number reply)
 end-serves v w client number reply serves lasts once more handles opened =
-    let longer = Extends-length lasts.ended in
+    let longer = AddsEnds-length lasts.ended in
     let one = length-append w.ended (record { client = client; number = number; reply = reply } ∷ []) in
     record {
       points = lasts.points;
@@ -449,7 +449,7 @@ Serves-ends v w call reply serves numbered ends once more =
     (record { base = ends.base; points = ends.points; pending = ends.pending; ended = ends.ended; gives = ends.gives; once = ends.once; breaks = ends.breaks }) once more
     (ends.handles (λ handle. has_ended after handle.client handle.number)
     (All-each (λ (entry : ℕ × Handle). IsTrue (has_ended v entry.1.client entry.1.number)) (λ (entry : ℕ × Handle). IsTrue (has_ended after entry.1.client entry.1.number))
-    (λ entry is. ended-later w after entry.1.client entry.1.number (Extends-end w call.client call.number reply) (ended-later v w entry.1.client entry.1.number ends.ended is)) v.handles serves.handles)
+    (λ entry is. ended-later w after entry.1.client entry.1.number (AddsEnds-end w call.client call.number reply) (ended-later v w entry.1.client entry.1.number ends.ended is)) v.handles serves.handles)
     (λ handle client number. rw (client, number) (own-ended w call.client call.number reply)))
     (ends.handles (λ handle. nat_lt 0 handle.number) serves.opened (λ handle client number. rw number numbered))
   where
@@ -471,7 +471,7 @@ Serves-over v client number reply serves once more =
       breaks = serves.breaks;
     }) once more
     (All-each (λ (entry : ℕ × Handle). IsTrue (has_ended v entry.1.client entry.1.number)) (λ (entry : ℕ × Handle). IsTrue (has_ended (with_end v client number reply) entry.1.client entry.1.number))
-    (λ entry is. ended-later v (with_end v client number reply) entry.1.client entry.1.number (Extends-end v client number reply) is) v.handles serves.handles)
+    (λ entry is. ended-later v (with_end v client number reply) entry.1.client entry.1.number (AddsEnds-end v client number reply) is) v.handles serves.handles)
     serves.opened
 
 -- a call that becomes pending

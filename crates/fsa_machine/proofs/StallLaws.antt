@@ -12,7 +12,7 @@ use Rattle.fsa_model.specs.Close.{with_calls_ended}
 use Rattle.fsa_model.specs.Turn.{answered, ends_between, turn_number, volume_after}
 use Rattle.fsa_model.specs.Volume.{Pending, Volume}
 use Rattle.fsa_model.specs.Waiting.{is_wait, is_asked_before, all_wait, waits_in_order, with_stalled}
-use Rattle.fsa_model.proofs.OnceLaws.{Extends-same, Extends-next, Extends-length, ended-calls_ended}
+use Rattle.fsa_model.proofs.OnceLaws.{AddsEnds-same, AddsEnds-next, AddsEnds-length, ended-calls_ended}
 use Rattle.fsa_model.proofs.LoopLaws.{Reaches-keeping}
 use Rattle.fsa_model.proofs.TurnLaws.{Adds, Adds-answered, try-keeps, tried-begins}
 use Rattle.fsa_model.specs.Outcome.{Outcome, Done, Stay, Hold}
@@ -30,7 +30,7 @@ use Rattle.fsa_types.specs.declared.request.What.TheVariants.{WaitFor}
 use Rattle.fsa_model.specs.Edits.{with_end}
 use Rattle.fsa_model.specs.Once.{IsOnce, how_many, made, times}
 use Rattle.fsa_model.specs.Waiting.{blocker_lives, is_pending}
-use Rattle.fsa_model.specs.Settling.{Extends, MayTakeUp, MayTurn, Reaches, is_call_of, is_under, may_be_held}
+use Rattle.fsa_model.specs.Settling.{AddsEnds, MayTakeUp, MayTurn, Reaches, is_call_of, is_under, may_be_held}
 use Rattle.fsa_model.proofs.CountLaws.{how_many-filter_le, how_many-in_order, how_many-weaker, none-how_many}
 use Rattle.fsa_model.proofs.OnceLaws.{IsOnce-kept, is_same-refl, pending-with_end, times-pending_ends}
 use Rattle.fsa_model.proofs.TurnLaws.{TriedTo}
@@ -43,11 +43,11 @@ pub record Stalls (v w : Volume) (left : List CallId) (before now : List EndOf) 
   pub calls : List (ℕ × Pending)
   pub ids : left ≡ map id_of calls
   pub goes : with_calls_ended (λ _. Stalled) calls w ≡ with_calls_ended (λ _. Stalled) (waits_in_order v) v
-  pub extends : Extends v.ended w.ended
+  pub extends : AddsEnds v.ended w.ended
   pub told : now ≡ before ++ ends_between v w
 
 pub Stalls-begins : (v : Volume) (left : List CallId) (before : List EndOf) → left ≡ map id_of (waits_in_order v) → Stalls v v left before before
-Stalls-begins v left before is = record { calls = waits_in_order v; ids = is; goes = refl; extends = Extends-same v.ended; told = told-none v before }
+Stalls-begins v left before is = record { calls = waits_in_order v; ids = is; goes = refl; extends = AddsEnds-same v.ended; told = told-none v before }
 
 pub Stalls-step : (v w x : Volume) (id : CallId) (left more : List CallId) (before now after : List EndOf) → Stalls v w left before now → left ≡ id ∷ more
     → x ≡ with_end w id.client id.number (record { status = Stalled; body = Nothing }) → after ≡ now ++ record { client = id.client; number = id.number; reply = record { status = Stalled; body = Nothing } } ∷ []
@@ -60,12 +60,12 @@ Stalls-step v w x id left more before now after stalls cut is told = go stalls.c
         let same : id ≡ id_of entry = cc in
         let rest : more ≡ map id_of calls = cc in
         let own : x ≡ with_end w (id_of entry).client (id_of entry).number (record { status = Stalled; body = Nothing }) = is ∙ ap (λ (i : CallId). with_end w i.client i.number (record { status = Stalled; body = Nothing })) same in
-        let longer : Extends w.ended x.ended = record { more = record { client = id.client; number = id.number; reply = record { status = Stalled; body = Nothing } } ∷ []; is = ap (λ (u : Volume). u.ended) is } in
+        let longer : AddsEnds w.ended x.ended = record { more = record { client = id.client; number = id.number; reply = record { status = Stalled; body = Nothing } } ∷ []; is = ap (λ (u : Volume). u.ended) is } in
         record {
           calls = calls;
           ids = rest;
           goes = ap (λ (u : Volume). with_calls_ended (λ _. Stalled) calls u) own ∙ goes;
-          extends = Extends-next stalls.extends longer;
+          extends = AddsEnds-next stalls.extends longer;
           told = told-end w x id.client id.number (record { status = Stalled; body = Nothing }) now after is told ∙ ap (λ (ends : List EndOf). ends ++ ends_between w x) stalls.told
               ∙ append_assoc before (ends_between v w) (ends_between w x) ∙ ap (λ (ends : List EndOf). before ++ ends) (ends-joined v w x stalls.extends longer);
         }
@@ -115,16 +115,16 @@ drop-past {X} xs ys i past same = subst (λ (zs : List X). drop i zs ≡ []) sam
 
 -- ---- the settlement
 
-stalled-extends : (w : Volume) → Extends w.ended (with_stalled w).ended
+stalled-extends : (w : Volume) → AddsEnds w.ended (with_stalled w).ended
 stalled-extends w = elim (cases_Bool (all_wait w)) [
   | inl all ↦ rw all (ended-calls_ended (λ _. Stalled) (waits_in_order w) w)
-  | inr some ↦ rw some (Extends-same w.ended)
+  | inr some ↦ rw some (AddsEnds-same w.ended)
 ]
 
 pub settle-told : (v w x : Volume) (names : List CallId) (before told now : List EndOf) → Reaches v names w → x ≡ with_stalled w → told ≡ before ++ ends_between v w → now ≡ told ++ ends_between w x → now ≡ before ++ ends_between v x
 settle-told v w x names before told now reaches is told_is now_is =
     let keeping = Reaches-keeping v w names reaches in
-    let longer : Extends w.ended x.ended = subst (λ (u : Volume). Extends w.ended u.ended) (sym is) (stalled-extends w) in
+    let longer : AddsEnds w.ended x.ended = subst (λ (u : Volume). AddsEnds w.ended u.ended) (sym is) (stalled-extends w) in
     now_is ∙ ap (λ (ends : List EndOf). ends ++ ends_between w x) told_is ∙ append_assoc before (ends_between v w) (ends_between w x)
     ∙ ap (λ (ends : List EndOf). before ++ ends) (ends-joined v w x keeping.ended longer)
 
@@ -132,8 +132,8 @@ settle-told v w x names before told now reaches is told_is now_is =
 pub settle-longer : (v w x : Volume) (names : List CallId) → Reaches v names w → x ≡ with_stalled w → length v.ended ≤ length x.ended
 settle-longer v w x names reaches is =
     let keeping = Reaches-keeping v w names reaches in
-    let first = Extends-length keeping.ended in
-    let second = Extends-length (stalled-extends w) in
+    let first = AddsEnds-length keeping.ended in
+    let second = AddsEnds-length (stalled-extends w) in
     let all = ap (λ (u : Volume). length u.ended) is in
     omega arith
 
@@ -244,7 +244,7 @@ pub record OwnTries (v : Volume) (call : Call) (turn : ℕ) (outcome : Outcome) 
 pub own-tries : (v : Volume) (call : Call) (turn : ℕ) (outcome : Outcome) → Serves v → MayTry v call → MayTurn v → times call.client call.number v ≡ 0 → try v call turn ≡ outcome → turn ≡ turn_number v → OwnTries v call turn outcome
 own-tries v call turn outcome serves may_try may new tried number =
     subst (λ (o : Outcome). OwnTries v call turn o) tried (subst (λ (t : ℕ). OwnTries v call t (try v call t)) (sym number) (record {
-      begins = Extends-length (tried-begins v (turn_number v) call.what (try v call (turn_number v)) keeps);
+      begins = AddsEnds-length (tried-begins v (turn_number v) call.what (try v call (turn_number v)) keeps);
       few = few_of (try v call (turn_number v)) adds.made;
       made = adds.made;
       replies = replies v call (turn_number v) (try v call (turn_number v)) serves refl;

@@ -38,7 +38,7 @@ use Rattle.fsa_model.proofs.TurnLaws.{Turns, turn-turns}
 use Rattle.fsa_machine.specs.Kept.{entry_of}
 use Rattle.fsa_machine.specs.declared.kept.KeptTurn.{KeptTurn}
 use Rattle.fsa_machine.specs.Serves.{KnowsWaited, MayTry, SameBase, Serves, ServesOn, most_entries, most_turns}
-use Rattle.fsa_machine.specs.Stands.{CallsNumbered, GaveOut, Stands, calls_in, ended_with_list, reply_in, setup_in}
+use Rattle.fsa_machine.specs.MachineView.{CallsNumbered, GaveOut, RunsTo, calls_in, ended_with_list, reply_in, setup_in}
 use Rattle.fsa_machine.proofs.LookLaws.{some-found}
 use Rattle.fsa_machine.proofs.ServeLaws.{All-each, GivesUpTo-more, Serves-fresh, few-oplocks}
 
@@ -100,10 +100,10 @@ differ entries numbered client number = (let is = numbered client number in elim
 ])
 
 -- what a run keeps
-pub stands-runs : (setup : Setup) (entries : List HistoryEntry) (outs : List TurnOut) (v : Volume) → Stands setup entries outs v → Runs (fresh setup) entries v
+pub stands-runs : (setup : Setup) (entries : List HistoryEntry) (outs : List TurnOut) (v : Volume) → RunsTo setup entries outs v → Runs (fresh setup) entries v
 stands-runs setup entries outs v stands = subst (λ (u : Volume). Runs (fresh setup) entries u) stands.is (run-runs setup entries stands.state (differ entries stands.numbered) stands.runs)
 
-stands-times : (setup : Setup) (entries : List HistoryEntry) (outs : List TurnOut) (v : Volume) (client number : ℕ) → Stands setup entries outs v → times client number v ≡ how_many (is_entry_of client number) entries
+stands-times : (setup : Setup) (entries : List HistoryEntry) (outs : List TurnOut) (v : Volume) (client number : ℕ) → RunsTo setup entries outs v → times client number v ≡ how_many (is_entry_of client number) entries
 stands-times setup entries outs v client number stands = (let all : times client number v ≡ 0 + how_many (is_entry_of client number) entries = Runs.times (stands-runs setup entries outs v stands) client number in omega arith)
 
 -- ---- the try of the next call
@@ -162,7 +162,7 @@ pub record AsksTurn (v : Volume) (call : Call) : Type 0 where
   pub number : 0 < call.number
   pub new : times call.client call.number v ≡ 0
 
-pub asks-turn : (setup : Setup) (entries : List HistoryEntry) (outs : List TurnOut) (v : Volume) (call : Call) → Stands setup entries outs v → IsLineCall (length v.clients) call
+pub asks-turn : (setup : Setup) (entries : List HistoryEntry) (outs : List TurnOut) (v : Volume) (call : Call) → RunsTo setup entries outs v → IsLineCall (length v.clients) call
     → call.number ≡ calls_of call.client (calls_in entries) + 1 → AsksTurn v call
 asks-turn setup entries outs v call stands asked next =
     let run = stands-runs setup entries outs v stands in
@@ -187,11 +187,11 @@ asks-turn setup entries outs v call stands asked next =
 
 -- ---- one more turn
 
-pub Stands-turn : (setup : Setup) (entries after : List HistoryEntry) (outs later : List TurnOut) (v w : Volume) (call : Call) (starved : List CallId) (out : TurnOut) → Stands setup entries outs v
+pub RunsTo-turn : (setup : Setup) (entries after : List HistoryEntry) (outs later : List TurnOut) (v w : Volume) (call : Call) (starved : List CallId) (out : TurnOut) → RunsTo setup entries outs v
     → length entries < most_entries → call.number ≡ calls_of call.client (calls_in entries) + 1 → ServesOn v w
     → turn v call starved ≡ Some (record { volume = w; out = out }) → after ≡ entries ++ record { call = call; starved = starved } ∷ [] → later ≡ outs ++ out ∷ []
-    → Stands setup after later w
-Stands-turn setup entries after outs later v w call starved out stands few next serves turned is given =
+    → RunsTo setup after later w
+RunsTo-turn setup entries after outs later v w call starved out stands few next serves turned is given =
     let t : Turned = record { volume = w; out = out } in
     let before = stands-runs setup entries outs v stands in
     let none : times call.client call.number v ≡ 0 = stands-times setup entries outs v call.client call.number stands ∙ new-call entries call.client call.number stands.numbered next in
@@ -200,7 +200,7 @@ Stands-turn setup entries after outs later v w call starved out stands few next 
     let entry : HistoryEntry = record { call = call; starved = starved } in
     let goes : run setup (entries ++ entry ∷ []) ≡ Some (with_turn stands.state t) = run-push setup entries entry stands.state t stands.runs from in
     let less : length entries < 1000000 = few in
-    subst (λ (all : List HistoryEntry). Stands setup all later w) (sym is) (record {
+    subst (λ (all : List HistoryEntry). RunsTo setup all later w) (sym is) (record {
       state = with_turn stands.state t;
       runs = goes;
       is = refl;
@@ -214,23 +214,23 @@ Stands-turn setup entries after outs later v w call starved out stands few next 
 pub same-setup : (v w : Volume) → SameBase v w → setup_in w ≡ setup_in v
 same-setup v w base = rw (base.table, base.clients) refl
 
-pub Stands-next : (entries after : List HistoryEntry) (outs later : List TurnOut) (v w : Volume) (call : Call) (starved : List CallId) (out : TurnOut) → Stands (setup_in v) entries outs v
+pub RunsTo-next : (entries after : List HistoryEntry) (outs later : List TurnOut) (v w : Volume) (call : Call) (starved : List CallId) (out : TurnOut) → RunsTo (setup_in v) entries outs v
     → length entries < most_entries → call.number ≡ calls_of call.client (calls_in entries) + 1 → ServesOn v w
     → turn v call starved ≡ Some (record { volume = w; out = out }) → after ≡ entries ++ record { call = call; starved = starved } ∷ [] → later ≡ outs ++ out ∷ []
-    → Stands (setup_in w) after later w
-Stands-next entries after outs later v w call starved out stands few next serves turned is given =
-    subst (λ (setup : Setup). Stands setup after later w) (sym (same-setup v w serves.base)) (Stands-turn (setup_in v) entries after outs later v w call starved out stands few next serves turned is given)
+    → RunsTo (setup_in w) after later w
+RunsTo-next entries after outs later v w call starved out stands few next serves turned is given =
+    subst (λ (setup : Setup). RunsTo setup after later w) (sym (same-setup v w serves.base)) (RunsTo-turn (setup_in v) entries after outs later v w call starved out stands few next serves turned is given)
 
 -- a list of entries that isn't as long as the longest is shorter
 pub is-shorter : (length_kept : ℕ) (entries : List HistoryEntry) → length entries ≤ most_entries → length entries ≡ length_kept → length_kept ≢ 1000000 → length entries < most_entries
 is-shorter length_kept entries few same isnt = (let most : length entries ≤ 1000000 = few in omega arith)
 
 -- the last turn gave this out
-pub Stands-gave : (setup : Setup) (entries : List HistoryEntry) (before : List TurnOut) (out : TurnOut) (v : Volume) → Stands setup entries (before ++ out ∷ []) v → GaveOut setup entries out
-Stands-gave setup entries before out v stands = record { state = stands.state; runs = stands.runs; before = before; last = stands.gave }
+pub RunsTo-gave : (setup : Setup) (entries : List HistoryEntry) (before : List TurnOut) (out : TurnOut) (v : Volume) → RunsTo setup entries (before ++ out ∷ []) v → GaveOut setup entries out
+RunsTo-gave setup entries before out v stands = record { state = stands.state; runs = stands.runs; before = before; last = stands.gave }
 
-pub Stands-begins : (setup : Setup) (v : Volume) → v ≡ fresh setup → Stands setup [] [] v
-Stands-begins setup v is = subst (λ (u : Volume). Stands setup [] [] u) (sym is) (record {
+pub RunsTo-begins : (setup : Setup) (v : Volume) → v ≡ fresh setup → RunsTo setup [] [] v
+RunsTo-begins setup v is = subst (λ (u : Volume). RunsTo setup [] [] u) (sym is) (record {
   state = record { volume = fresh setup; outs = [] };
   runs = refl;
   is = refl;
@@ -252,27 +252,27 @@ Stands-begins setup v is = subst (λ (u : Volume). Stands setup [] [] u) (sym is
 
 -- ---- what is said of the history
 
-pub same-run : (setup : Setup) (entries : List HistoryEntry) (outs : List TurnOut) (v : Volume) (r : Run) → Stands setup entries outs v → run setup entries ≡ Some r → (r.volume ≡ v) × (r.outs ≡ outs)
+pub same-run : (setup : Setup) (entries : List HistoryEntry) (outs : List TurnOut) (v : Volume) (r : Run) → RunsTo setup entries outs v → run setup entries ≡ Some r → (r.volume ≡ v) × (r.outs ≡ outs)
 same-run setup entries outs v r stands is =
     let same : stands.state ≡ r = some_equal stands.state r (sym stands.runs ∙ is) in
     (ap (λ (s : Run). s.volume) (sym same) ∙ stands.is, ap (λ (s : Run). s.outs) (sym same) ∙ stands.gave)
 
-pub Stands-none_ready : (setup : Setup) (entries : List HistoryEntry) (outs : List TurnOut) (v : Volume) (r : Run) → Stands setup entries outs v → run setup entries ≡ Some r → NoneReady r.volume
-Stands-none_ready setup entries outs v r stands is = run-none_ready setup entries r (differ entries stands.numbered) is
+pub RunsTo-none_ready : (setup : Setup) (entries : List HistoryEntry) (outs : List TurnOut) (v : Volume) (r : Run) → RunsTo setup entries outs v → run setup entries ≡ Some r → NoneReady r.volume
+RunsTo-none_ready setup entries outs v r stands is = run-none_ready setup entries r (differ entries stands.numbered) is
 
-pub Stands-ends_once : (setup : Setup) (entries : List HistoryEntry) (outs : List TurnOut) (v : Volume) (r : Run) → Stands setup entries outs v → run setup entries ≡ Some r → EndsOnce entries r
-Stands-ends_once setup entries outs v r stands is = run-ends_once setup entries r (differ entries stands.numbered) is
+pub RunsTo-ends_once : (setup : Setup) (entries : List HistoryEntry) (outs : List TurnOut) (v : Volume) (r : Run) → RunsTo setup entries outs v → run setup entries ≡ Some r → EndsOnce entries r
+RunsTo-ends_once setup entries outs v r stands is = run-ends_once setup entries r (differ entries stands.numbered) is
 
-pub Stands-released : (setup : Setup) (entries after : List HistoryEntry) (entry : HistoryEntry) (outs : List TurnOut) (w : Volume) (r : Run) → Stands setup after outs w → after ≡ entries ++ entry ∷ [] → run setup entries ≡ Some r
+pub RunsTo-released : (setup : Setup) (entries after : List HistoryEntry) (entry : HistoryEntry) (outs : List TurnOut) (w : Volume) (r : Run) → RunsTo setup after outs w → after ≡ entries ++ entry ∷ [] → run setup entries ≡ Some r
     → TakesReleased r.volume entry.call entry.starved
-Stands-released setup entries after entry outs w r stands is runs = run-released setup entries entry r (subst (λ (all : List HistoryEntry). CallsDiffer all) is (differ after stands.numbered)) runs
+RunsTo-released setup entries after entry outs w r stands is runs = run-released setup entries entry r (subst (λ (all : List HistoryEntry). CallsDiffer all) is (differ after stands.numbered)) runs
 
 -- what a turn says of the calls that it takes up
-pub released-turn : (before setup : Setup) (entries after : List HistoryEntry) (outs : List TurnOut) (w : Volume) (result : Result Out (Call × Why)) (call : Call) → Stands setup after outs w → setup ≡ before
+pub released-turn : (before setup : Setup) (entries after : List HistoryEntry) (outs : List TurnOut) (w : Volume) (result : Result Out (Call × Why)) (call : Call) → RunsTo setup after outs w → setup ≡ before
     → IfOk result (λ out. after ≡ entries ++ record { call = call; starved = out.starved.items } ∷ [])
     → IfOk result (λ out. (r : Run) → run before entries ≡ Some r → TakesReleased r.volume call out.starved.items)
 released-turn before setup entries after outs w (Ok out) call stands same is = λ r runs.
-    Stands-released setup entries after (record { call = call; starved = out.starved.items }) outs w r stands is (subst (λ (s : Setup). run s entries ≡ Some r) (sym same) runs)
+    RunsTo-released setup entries after (record { call = call; starved = out.starved.items }) outs w r stands is (subst (λ (s : Setup). run s entries ≡ Some r) (sym same) runs)
 released-turn before setup entries after outs w (Err back) call stands same is = tt
 
 -- the call that is kept at a place
@@ -283,11 +283,11 @@ call-in kept i turn found =
 -- ---- a look at a call
 
 -- few calls have ended
-pub few-ended : (setup : Setup) (entries : List HistoryEntry) (outs : List TurnOut) (v : Volume) → Stands setup entries outs v → length v.ended < 4294967296
+pub few-ended : (setup : Setup) (entries : List HistoryEntry) (outs : List TurnOut) (v : Volume) → RunsTo setup entries outs v → length v.ended < 4294967296
 few-ended setup entries outs v stands = (let count : length v.pending + length v.ended ≡ length entries = stands.count in let few : length entries ≤ 1000000 = stands.few in omega arith)
 
 -- a call that was made has ended exactly where it isn't pending
-ended-made : (setup : Setup) (entries : List HistoryEntry) (outs : List TurnOut) (v : Volume) (client number : ℕ) → Stands setup entries outs v → list_any (is_entry_of client number) entries ≡ true
+ended-made : (setup : Setup) (entries : List HistoryEntry) (outs : List TurnOut) (v : Volume) (client number : ℕ) → RunsTo setup entries outs v → list_any (is_entry_of client number) entries ≡ true
     → has_ended v client number ≡ not (is_pending v client number)
 ended-made setup entries outs v client number stands is =
     let some = how_many-some (is_entry_of client number) entries is in
@@ -302,14 +302,14 @@ ended-made setup entries outs v client number stands is =
     apart false true either both = refl
     apart false false either both = cc
 
-pub looked-reply : (setup : Setup) (entries : List HistoryEntry) (outs : List TurnOut) (v : Volume) (client number : ℕ) (result : Result (Option Reply) NoMemory) → Stands setup entries outs v
+pub looked-reply : (setup : Setup) (entries : List HistoryEntry) (outs : List TurnOut) (v : Volume) (client number : ℕ) (result : Result (Option Reply) NoMemory) → RunsTo setup entries outs v
     → IfOk result (λ reply. reply ≡ reply_in v.ended client number)
     → IfOk result (λ reply. (r : Run) → run setup entries ≡ Some r → reply ≡ reply_in r.volume.ended client number)
 looked-reply setup entries outs v client number (Ok reply) stands is = λ r runs.
     (let same = same-run setup entries outs v r stands runs in is ∙ ap (λ (u : Volume). reply_in u.ended client number) (sym same.0))
 looked-reply setup entries outs v client number (Err e) stands is = tt
 
-pub looked-pending : (setup : Setup) (entries : List HistoryEntry) (outs : List TurnOut) (v : Volume) (client number : ℕ) (result : Result (Option Reply) NoMemory) → Stands setup entries outs v
+pub looked-pending : (setup : Setup) (entries : List HistoryEntry) (outs : List TurnOut) (v : Volume) (client number : ℕ) (result : Result (Option Reply) NoMemory) → RunsTo setup entries outs v
     → list_any (is_entry_of client number) entries ≡ true → IfOk result (λ reply. reply ≡ reply_in v.ended client number)
     → IfOk result (λ reply. (r : Run) → run setup entries ≡ Some r → is_some reply ≡ not (is_pending r.volume client number))
 looked-pending setup entries outs v client number (Ok reply) stands made is = λ r runs.
@@ -317,7 +317,7 @@ looked-pending setup entries outs v client number (Ok reply) stands made is = λ
     ap (λ (reply : Option Reply). is_some reply) is ∙ some-found v.ended client number ∙ ended-made setup entries outs v client number stands made ∙ ap (λ (u : Volume). not (is_pending u client number)) (sym same.0))
 looked-pending setup entries outs v client number (Err e) stands made is = tt
 
-pub looked-none : (setup : Setup) (entries : List HistoryEntry) (outs : List TurnOut) (v : Volume) (client number : ℕ) (result : Result (Option Reply) NoMemory) → Stands setup entries outs v
+pub looked-none : (setup : Setup) (entries : List HistoryEntry) (outs : List TurnOut) (v : Volume) (client number : ℕ) (result : Result (Option Reply) NoMemory) → RunsTo setup entries outs v
     → OnErr result (ended_with_list v.ended client number ≡ true)
     → OnErr result ((r : Run) → run setup entries ≡ Some r → ended_with_list r.volume.ended client number ≡ true)
 looked-none setup entries outs v client number (Ok reply) stands is = tt

@@ -19,7 +19,7 @@ use Rattle.fsa_model.specs.Settle.{with_ended, with_reported, with_tried, starve
 use Rattle.fsa_model.specs.Try.{try}
 use Rattle.fsa_model.specs.Turn.{ends_between, volume_after}
 use Rattle.fsa_model.specs.Volume.{Pending, Volume}
-use Rattle.fsa_model.proofs.OnceLaws.{Extends-length, is_same-equal, is_same-refl}
+use Rattle.fsa_model.proofs.OnceLaws.{AddsEnds-length, is_same-equal, is_same-refl}
 use Rattle.fsa_model.specs.Waiting.{is_held, next_ready}
 use Rattle.fsa_model.proofs.LoopLaws.{Keeping, Reaches-step, Reaches-keeping, TakesUp-tried, TakesUp-waits, TakesUp-reports, TakesUp-keeping, next-row, held-stays, try-extends}
 use Rattle.fsa_model.proofs.CountLaws.{how_many-length}
@@ -37,7 +37,7 @@ use Rattle.fsa_model.specs.Once.{IsOnce, how_many, is_end, made, times}
 use Rattle.fsa_model.specs.Volume.{Handle}
 use Rattle.fsa_model.specs.Waiting.{has_come, has_ended}
 use Rattle.fsa_model.specs.Watching.{report, with_watch_seen}
-use Rattle.fsa_model.specs.Settling.{Extends, GoesOn, MaySettle, MayTakeUp, Reaches, TakesNext, TakesUp, how_many_free, is_under, may_be_held}
+use Rattle.fsa_model.specs.Settling.{AddsEnds, GoesOn, MaySettle, MayTakeUp, Reaches, TakesNext, TakesUp, how_many_free, is_under, may_be_held}
 use Rattle.fsa_model.proofs.CountLaws.{and_right, how_many-some, how_many-weaker, some-how_many}
 use Rattle.fsa_model.proofs.LoopLaws.{Reaches-begins}
 use Rattle.fsa_model.proofs.SettleLaws.{IsNext, MaySettle-kept, next_ready-is, next-may_be_held, some_equal, try-tries}
@@ -255,7 +255,7 @@ retries v ready call outcome serves may is held called tried =
     (Tries.so (try-tries v next.entry.1.call next.entry.0 may.may.oplocks (next-may_be_held v next.entry may.may there is_held_entry))) in
     record {
       next = record { entry = next.entry; found = next.found; takes = subst (λ (w : Volume). TakesUp v next.entry [] w) left takes };
-      begins = Extends-length (subst (λ (o : Outcome). Extends v.ended (volume_after o).ended) tried (try-extends v call ready.turn may));
+      begins = AddsEnds-length (subst (λ (o : Outcome). AddsEnds v.ended (volume_after o).ended) tried (try-extends v call ready.turn may));
       few = few_of next.entry outcome keeping.made;
       replies = replies v call ready.turn outcome serves tried;
       anew = subst (λ (t : ℕ). HoldsAnew t outcome) turn (holds-anew v next.entry outcome may there is_held_entry tries);
@@ -414,8 +414,8 @@ told-end v x client number reply before after is after_is =
     after_is ∙ ap (λ (ends : List EndOf). before ++ ends) (sym (drop-append_seam v.ended (record { client = client; number = number; reply = reply } ∷ [])) ∙ ap (λ (u : Volume). drop (length v.ended) u.ended) (sym is))
 
 -- as many ends have come as calls starve
-more-ends : (w x : Volume) (entry : ℕ × Pending) (more : List CallId) → TakesUp w entry more x → Extends w.ended x.ended → length more + length w.ended ≤ length x.ended
-more-ends w x entry [] takes extends = (let longer = Extends-length extends in omega arith)
+more-ends : (w x : Volume) (entry : ℕ × Pending) (more : List CallId) → TakesUp w entry more x → AddsEnds w.ended x.ended → length more + length w.ended ≤ length x.ended
+more-ends w x entry [] takes extends = (let longer = AddsEnds-length extends in omega arith)
 more-ends w x entry (id ∷ more) takes extends = elim (cases_Bool (is_held entry.1)) [
   | inr waits ↦ elim (come_cases w entry.1 entry.1.call.what) [
     | inl certain ↦ (let impossible : id ∷ more ≡ [] = rw (waits, certain.is (id ∷ more) []) at takes.all in cc)
@@ -441,7 +441,7 @@ pub record Onward (v w x : Volume) (names after : List CallId) : Type 0 where
   pub reaches : Reaches v after x
   pub falls : how_many_free x < how_many_free w
   pub named : length after + length x.pending ≤ length names + length w.pending
-  pub extends : Extends w.ended x.ended
+  pub extends : AddsEnds w.ended x.ended
   pub before : Keeping v w
   pub serves : ServesOn v x
 
@@ -464,9 +464,9 @@ onward v w x names after reaches on step next_on =
       serves = record { serves = next_on.serves; base = SameBase-next on.base next_on.base };
     }
 
-pub ends-joined : (v w x : Volume) → Extends v.ended w.ended → Extends w.ended x.ended → ends_between v w ++ ends_between w x ≡ ends_between v x
+pub ends-joined : (v w x : Volume) → AddsEnds v.ended w.ended → AddsEnds w.ended x.ended → ends_between v w ++ ends_between w x ≡ ends_between v x
 ends-joined v w x first second =
-    let within = Extends-length first in
+    let within = AddsEnds-length first in
     ap (λ (ends : List EndOf). ends_between v w ++ ends) (ap (λ (ends : List EndOf). drop (length w.ended) ends) second.is ∙ drop-append_seam w.ended second.more)
     ∙ sym (drop-append-le (length v.ended) w.ended second.more within)
     ∙ ap (λ (ends : List EndOf). drop (length v.ended) ends) (sym second.is)

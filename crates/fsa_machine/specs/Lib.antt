@@ -1,6 +1,6 @@
 pub mod Kept
+pub mod MachineView
 pub mod Serves
 pub mod Spare
-pub mod Stands
 pub mod Step
 pub mod Tried

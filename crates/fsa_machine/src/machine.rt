@@ -15,7 +15,7 @@ ghost use Rattle.fsa_model.specs.Watched.{WatchesReport};
 ghost use Rattle.fsa_machine.specs.Kept.{entry_of, out_kept};
 ghost use Rattle.fsa_machine.specs.Serves.{most_entries};
 ghost use Rattle.fsa_machine.specs.Spare.{AreSpare, is_ack_or_cancel};
-ghost use Rattle.fsa_machine.specs.Stands.{GaveOut, Stands, calls_in, ended_with_list, is_full, reply_in, setup_in};
+ghost use Rattle.fsa_machine.specs.MachineView.{GaveOut, RunsTo, calls_in, ended_with_list, is_full, reply_in, setup_in};
 
 use crate::keeping::{keep_turn, reserve_turns};
 use crate::kept::KeptTurn;
@@ -42,13 +42,13 @@ impl<S: Store> Model for Machine<S> {
     ghost use Rattle.fsa_machine.specs.Kept.{entry_of, out_kept};
     ghost use Rattle.std.specs.Vec.{vec_capacity, vec_len};
     ghost use Rattle.fsa_machine.specs.Spare.{AreSpare};
-    ghost use Rattle.fsa_machine.specs.Stands.{Seen, Stands, setup_in};
+    ghost use Rattle.fsa_machine.specs.MachineView.{MachineView, RunsTo, setup_in};
 
-    ghost Value = { Seen };
+    ghost Value = { MachineView };
 
     ghost view = { λ m. record { setup = setup_in (S.content m.store); entries = map entry_of m.kept.items; spare_turns = m.spare.turns } };
 
-    ghost invariant = { λ m. Stands (setup_in (S.content m.store)) (map entry_of m.kept.items) (map out_kept m.kept.items) (S.content m.store)
+    ghost invariant = { λ m. RunsTo (setup_in (S.content m.store)) (map entry_of m.kept.items) (map out_kept m.kept.items) (S.content m.store)
         × AreSpare (S.content m.store) (S.spare_ends m.store) (S.spare_pending m.store) (vec_len m.kept) (vec_capacity m.kept) m.spare };
 }
 
@@ -60,11 +60,11 @@ fn turn_of<S: Store>(
     spare: &mut SpareRooms,
     call: Call,
 ) -> Result<Out, (Call, Why)>
-    requires stands { Stands (setup_in (S.content store.old)) (map entry_of kept.old.items) (map out_kept kept.old.items) (S.content store.old) }
+    requires stands { RunsTo (setup_in (S.content store.old)) (map entry_of kept.old.items) (map out_kept kept.old.items) (S.content store.old) }
     requires asked { IsLineCall (length (S.content store.old).clients) call }
     requires number { call.number ≡ calls_of call.client (calls_in (map entry_of kept.old.items)) + 1 }
     requires spare { AreSpare (S.content store.old) (S.spare_ends store.old) (S.spare_pending store.old) (vec_len kept.old) (vec_capacity kept.old) spare.old }
-    ensures stands { Stands (setup_in (S.content store.new)) (map entry_of kept.new.items) (map out_kept kept.new.items) (S.content store.new) }
+    ensures stands { RunsTo (setup_in (S.content store.new)) (map entry_of kept.new.items) (map out_kept kept.new.items) (S.content store.new) }
     ensures setup { setup_in (S.content store.new) ≡ setup_in (S.content store.old) }
     ensures entries { IfOk result (λ out. map entry_of kept.new.items ≡ map entry_of kept.old.items ++ record { call = call; starved = out.starved.items } ∷ []) }
     ensures outs { IfOk result (λ out. map out_kept kept.new.items ≡ map out_kept kept.old.items ++ out_of out ∷ []) }

@@ -7,7 +7,7 @@ use Rattle.std.proofs.lemmas.List.Elements.{All-map, All-filter}
 use Rattle.std.proofs.lemmas.List.Kept.{AllPairs-filter}
 use Rattle.fsa_types.proofs.OplockLemmas.{AreOplocks-effect, CanHave-effect, IsCopy-effect, chosen-are}
 use Rattle.fsa_types.proofs.RowLemmas.{length-filter_le}
-use Rattle.fsa_types.specs.OplockLists.{OplockState, begun, lowered, left_by, last_by, after_effect, effect_on, after_breaks, IsOplock, CanHave, IsCopy}
+use Rattle.fsa_types.specs.OplockLists.{OplockState, begun, lowered, left_by, last_by, after_effect, effect_on, after_breaks, IsSoundOplock, CanHave, IsCopy}
 use Rattle.fsa_types.specs.OplockLists.{number_of_break}
 use Rattle.fsa_types.specs.Oplocks.{Effect, Stays, Ends, Begins, Lowers, effect, is_awaited}
 use Rattle.fsa_types.specs.Rows.{row_of}
@@ -243,7 +243,7 @@ pub IsSound-with_effect : (v : Volume) (oplock : Oplock) (done : Effect) → v.l
 IsSound-with_effect v oplock done below can sound =
     IsSound-with_told_by (with_oplocks v (after_effect done oplock.handle (oplocks_of v))) oplock.call done (IsSound-left v done oplock.handle below can sound)
 
-IsSound-broken : (kind : Class) (v : Volume) (oplocks : List Oplock) → v.last_break + length oplocks < 2 ^ 64 → All IsOplock oplocks → All (IsCopy v.oplocks) oplocks
+IsSound-broken : (kind : Class) (v : Volume) (oplocks : List Oplock) → v.last_break + length oplocks < 2 ^ 64 → All IsSoundOplock oplocks → All (IsCopy v.oplocks) oplocks
     → IsSound v → IsSound (broken kind v oplocks)
 IsSound-broken kind v [] below each copies sound = sound
 IsSound-broken kind v (oplock ∷ oplocks) below each copies sound =

@@ -10,7 +10,7 @@ use Rattle.fsa_types.specs.declared.request.Level.TheVariants.{Nil, R, RH, RWH}
 use Rattle.fsa_types.specs.declared.request.Request.TheVariants.{Create, Read, Write, Oplock, Ack}
 use Rattle.fsa_types.specs.Oplocks.{has_read, has_write}
 use Rattle.fsa_model.specs.Coherence.{are_apart, awaits_break_of, blockers_of, bytes_under, counts_on_reads, gives_bytes, has_in, is_by_own_key, is_clash, level_of, set_of_path}
-use Rattle.fsa_model.specs.Grant.{oplock_on, oplock_by, oplock_at, try_oplock, ack_with, ack_at, try_ack}
+use Rattle.fsa_model.specs.Grant.{oplock_on, oplock_by, oplock_at, try_oplock, ack_keeping, ack_at, try_ack}
 use Rattle.fsa_model.specs.Open.{try_create, create_at, create_walked, create_named, create_by_link, create_found, create_there, create_in_file, create_stream, create_on_stream, open_stream, open_granted, open_existing, clashed, create_missing, make_file}
 use Rattle.fsa_model.specs.Outcome.{Outcome, Done}
 use Rattle.fsa_model.specs.Read.{try_read, read_at, read_by, read_stream, read_range, read_unlocked, read_bytes}
@@ -66,7 +66,7 @@ pub tries_of_shared_file :
     ∷ (1, 3, 7, false)
     ∷ (0, 5, 8, true)
     ∷ []
-unfolding try_create create_at create_walked create_named create_by_link create_found create_there create_in_file create_stream create_on_stream open_stream open_granted open_existing clashed create_missing make_file try_oplock oplock_at oplock_by oplock_on try_ack ack_at ack_with try_write write_at write_by write_stream write_at_place write_range write_unlocked write_grown write_bytes try_read read_at read_by read_stream read_range read_unlocked read_bytes
+unfolding try_create create_at create_walked create_named create_by_link create_found create_there create_in_file create_stream create_on_stream open_stream open_granted open_existing clashed create_missing make_file try_oplock oplock_at oplock_by oplock_on try_ack ack_at ack_keeping try_write write_at write_by write_stream write_at_place write_range write_unlocked write_grown write_bytes try_read read_at read_by read_stream read_range read_unlocked read_bytes
 tries_of_shared_file = refl
 
 -- whether the first handle counts before and after, its level and its bytes after, and whether the try gave bytes: from
@@ -84,7 +84,7 @@ pub counts_until_other_key_writes :
     ∷ (true, false, RH, codes "B", false)
     ∷ (false, false, Nil, codes "B", false)
     ∷ []
-unfolding try_create create_at create_walked create_named create_by_link create_found create_there create_in_file create_stream create_on_stream open_stream open_granted open_existing clashed create_missing make_file try_oplock oplock_at oplock_by oplock_on try_ack ack_at ack_with try_write write_at write_by write_stream write_at_place write_range write_unlocked write_grown write_bytes try_read read_at read_by read_stream read_range read_unlocked read_bytes
+unfolding try_create create_at create_walked create_named create_by_link create_found create_there create_in_file create_stream create_on_stream open_stream open_granted open_existing clashed create_missing make_file try_oplock oplock_at oplock_by oplock_on try_ack ack_at ack_keeping try_write write_at write_by write_stream write_at_place write_range write_unlocked write_grown write_bytes try_read read_at read_by read_stream read_range read_unlocked read_bytes
 counts_until_other_key_writes = refl
 
 -- ---- a change is held on a break that was told to keep reads
@@ -113,7 +113,7 @@ pub counts_until_change_is_held :
     ∷ (2, false, false, [])
     ∷ (1, false, false, codes "A")
     ∷ []
-unfolding try_create create_at create_walked create_named create_by_link create_found create_there create_in_file create_stream create_on_stream open_stream open_granted open_existing clashed create_missing make_file try_oplock oplock_at oplock_by oplock_on try_ack ack_at ack_with try_write write_at write_by write_stream write_at_place write_range write_unlocked write_grown write_bytes
+unfolding try_create create_at create_walked create_named create_by_link create_found create_there create_in_file create_stream create_on_stream open_stream open_granted open_existing clashed create_missing make_file try_oplock oplock_at oplock_by oplock_on try_ack ack_at ack_keeping try_write write_at write_by write_stream write_at_place write_range write_unlocked write_grown write_bytes
 counts_until_change_is_held = refl
 
 -- ---- a clash comes once no handle of another key is cached
@@ -136,7 +136,7 @@ pub clashes_once_no_handle_is_cached :
     ∷ (Some (set.Stream 1), R, false)
     ∷ (Some (set.Stream 1), R, true)
     ∷ []
-unfolding try_create create_at create_walked create_named create_by_link create_found create_there create_in_file create_stream create_on_stream open_stream open_granted open_existing clashed create_missing make_file try_oplock oplock_at oplock_by oplock_on try_ack ack_at ack_with
+unfolding try_create create_at create_walked create_named create_by_link create_found create_there create_in_file create_stream create_on_stream open_stream open_granted open_existing clashed create_missing make_file try_oplock oplock_at oplock_by oplock_on try_ack ack_at ack_keeping
 clashes_once_no_handle_is_cached = refl
 
 -- ---- nobody caches beside a handle of another key that caches writes

@@ -12,7 +12,7 @@ use Rattle.fsa_types.specs.Oplocks.{has_read, in_both}
 use Rattle.fsa_types.specs.Rows.{row_of}
 use Rattle.fsa_model.specs.Coherence.{CountsUntilCause, Acknowledged, Switched, Cancelled, key_of, key_acting, is_own, acting_handle, acting_key, IsTied, CountsFromCause, Granted, Kept, WritersAlone}
 use Rattle.fsa_model.specs.Edits.{is_call, without_oplock}
-use Rattle.fsa_model.specs.Grant.{is_not_granted, oplock_on, oplock_by, oplock_at, try_oplock, target_of, ack_with, ack_at, try_ack}
+use Rattle.fsa_model.specs.Grant.{is_not_granted, oplock_on, oplock_by, oplock_at, try_oplock, target_of, ack_keeping, ack_at, try_ack}
 use Rattle.fsa_model.specs.Lookups.{handle_of, number_of}
 use Rattle.fsa_model.specs.Outcome.{Outcome, refused}
 use Rattle.fsa_model.specs.Turn.{volume_after}
@@ -94,10 +94,10 @@ Coheres-oplock v client number level turn tied =
 
 -- ---- an acknowledgement
 
-Coheres-ack_with : (v : Volume) (client number : ℕ) (asked target : Level) (turn id : ℕ) → IsTied v → handle_of v client number ≡ Some id → target_of v id ≡ Some target
-    → Coheres v client (Ask (Ack number asked)) (ack_with v id (in_both asked target) turn)
-unfolding ack_with
-Coheres-ack_with v client number asked target turn id tied named answers =
+Coheres-ack_keeping : (v : Volume) (client number : ℕ) (asked target : Level) (turn id : ℕ) → IsTied v → handle_of v client number ≡ Some id → target_of v id ≡ Some target
+    → Coheres v client (Ask (Ack number asked)) (ack_keeping v id (in_both asked target) turn)
+unfolding ack_keeping
+Coheres-ack_keeping v client number asked target turn id tied named answers =
     Coheres-if (has_read (in_both asked target)) _ _
     (λ stays. record {
       tied = IsTied-kept v id (in_both asked target) turn tied;
@@ -119,7 +119,7 @@ Coheres-ack_at : (v : Volume) (client number : ℕ) (level : Level) (turn id : �
     → Coheres v client (Ask (Ack number level)) (ack_at v id level turn)
 unfolding ack_at
 Coheres-ack_at v client number level turn id tied named =
-    Coheres-option (target_of v id) _ _ (λ target is. Coheres-ack_with v client number level target turn id tied named is) (Coheres-refused v client _ _ tied)
+    Coheres-option (target_of v id) _ _ (λ target is. Coheres-ack_keeping v client number level target turn id tied named is) (Coheres-refused v client _ _ tied)
 
 pub Coheres-ack : (v : Volume) (client number : ℕ) (level : Level) (turn : ℕ) → IsTied v → Coheres v client (Ask (Ack number level)) (try_ack v client number level turn)
 unfolding try_ack

@@ -10,7 +10,7 @@ use Rattle.fsa_types.specs.declared.status.Status.{Status}
 use Rattle.fsa_types.specs.declared.status.Status.TheVariants.{InvalidHandle, InvalidParameter, OplockNotGranted, InvalidOplockProtocol, OplockSwitchedToNewHandle}
 use Rattle.fsa_model.specs.Edits.{without_oplock}
 use Rattle.fsa_model.specs.Frame.{OnlyOplocks, InFrame, with_oplocks_of}
-use Rattle.fsa_model.specs.Grant.{target_of, is_not_granted, with_call_ended, with_switched, switched, with_all_switched, with_granted, oplock_on, oplock_by, oplock_at, try_oplock, ack_with, ack_at, try_ack}
+use Rattle.fsa_model.specs.Grant.{target_of, is_not_granted, with_call_ended, with_switched, switched, with_all_switched, with_granted, oplock_on, oplock_by, oplock_at, try_oplock, ack_keeping, ack_at, try_ack}
 use Rattle.fsa_model.specs.Lookups.{handle_of}
 use Rattle.fsa_model.specs.Volume.{Handle, Oplock, Volume}
 use Rattle.fsa_model.proofs.FrameLaws.{AddsNothing, AddsNothing-next, AddsNothing-alike, AddsNothing-same, AddsNothing-end, is_pending-found, KeepsFrame-adds_nothing, InFrame-done, InFrame-if, InFrame-option, InFrame-refused}
@@ -88,10 +88,10 @@ try_oplock-frame v client number handle level turn =
     InFrame-option (handle_of v client handle) (λ id. oplock_at v id level turn) _
     (λ id found. oplock_at-frame v client number handle id level level turn) (InFrame-refused _ v InvalidHandle)
 
-ack_with-frame : (v : Volume) (client number asked handle : ℕ) (level kept : Level) (turn : ℕ)
-    → InFrame (record { client = client; number = number; what = Ask (Ack asked level) }) v (ack_with v handle kept turn)
-unfolding ack_with
-ack_with-frame v client number asked handle level kept turn =
+ack_keeping-frame : (v : Volume) (client number asked handle : ℕ) (level kept : Level) (turn : ℕ)
+    → InFrame (record { client = client; number = number; what = Ask (Ack asked level) }) v (ack_keeping v handle kept turn)
+unfolding ack_keeping
+ack_keeping-frame v client number asked handle level kept turn =
     InFrame-if (has_read kept) _ _
     (λ is. record { so = (KeepsFrame-adds_nothing (AddsNothing-alike v _ refl), record { is = refl }) })
     (λ no. InFrame-done _ v (without_oplock v handle) _ (KeepsFrame-adds_nothing (AddsNothing-alike v _ refl)) (record { bytes = omega arith; units = omega arith }) refl)
@@ -100,8 +100,8 @@ ack_at-frame : (v : Volume) (client number asked id : ℕ) (level : Level) (turn
     → InFrame (record { client = client; number = number; what = Ask (Ack asked level) }) v (ack_at v id level turn)
 unfolding ack_at
 ack_at-frame v client number asked id level turn =
-    InFrame-option (target_of v id) (λ target. ack_with v id (in_both level target) turn) _
-    (λ target found. ack_with-frame v client number asked id level (in_both level target) turn) (InFrame-refused _ v InvalidOplockProtocol)
+    InFrame-option (target_of v id) (λ target. ack_keeping v id (in_both level target) turn) _
+    (λ target found. ack_keeping-frame v client number asked id level (in_both level target) turn) (InFrame-refused _ v InvalidOplockProtocol)
 
 pub try_ack-frame : (v : Volume) (client number handle : ℕ) (level : Level) (turn : ℕ)
     → InFrame (record { client = client; number = number; what = Ask (Ack handle level) }) v (try_ack v client handle level turn)

@@ -25,7 +25,7 @@ use Rattle.fsa_model.specs.Schedule.{AreNumbered, calls_of}
 use Rattle.fsa_model.specs.ScriptText.{client_line, call_line, HasNoFeed, SpellsLines, SpellsScript}
 use Rattle.fsa_model.specs.Setup.{Client}
 use Rattle.fsa_model.specs.Spelled.{SpellsUnit, SpellsUnits, SpellsFields, Spells, escape_text}
-use Rattle.fsa_model.specs.Spelling.{fields_text, is_built, line_text, is_line}
+use Rattle.fsa_model.specs.Spelling.{fields_text, can_be_spelled, line_text, is_line}
 use Rattle.fsa_model.specs.Text.{name_of}
 use Rattle.fsa_model.specs.Verbs.{verb}
 use Rattle.fsa_model.specs.Words.{is_plain, is_name, most_id, same}
@@ -133,7 +133,7 @@ SpellsUnits-text (unit ∷ units) = (unit_text unit, flat_map unit_text units, r
 
 -- a line can say the call, and its text writes its fields and has no line feed
 record IsSaid (what : What) : Type 0 where
-  built : is_built what ≡ true
+  built : can_be_spelled what ≡ true
   word : HasNoFeed (verb what)
   fields : HasNoFeed (fields_text what)
   spells : SpellsFields what (fields_text what)

@@ -12,7 +12,7 @@ use Rattle.fsa_types.specs.declared.reply.Blocker.TheVariants as blocker
 use Rattle.fsa_types.specs.declared.status.Status.{Status}
 use Rattle.fsa_types.specs.declared.status.Status.TheVariants.{InvalidHandle, InvalidParameter, OplockNotGranted, InvalidOplockProtocol, OplockSwitchedToNewHandle}
 use Rattle.fsa_model.specs.Edits.{without_oplock}
-use Rattle.fsa_model.specs.Grant.{target_of, is_oplock_on, is_of_key, is_breaking_on, is_not_granted, with_call_ended, with_switched, switched, with_all_switched, with_oplock, with_granted, with_level_kept, oplock_on, oplock_by, oplock_at, try_oplock, ack_with, ack_at, try_ack}
+use Rattle.fsa_model.specs.Grant.{target_of, is_oplock_on, is_of_key, is_breaking_on, is_not_granted, with_call_ended, with_switched, switched, with_all_switched, with_oplock, with_granted, with_level_kept, oplock_on, oplock_by, oplock_at, try_oplock, ack_keeping, ack_at, try_ack}
 use Rattle.fsa_model.specs.Lookups.{handle_of, is_open_on}
 use Rattle.fsa_model.specs.Once.{how_many, times, made, IsOnce}
 use Rattle.fsa_model.specs.Outcome.{Outcome, Done, Stay, Hold, refused}
@@ -22,7 +22,7 @@ use Rattle.fsa_model.specs.Waiting.{blocker_lives, is_breaking, is_granted_under
 use Rattle.fsa_model.proofs.BreakLaws.{break_of}
 use Rattle.fsa_model.proofs.CountLaws.{and_left, and_right, and_true, none-how_many, how_many-same, how_many-append, how_many-filter, how_many-filter_le, how_many-map, how_many-none, how_many-some, how_many-split, how_many-weaker, some-how_many}
 use Rattle.fsa_model.proofs.KeepLaws.{KeepsAll, KeepsAll-old, KeepsAll-same, KeepsAll-next, KeepsAll-ends}
-use Rattle.fsa_model.proofs.OnceLaws.{Extends, Extends-same}
+use Rattle.fsa_model.proofs.OnceLaws.{AddsEnds, AddsEnds-same}
 use Rattle.fsa_model.proofs.RowLaws.{option_cases, any-filter, any-map, any-weaker, find-any}
 use Rattle.fsa_model.proofs.TryLaws.{Watches, Watches-equal, SameNumbers, Keeps, KeepsNumbers, KeepsOnes, HasOneOplockEach-kept, is_given, same-handles, pending-found, swapped}
 use Rattle.fsa_model.proofs.WaitLaws.{changed, find-passes, is_of, is_unbroken, unbroken, HasOneBreakEach, HasOneOplockEach, any-of_filter}
@@ -36,7 +36,7 @@ pub record StaysUnder (v : Volume) (turn : ℕ) (w : Volume) : Type 0 where
   pub pending : (test : ℕ × Pending → Bool) → how_many test w.pending ≤ how_many test v.pending
   pub times : IsOnce v → (client number : ℕ) → times client number w ≡ times client number v
   pub made : IsOnce v → made w ≡ made v
-  pub ended : Extends v.ended w.ended
+  pub ended : AddsEnds v.ended w.ended
   pub new : (b : Blocker) → blocker_lives w b ≡ true → (blocker_lives v b ≡ true) ⊎ ((is_given v b ≡ false) × (is_given w b ≡ true))
   pub given : (b : Blocker) → is_given v b ≡ true → is_given w b ≡ true
   -- one break more may begin later
@@ -91,7 +91,7 @@ KeepsAll-without_oplock v handle =
       pending = λ test. omega arith;
       times = λ once client number. refl;
       made = λ once. refl;
-      ended = Extends-same v.ended;
+      ended = AddsEnds-same v.ended;
       seen = Watches-equal refl refl;
     })
     (λ b lives. old b lives) (λ b is. is) (let fewer = how_many-filter_le is_unbroken (λ (o : Oplock). not (o.handle == handle)) v.oplocks in omega arith)
@@ -232,8 +232,8 @@ lives-all_switched v handle key stream (blocker.Break number) none lives =
 
 -- ---- a grant
 
-abbrev pub granted_to : ℕ → ℕ → Level → ℕ → Oplock
-granted_to handle key level turn = record { handle = handle; key = key; level = level; target = None; number = 0; call = Some turn }
+abbrev pub granted_oplock : ℕ → ℕ → Level → ℕ → Oplock
+granted_oplock handle key level turn = record { handle = handle; key = key; level = level; target = None; number = 0; call = Some turn }
 
 any-append : {X : Type 0} (p : X → Bool) (xs : List X) (x : X) → p x ≡ false → list_any p (xs ++ x ∷ []) ≡ true → list_any p xs ≡ true
 any-append p xs x fails some =
@@ -250,28 +250,28 @@ pub StaysUnder-oplock : (v w : Volume) (handle key : ℕ) (level : Level) (turn 
     → StaysUnder v turn (with_oplock w handle key level turn)
 StaysUnder-oplock v w handle key level turn one keeps keeps_old none = record {
   oplocks = λ other. oplocks other;
-  granted = λ other. (let more = how_many-append (is_granted_under other) w.oplocks (granted_to handle key level turn ∷ []) in let fewer = keeps.kept.keeps.granted other in omega arith);
+  granted = λ other. (let more = how_many-append (is_granted_under other) w.oplocks (granted_oplock handle key level turn ∷ []) in let fewer = keeps.kept.keeps.granted other in omega arith);
   pending = keeps.kept.keeps.pending;
   times = keeps.kept.keeps.times;
   made = keeps.kept.keeps.made;
   ended = keeps.kept.keeps.ended;
   new = λ b lives. inl (old b lives);
   given = keeps.kept.given;
-  ones = λ own all_given each number. (let few : how_many (is_breaking number) w.oplocks ≤ 1 = keeps.kept.ones own all_given each number in let more = how_many-append (is_breaking number) w.oplocks (granted_to handle key level turn ∷ []) in omega arith);
-  breaks = (let more = how_many-append is_unbroken w.oplocks (granted_to handle key level turn ∷ []) in let fewer = keeps.kept.breaks in omega arith);
+  ones = λ own all_given each number. (let few : how_many (is_breaking number) w.oplocks ≤ 1 = keeps.kept.ones own all_given each number in let more = how_many-append (is_breaking number) w.oplocks (granted_oplock handle key level turn ∷ []) in omega arith);
+  breaks = (let more = how_many-append is_unbroken w.oplocks (granted_oplock handle key level turn ∷ []) in let fewer = keeps.kept.breaks in omega arith);
   same = record { files = keeps.same.files; links = keeps.same.links; streams = keeps.same.streams; handles = keeps.same.handles; locks = keeps.same.locks };
   seen = record { more = keeps.kept.keeps.seen.more; changes = keeps.kept.keeps.seen.changes; watches = keeps.kept.keeps.seen.watches };
 }
   where
     oplocks : HasOneOplockEach (with_oplock w handle key level turn)
     oplocks other =
-        let more = how_many-append (is_of other) w.oplocks (granted_to handle key level turn ∷ []) in
+        let more = how_many-append (is_of other) w.oplocks (granted_oplock handle key level turn ∷ []) in
         let few : how_many (is_of other) v.oplocks ≤ 1 = one other in
         let fewer = keeps.kept.keeps.oplocks other in
         elim (cases_Bool (handle == other)) [
-          | inr differs ↦ (let here : how_many (is_of other) (w.oplocks ++ granted_to handle key level turn ∷ []) ≡ how_many (is_of other) w.oplocks + (0 + 0) = rw differs at more in omega arith)
+          | inr differs ↦ (let here : how_many (is_of other) (w.oplocks ++ granted_oplock handle key level turn ∷ []) ≡ how_many (is_of other) w.oplocks + (0 + 0) = rw differs at more in omega arith)
           | inl is ↦ (let same : handle ≡ other = eqb-true handle other is in
-              let here : how_many (is_of other) (w.oplocks ++ granted_to handle key level turn ∷ []) ≡ how_many (is_of other) w.oplocks + (1 + 0) = rw is at more in
+              let here : how_many (is_of other) (w.oplocks ++ granted_oplock handle key level turn ∷ []) ≡ how_many (is_of other) w.oplocks + (1 + 0) = rw is at more in
               let gone : how_many (is_of other) w.oplocks ≡ 0 = rw same at none in omega arith)
         ]
 
@@ -279,7 +279,7 @@ StaysUnder-oplock v w handle key level turn one keeps keeps_old none = record {
     before b lives = keeps_old b lives
 
     old : (b : Blocker) → blocker_lives (with_oplock w handle key level turn) b ≡ true → blocker_lives v b ≡ true
-    old (blocker.Break number) lives = before (blocker.Break number) (any-append (is_breaking number) w.oplocks (granted_to handle key level turn) refl lives)
+    old (blocker.Break number) lives = before (blocker.Break number) (any-append (is_breaking number) w.oplocks (granted_oplock handle key level turn) refl lives)
     old (blocker.Lock number) lives = before (blocker.Lock number) lives
 
 pub StaysUnder-granted : (v : Volume) (handle key stream : ℕ) (level : Level) (turn : ℕ) → HasOneOplockEach v → is_handle_on v stream handle ≡ true → StaysUnder v turn (with_granted v handle key stream level turn)
@@ -291,20 +291,20 @@ StaysUnder-granted v handle key stream level turn one on =
 pub lives-granted : (v : Volume) (handle key stream : ℕ) (level : Level) (turn : ℕ) (b : Blocker) → is_breaking_on v stream ≡ false → blocker_lives v b ≡ true → blocker_lives (with_granted v handle key stream level turn) b ≡ true
 lives-granted v handle key stream level turn (blocker.Lock number) none lives = lives-all_switched v handle key stream (blocker.Lock number) none lives
 lives-granted v handle key stream level turn (blocker.Break number) none lives =
-    any-before (is_breaking number) (with_all_switched v handle key stream).oplocks (granted_to handle key level turn ∷ []) (lives-all_switched v handle key stream (blocker.Break number) none lives)
+    any-before (is_breaking number) (with_all_switched v handle key stream).oplocks (granted_oplock handle key level turn ∷ []) (lives-all_switched v handle key stream (blocker.Break number) none lives)
 
 -- exactly one oplock is then granted under its turn
 granted-one : (v : Volume) (handle key stream : ℕ) (level : Level) (turn : ℕ) → how_many (is_granted_under turn) v.oplocks ≡ 0 → how_many (is_granted_under turn) (with_granted v handle key stream level turn).oplocks ≡ 1
 granted-one v handle key stream level turn none =
-    let more = how_many-append (is_granted_under turn) (with_all_switched v handle key stream).oplocks (granted_to handle key level turn ∷ []) in
+    let more = how_many-append (is_granted_under turn) (with_all_switched v handle key stream).oplocks (granted_oplock handle key level turn ∷ []) in
     let fewer = Keeps.granted (KeepsNumbers.keeps (KeepsAll.kept (KeepsAll-all_switched (switched v handle key stream) v))) turn in
-    let here : how_many (is_granted_under turn) ((with_all_switched v handle key stream).oplocks ++ granted_to handle key level turn ∷ []) ≡ how_many (is_granted_under turn) (with_all_switched v handle key stream).oplocks + (1 + 0) = rw (eq-eqb turn turn refl) at more in
+    let here : how_many (is_granted_under turn) ((with_all_switched v handle key stream).oplocks ++ granted_oplock handle key level turn ∷ []) ≡ how_many (is_granted_under turn) (with_all_switched v handle key stream).oplocks + (1 + 0) = rw (eq-eqb turn turn refl) at more in
     omega arith
 
 -- ---- an acknowledgement
 
-abbrev pub kept_as : Level → ℕ → Oplock → Oplock
-kept_as level turn oplock = record oplock { level = level; target = None; number = 0; call = Some turn }
+abbrev pub acknowledged_oplock : Level → ℕ → Oplock → Oplock
+acknowledged_oplock level turn oplock = record oplock { level = level; target = None; number = 0; call = Some turn }
 
 -- of the breaks all but those on the handle are in progress
 abbrev pub breaks_elsewhere : ℕ → ℕ → Oplock → Bool
@@ -312,8 +312,8 @@ breaks_elsewhere handle number oplock = is_breaking number oplock && not (is_of 
 
 kept-elsewhere : (v : Volume) (handle : ℕ) (level : Level) (turn number : ℕ) → how_many (is_breaking number) (with_level_kept v handle level turn).oplocks ≡ how_many (breaks_elsewhere handle number) v.oplocks
 kept-elsewhere v handle level turn number =
-    how_many-map (is_breaking number) (changed (kept_as level turn) handle) v.oplocks
-    ∙ how_many-same (λ o. is_breaking number (changed (kept_as level turn) handle o)) (breaks_elsewhere handle number) v.oplocks
+    how_many-map (is_breaking number) (changed (acknowledged_oplock level turn) handle) v.oplocks
+    ∙ how_many-same (λ o. is_breaking number (changed (acknowledged_oplock level turn) handle o)) (breaks_elsewhere handle number) v.oplocks
     (λ o. elim (cases_Bool (o.handle == handle)) [ inl here ↦ rw here (never (is_breaking number o)) | inr other ↦ rw other (always (is_breaking number o)) ])
   where
     never : (b : Bool) → false ≡ (b && false)
@@ -326,21 +326,21 @@ kept-elsewhere v handle level turn number =
 
 pub StaysUnder-level_kept : (v : Volume) (handle : ℕ) (level : Level) (turn : ℕ) → HasOneOplockEach v → StaysUnder v turn (with_level_kept v handle level turn)
 StaysUnder-level_kept v handle level turn one = record {
-  oplocks = λ other. (let few : how_many (is_of other) v.oplocks ≤ 1 = one other in let same = same-handles (kept_as level turn) handle other v.oplocks (λ o. refl) in omega arith);
+  oplocks = λ other. (let few : how_many (is_of other) v.oplocks ≤ 1 = one other in let same = same-handles (acknowledged_oplock level turn) handle other v.oplocks (λ o. refl) in omega arith);
   granted = λ other. granted other;
   pending = λ test. omega arith;
   times = λ once client number. refl;
   made = λ once. refl;
-  ended = Extends-same v.ended;
+  ended = AddsEnds-same v.ended;
   new = λ b lives. inl (old b lives);
   given = λ b is. is;
   ones = λ own all_given each number. (let few : how_many (is_breaking number) v.oplocks ≤ 1 = each number in let left = kept-elsewhere v handle level turn number in
       let weaker = how_many-weaker (breaks_elsewhere handle number) (is_breaking number) v.oplocks (λ o both. and_left (is_breaking number o) (not (is_of handle o)) both) in omega arith);
-  breaks = (let mapped = how_many-map is_unbroken (changed (kept_as level turn) handle) v.oplocks in
-      let split = how_many-split (λ o. is_unbroken (changed (kept_as level turn) handle o)) (is_of handle) v.oplocks in
-      let own = how_many-weaker (λ o. is_unbroken (changed (kept_as level turn) handle o) && is_of handle o) (is_of handle) v.oplocks (λ o both. and_right (is_unbroken (changed (kept_as level turn) handle o)) (is_of handle o) both) in
+  breaks = (let mapped = how_many-map is_unbroken (changed (acknowledged_oplock level turn) handle) v.oplocks in
+      let split = how_many-split (λ o. is_unbroken (changed (acknowledged_oplock level turn) handle o)) (is_of handle) v.oplocks in
+      let own = how_many-weaker (λ o. is_unbroken (changed (acknowledged_oplock level turn) handle o) && is_of handle o) (is_of handle) v.oplocks (λ o both. and_right (is_unbroken (changed (acknowledged_oplock level turn) handle o)) (is_of handle o) both) in
       let few : how_many (is_of handle) v.oplocks ≤ 1 = one handle in
-      let others = how_many-weaker (λ o. is_unbroken (changed (kept_as level turn) handle o) && not (is_of handle o)) is_unbroken v.oplocks (λ o both. elim (cases_Bool (o.handle == handle)) [
+      let others = how_many-weaker (λ o. is_unbroken (changed (acknowledged_oplock level turn) handle o) && not (is_of handle o)) is_unbroken v.oplocks (λ o both. elim (cases_Bool (o.handle == handle)) [
         | inl here ↦ (let impossible : false ≡ true = rw here at both in cc)
         | inr other ↦ and_left (is_unbroken o) true (rw other at both)
       ]) in
@@ -352,21 +352,21 @@ StaysUnder-level_kept v handle level turn one = record {
     old : (b : Blocker) → blocker_lives (with_level_kept v handle level turn) b ≡ true → blocker_lives v b ≡ true
     old (blocker.Lock number) lives = lives
     old (blocker.Break number) lives =
-        any-weaker (λ o. is_breaking number (changed (kept_as level turn) handle o)) (is_breaking number) v.oplocks
+        any-weaker (λ o. is_breaking number (changed (acknowledged_oplock level turn) handle o)) (is_breaking number) v.oplocks
         (λ o is. elim (cases_Bool (o.handle == handle)) [ inl here ↦ (let impossible : false ≡ true = rw here at is in cc) | inr other ↦ rw other at is ])
-        (sym (any-map (is_breaking number) (changed (kept_as level turn) handle) v.oplocks) ∙ lives)
+        (sym (any-map (is_breaking number) (changed (acknowledged_oplock level turn) handle) v.oplocks) ∙ lives)
 
     granted : (other : ℕ) → how_many (is_granted_under other) (with_level_kept v handle level turn).oplocks ≤ how_many (is_granted_under other) v.oplocks + cond (turn == other) 1 0
     granted other =
-        let mapped = how_many-map (is_granted_under other) (changed (kept_as level turn) handle) v.oplocks in
+        let mapped = how_many-map (is_granted_under other) (changed (acknowledged_oplock level turn) handle) v.oplocks in
         elim (cases_Bool (turn == other)) [
-          | inr differs ↦ (let weaker = how_many-weaker (λ o. is_granted_under other (changed (kept_as level turn) handle o)) (is_granted_under other) v.oplocks
+          | inr differs ↦ (let weaker = how_many-weaker (λ o. is_granted_under other (changed (acknowledged_oplock level turn) handle o)) (is_granted_under other) v.oplocks
               (λ o is. elim (cases_Bool (o.handle == handle)) [ inl here ↦ (let impossible : (turn == other) ≡ true = rw here at is in cc) | inr elsewhere ↦ rw elsewhere at is ]) in omega arith)
-          | inl same ↦ (let split = how_many-split (λ o. is_granted_under other (changed (kept_as level turn) handle o)) (is_of handle) v.oplocks in
-              let own = how_many-weaker (λ o. is_granted_under other (changed (kept_as level turn) handle o) && is_of handle o) (is_of handle) v.oplocks (λ o both. and_right (is_granted_under other (changed (kept_as level turn) handle o)) (is_of handle o) both) in
+          | inl same ↦ (let split = how_many-split (λ o. is_granted_under other (changed (acknowledged_oplock level turn) handle o)) (is_of handle) v.oplocks in
+              let own = how_many-weaker (λ o. is_granted_under other (changed (acknowledged_oplock level turn) handle o) && is_of handle o) (is_of handle) v.oplocks (λ o both. and_right (is_granted_under other (changed (acknowledged_oplock level turn) handle o)) (is_of handle o) both) in
               let few : how_many (is_of handle) v.oplocks ≤ 1 = one handle in
-              let others = how_many-weaker (λ o. is_granted_under other (changed (kept_as level turn) handle o) && not (is_of handle o)) (is_granted_under other) v.oplocks (λ o both. elim (cases_Bool (o.handle == handle)) [
-                | inl here ↦ (let passes : not (is_of handle o) ≡ true = and_right (is_granted_under other (changed (kept_as level turn) handle o)) (not (is_of handle o)) both in let impossible : false ≡ true = rw here at passes in cc)
+              let others = how_many-weaker (λ o. is_granted_under other (changed (acknowledged_oplock level turn) handle o) && not (is_of handle o)) (is_granted_under other) v.oplocks (λ o both. elim (cases_Bool (o.handle == handle)) [
+                | inl here ↦ (let passes : not (is_of handle o) ≡ true = and_right (is_granted_under other (changed (acknowledged_oplock level turn) handle o)) (not (is_of handle o)) both in let impossible : false ≡ true = rw here at passes in cc)
                 | inr elsewhere ↦ and_left (is_granted_under other o) true (rw elsewhere at both)
               ]) in
               rw same (omega arith))
@@ -385,8 +385,8 @@ kept-one v handle level turn one there none =
     let stays : StaysUnder v turn (with_level_kept v handle level turn) = StaysUnder-level_kept v handle level turn one in
     let up : how_many (is_granted_under turn) (with_level_kept v handle level turn).oplocks ≤ how_many (is_granted_under turn) v.oplocks + cond (turn == turn) 1 0 = stays.granted turn in
     let most : how_many (is_granted_under turn) (with_level_kept v handle level turn).oplocks ≤ how_many (is_granted_under turn) v.oplocks + 1 = rw (eq-eqb turn turn refl) at up in
-    let some : list_any (is_granted_under turn) (with_level_kept v handle level turn).oplocks ≡ true = any-map (is_granted_under turn) (changed (kept_as level turn) handle) v.oplocks
-    ∙ any-weaker (is_of handle) (λ o. is_granted_under turn (changed (kept_as level turn) handle o)) v.oplocks (λ o here. rw (here, eq-eqb turn turn refl) refl) there in
+    let some : list_any (is_granted_under turn) (with_level_kept v handle level turn).oplocks ≡ true = any-map (is_granted_under turn) (changed (acknowledged_oplock level turn) handle) v.oplocks
+    ∙ any-weaker (is_of handle) (λ o. is_granted_under turn (changed (acknowledged_oplock level turn) handle o)) v.oplocks (λ o here. rw (here, eq-eqb turn turn refl) refl) there in
     let many = how_many-some (is_granted_under turn) (with_level_kept v handle level turn).oplocks some in
     omega arith
 
@@ -506,16 +506,16 @@ unfolding try_oplock
 try_oplock-grants v client handle level turn one =
     Grants-option (handle_of v client handle) (λ id. oplock_at v id level turn) _ (λ id found. oplock_at-grants v id level turn one) (Grants-refused v turn InvalidHandle)
 
-ack_with-grants : (v : Volume) (handle : ℕ) (level : Level) (turn : ℕ) → HasOneOplockEach v → list_any (is_of handle) v.oplocks ≡ true → Grants v turn (ack_with v handle level turn)
-unfolding ack_with
-ack_with-grants v handle level turn one there =
+ack_keeping-grants : (v : Volume) (handle : ℕ) (level : Level) (turn : ℕ) → HasOneOplockEach v → list_any (is_of handle) v.oplocks ≡ true → Grants v turn (ack_keeping v handle level turn)
+unfolding ack_keeping
+ack_keeping-grants v handle level turn one there =
     Grants-if (has_read level) _ _ (λ is. record { so = (StaysUnder-level_kept v handle level turn one, λ none. kept-one v handle level turn one there none) })
     (λ no. record { so = KeepsAll-without_oplock v handle })
 
 ack_at-grants : (v : Volume) (id : ℕ) (level : Level) (turn : ℕ) → HasOneOplockEach v → Grants v turn (ack_at v id level turn)
 unfolding ack_at
 ack_at-grants v id level turn one =
-    Grants-option (target_of v id) (λ target. ack_with v id (in_both level target) turn) _ (λ target is. ack_with-grants v id (in_both level target) turn one (has-oplock v id target is))
+    Grants-option (target_of v id) (λ target. ack_keeping v id (in_both level target) turn) _ (λ target is. ack_keeping-grants v id (in_both level target) turn one (has-oplock v id target is))
     (Grants-refused v turn InvalidOplockProtocol)
 
 pub try_ack-grants : (v : Volume) (client handle : ℕ) (level : Level) (turn : ℕ) → HasOneOplockEach v → Grants v turn (try_ack v client handle level turn)
@@ -578,10 +578,10 @@ pub Answers-refused : (v : Volume) (client handle : ℕ) (status : Status) → A
 Answers-refused v client handle status = record { so = inl refl }
 
 pub try_ack-ends : (v : Volume) (client handle : ℕ) (level : Level) (turn : ℕ) → HasOneOplockEach v → Answers v client handle (try_ack v client handle level turn)
-unfolding try_ack ack_at ack_with
+unfolding try_ack ack_at ack_keeping
 try_ack-ends v client handle level turn one =
     Answers-option (handle_of v client handle) (λ id. ack_at v id level turn) _ (λ id found.
-    Answers-option (target_of v id) (λ target. ack_with v id (in_both level target) turn) _ (λ target is.
+    Answers-option (target_of v id) (λ target. ack_keeping v id (in_both level target) turn) _ (λ target is.
     Answers-if (has_read (in_both level target)) _ _
     (λ keeps. record { so = inr (record { id = id; found = found; ends = EndsBreak-level_kept v id (in_both level target) target turn one is }) })
     (λ none. record { so = inr (record { id = id; found = found; ends = EndsBreak-without_oplock v id target one is }) }))

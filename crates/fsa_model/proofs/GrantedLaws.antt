@@ -25,7 +25,7 @@ use Rattle.fsa_types.specs.declared.status.Status.TheVariants.{AccessDenied, Can
 use Rattle.fsa_model.specs.Close.{closed_status, is_call_on, is_left_behind, is_open_or_wait, names, pending_by_turn, with_calls_ended, with_all_closed, with_client_gone, with_closed, with_mark_on_close, with_swept, handles_of_client, close_at, try_close, try_leave}
 use Rattle.fsa_model.specs.Edits.{is_call, is_lock_on, with_blockers, with_end, with_left, with_pending, with_ticks, without_handle, without_lock, without_oplock}
 use Rattle.fsa_model.specs.Engine.{CallsDiffer, GrantsPend, asks_oplock_of, handle_granted, has_grant_under, is_entry_of, own_tried}
-use Rattle.fsa_model.specs.Grant.{ack_at, ack_with, is_not_granted, is_of_key, is_oplock_on, oplock_at, oplock_by, oplock_on, switched, target_of, try_ack, try_oplock, with_call_ended, with_granted, with_level_kept, with_oplock, with_switched}
+use Rattle.fsa_model.specs.Grant.{ack_at, ack_keeping, is_not_granted, is_of_key, is_oplock_on, oplock_at, oplock_by, oplock_on, switched, target_of, try_ack, try_oplock, with_call_ended, with_granted, with_level_kept, with_oplock, with_switched}
 use Rattle.fsa_model.specs.History.{HistoryEntry, Run, begun, run, steps, turn_on, with_turn}
 use Rattle.fsa_model.specs.Locking.{try_unlock, unlock_at, unlock_by, unlock_range}
 use Rattle.fsa_model.specs.Lookups.{handle_of, has_left, is_link_marked, is_opened_by, number_of}
@@ -40,7 +40,7 @@ use Rattle.fsa_model.specs.Waiting.{all_wait, has_come, is_asked_before, is_held
 use Rattle.fsa_model.specs.Watching.{is_notify_filter, is_something_due, notify_at, notify_by, try_notify, watch_of, with_watch_begun, with_watch_seen}
 use Rattle.fsa_model.proofs.CountLaws.{and_left, and_right, and_true, how_many-append, how_many-filter, how_many-filter_le, how_many-in_order, how_many-length, how_many-map, how_many-none, how_many-same, how_many-some, how_many-weaker, only-one, none-how_many, some-how_many}
 use Rattle.fsa_model.proofs.EngineLaws.{turn-turned}
-use Rattle.fsa_model.proofs.GrantLaws.{KeepsAll-all_switched, KeepsAll-switched, all_switched, granted_to, kept_as, oplocks-call_ended}
+use Rattle.fsa_model.proofs.GrantLaws.{KeepsAll-all_switched, KeepsAll-switched, all_switched, granted_oplock, acknowledged_oplock, oplocks-call_ended}
 use Rattle.fsa_model.proofs.KeepLaws.{KeepsAll, Keeps-closed, Keeps-ended_by_turn, Untouched-mark_on_close, Untouched-swept}
 use Rattle.fsa_model.proofs.OnceHistory.{MayTurn-fresh, is_entry_of-self}
 use Rattle.fsa_model.proofs.OnceLaws.{SameBlockers, blockers-calls_ended, is_call_of, is_same-refl, IsOnce-kept}
@@ -637,10 +637,10 @@ pends-now v id turn call asks =
 
 NoneLapsed-oplock : (v : Volume) (id key : ℕ) (level : Level) (turn : ℕ) (call : Call) → asks_oplock_of v id call ≡ true → NoneLapsed v → NoneLapsed (with_pending (with_oplock v id key level turn) turn call [])
 NoneLapsed-oplock v id key level turn call asks none =
-    (let more = how_many-append (lapsed after) v.oplocks (granted_to id key level turn ∷ []) in
+    (let more = how_many-append (lapsed after) v.oplocks (granted_oplock id key level turn ∷ []) in
     let weaker = how_many-weaker (lapsed after) (lapsed v) v.oplocks (λ o is. lapsed-later v after o (λ t its there. any-push (λ e. e.0 == t && asks_oplock_of v o.handle e.1.call) v.pending ((turn, record { call = call; blockers = [] }) ∷ []) there) is) in
     let pends : has_grant_under after id turn ≡ true = pends-now v id turn call asks in
-    let fresh : how_many (lapsed after) (v.oplocks ++ granted_to id key level turn ∷ []) ≡ how_many (lapsed after) v.oplocks + (0 + 0) = rw pends at more in
+    let fresh : how_many (lapsed after) (v.oplocks ++ granted_oplock id key level turn ∷ []) ≡ how_many (lapsed after) v.oplocks + (0 + 0) = rw pends at more in
     omega arith)
   where
     after : Volume
@@ -670,13 +670,13 @@ oplock-left v turn call handle level asked once one granted =
 
 NoneLapsed-level_kept : (v : Volume) (id : ℕ) (level : Level) (turn : ℕ) (call : Call) → asks_oplock_of v id call ≡ true → NoneLapsed v → NoneLapsed (with_pending (with_level_kept v id level turn) turn call [])
 NoneLapsed-level_kept v id level turn call asks none =
-    (let mapped = how_many-map (lapsed after) (changed (kept_as level turn) id) v.oplocks in
-    let weaker = how_many-weaker (λ o. lapsed after (changed (kept_as level turn) id o)) (lapsed v) v.oplocks (λ o is. of_any o (cases_Bool (o.handle == id)) is) in omega arith)
+    (let mapped = how_many-map (lapsed after) (changed (acknowledged_oplock level turn) id) v.oplocks in
+    let weaker = how_many-weaker (λ o. lapsed after (changed (acknowledged_oplock level turn) id o)) (lapsed v) v.oplocks (λ o is. of_any o (cases_Bool (o.handle == id)) is) in omega arith)
   where
     after : Volume
     after = with_pending (with_level_kept v id level turn) turn call []
 
-    of_any : (o : Oplock) → ((o.handle == id) ≡ true) ⊎ ((o.handle == id) ≡ false) → lapsed after (changed (kept_as level turn) id o) ≡ true → lapsed v o ≡ true
+    of_any : (o : Oplock) → ((o.handle == id) ≡ true) ⊎ ((o.handle == id) ≡ false) → lapsed after (changed (acknowledged_oplock level turn) id o) ≡ true → lapsed v o ≡ true
     of_any o (inr other) is =
         lapsed-later v after o (λ t its there. any-push (λ e. e.0 == t && asks_oplock_of v o.handle e.1.call) v.pending ((turn, record { call = call; blockers = [] }) ∷ []) there) (rw other at is)
     of_any o (inl here) is =
@@ -686,7 +686,7 @@ NoneLapsed-level_kept v id level turn call asks none =
         let impossible : false ≡ true = rw (same, pends) at lapses in cc)
 
 ack-left : (v : Volume) (turn : ℕ) (call : Call) (handle : ℕ) (level : Level) → handle_granted call.what ≡ Some handle → Granted v → Left turn call (try_ack v call.client handle level turn)
-unfolding try_ack ack_at ack_with
+unfolding try_ack ack_at ack_keeping
 ack-left v turn call handle level asked granted =
     Left-option (handle_of v call.client handle) _ _ (λ id found. Left-option (target_of v id) _ _ (λ target is.
     Left-if (has_read (in_both level target)) _ _

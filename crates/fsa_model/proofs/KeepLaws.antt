@@ -23,7 +23,7 @@ use Rattle.fsa_model.specs.Outcome.{Outcome, Done, Stay, Hold, refused, ends_wit
 use Rattle.fsa_model.specs.Volume.{Handle, Link, Lock, Oplock, Pending, Watch, Volume}
 use Rattle.fsa_model.specs.Waiting.{blocker_lives, is_breaking, has_ended, is_pending, try_wait, is_granted_under, with_oplock_given_up, with_cancelled, try_cancel}
 use Rattle.fsa_model.proofs.CountLaws.{and_left, how_many-weaker, how_many-filter_le, how_many-in_order, how_many-some}
-use Rattle.fsa_model.proofs.OnceLaws.{Extends-same, ended-calls_ended, SameBlockers, is_call_of, fewer-calls_ended, times-calls_ended, made-calls_ended, blockers-calls_ended}
+use Rattle.fsa_model.proofs.OnceLaws.{AddsEnds-same, ended-calls_ended, SameBlockers, is_call_of, fewer-calls_ended, times-calls_ended, made-calls_ended, blockers-calls_ended}
 use Rattle.fsa_model.proofs.RowLaws.{option_cases, find-any}
 use Rattle.fsa_model.proofs.TryLaws.{Watches-equal, SameNumbers, SameNumbers-same, SameNumbers-next, Keeps, KeepsNumbers, KeepsNumbers-old, KeepsNumbers-same, KeepsNumbers-next, KeepsNumbers-untouched, KeepsNumbers-ends, is_given, Untouched, Untouched-same, Untouched-next, Untouched-noted, Leaves, KeepsNumbers-leaves, Tries, TriesTo}
 use Rattle.fsa_model.proofs.WatchLaws.{Untouched-seen, Watches-begun, watching-calls_ended}
@@ -143,7 +143,7 @@ Keeps-without_handle v id = record {
   pending = λ test. omega arith;
   times = λ once client number. refl;
   made = λ once. refl;
-  ended = Extends-same v.ended;
+  ended = AddsEnds-same v.ended;
   seen = record {
     more = [];
     changes = sym (append-nil v.changes);
@@ -267,7 +267,7 @@ unfolding try_notify
 try_notify-kept v client handle filter tree room = Kept-option (handle_of v client handle) _ _ (λ id found. notify_at-kept v id filter tree room) (Kept-refused v InvalidHandle)
 
 Keeps-without_lock : (v : Volume) (id at count : ℕ) → Keeps v (without_lock v id at count)
-Keeps-without_lock v id at count = record { granted = λ turn. omega arith; oplocks = λ handle. omega arith; pending = λ test. omega arith; times = λ once client number. refl; made = λ once. refl; ended = Extends-same v.ended; seen = Watches-equal refl refl }
+Keeps-without_lock v id at count = record { granted = λ turn. omega arith; oplocks = λ handle. omega arith; pending = λ test. omega arith; times = λ once client number. refl; made = λ once. refl; ended = AddsEnds-same v.ended; seen = Watches-equal refl refl }
 
 KeepsAll-without_lock : (v : Volume) (id at count : ℕ) → KeepsAll v (without_lock v id at count)
 KeepsAll-without_lock v id at count =
@@ -314,7 +314,7 @@ Keeps-given_up v turn = record {
   pending = λ test. omega arith;
   times = λ once client number. refl;
   made = λ once. refl;
-  ended = Extends-same v.ended;
+  ended = AddsEnds-same v.ended;
   seen = Watches-equal refl refl;
 }
 

@@ -25,7 +25,7 @@ use Rattle.fsa_model.specs.Volume.{Pending, Volume}
 use Rattle.fsa_model.specs.Waiting.{is_held, is_ready, next_ready, with_stalled}
 pub use Rattle.fsa_model.specs.Settling.{IsLetGo, AreLetGo, Reaches, TakesUp, TakesNext}
 use Rattle.fsa_model.proofs.CountLaws.{and_left, and_right, and_true, how_many-weaker, how_many-append, how_many-filter, how_many-split, how_many-none, some-how_many, only-one}
-use Rattle.fsa_model.proofs.OnceLaws.{is_call_of, Extends}
+use Rattle.fsa_model.proofs.OnceLaws.{is_call_of, AddsEnds}
 use Rattle.fsa_model.proofs.SettleLaws.{MaySettle, IsNext, is_held_wrongly, may_be_held, Steps, Steps-settle_step, is_under, how_many_free, next_ready-is, ready-free, taken_up_from-step, taken_up_from-done, next-may_be_held, some_equal, try-tries}
 use Rattle.fsa_model.proofs.TryLaws.{Leaves, Tries, TriesTo}
 use Rattle.fsa_model.proofs.TurnLaws.{try-keeps, tried-begins}
@@ -378,7 +378,7 @@ TakesUp-report_starves v entry handle filter whole room id waits what found fits
 pub record Keeping (v w : Volume) : Type 0 where
   pub may : MayTakeUp w
   pub made : made w ≡ made v
-  pub ended : Extends v.ended w.ended
+  pub ended : AddsEnds v.ended w.ended
 
 pub Reaches-keeping : (v w : Volume) (names : List CallId) → Reaches v names w → Keeping v w
 Reaches-keeping v w names reaches = record {
@@ -391,7 +391,7 @@ pub TakesUp-keeping : (v w : Volume) (entry : ℕ × Pending) (more : List CallI
 TakesUp-keeping v w entry more may found takes = Reaches-keeping v w more (Reaches-step v v w [] more entry (Reaches-begins v may) found takes).0
 
 -- a try only adds ends
-pub try-extends : (v : Volume) (call : Call) (turn : ℕ) → MayTakeUp v → Extends v.ended (volume_after (try v call turn)).ended
+pub try-extends : (v : Volume) (call : Call) (turn : ℕ) → MayTakeUp v → AddsEnds v.ended (volume_after (try v call turn)).ended
 try-extends v call turn may = tried-begins v turn call.what (try v call turn) (try-keeps v call turn may.may.oplocks)
 
 -- a held call never stays

@@ -37,7 +37,7 @@ use Rattle.fsa_model.specs.Waiting.{blocker_lives}
 use Rattle.fsa_model.specs.Write.{with_file_write_noted, with_stream_write_noted, with_write_noted, lengthens, with_written, write_bytes, write_grown, write_unlocked, write_range, write_at_place, can_write, write_stream, write_by, write_at, try_write}
 use Rattle.fsa_model.proofs.FrameLaws.{AddsNothing-same, EndsPending-equal, KeepsFrame-adds_nothing}
 use Rattle.fsa_model.proofs.ObeyLaws.{Calm, Calm-basic, Calm-if, Calm-next, Calm-noted, Calm-same, Calm-tree, CanBeHeld, Gains, Obeys, Obeys-breaks, Obeys-calm, Obeys-ends, Obeys-held, Obeys-if, Obeys-gains, Obeys-option, Obeys-refused, Obeys-replies}
-use Rattle.fsa_model.proofs.OnceLaws.{Extends-same}
+use Rattle.fsa_model.proofs.OnceLaws.{AddsEnds-same}
 use Rattle.fsa_model.proofs.PendLaws.{HandlesStay-same}
 use Rattle.fsa_model.proofs.RowLaws.{any-push}
 use Rattle.fsa_model.proofs.TryLaws.{Leaves, Watches-equal, is_given}
@@ -243,7 +243,7 @@ given-lock v handle at count exclusive (blocker.Lock number) is = (let le : numb
 
 Leaves-lock : (v : Volume) (handle at count : ℕ) (exclusive : Bool) → Leaves v (with_lock v handle at count exclusive)
 Leaves-lock v handle at count exclusive = record {
-  keeps = record { oplocks = λ handle. omega arith; granted = λ turn. omega arith; pending = λ test. omega arith; times = λ once client number. refl; made = λ once. refl; ended = Extends-same v.ended; seen = Watches-equal refl refl };
+  keeps = record { oplocks = λ handle. omega arith; granted = λ turn. omega arith; pending = λ test. omega arith; times = λ once client number. refl; made = λ once. refl; ended = AddsEnds-same v.ended; seen = Watches-equal refl refl };
   lives = λ b lives. lives-lock v handle at count exclusive b lives;
   held = λ once none test. refl;
   new = λ b lives. new-lock v handle at count exclusive b lives;

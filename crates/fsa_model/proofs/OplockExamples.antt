@@ -19,7 +19,7 @@ use Rattle.fsa_types.specs.declared.reply.Interim.TheVariants.{Held, Granted}
 use Rattle.fsa_types.specs.declared.status.Status.{Status}
 use Rattle.fsa_types.specs.declared.status.Status.TheVariants.{Success, SharingViolation, InvalidOplockProtocol, OplockSwitchedToNewHandle, OplockBreakInProgress, EndOfFile, Cancelled}
 use Rattle.fsa_model.specs.Close.{try_close, close_at, with_closed}
-use Rattle.fsa_model.specs.Grant.{oplock_on, oplock_by, oplock_at, try_oplock, ack_with, ack_at, try_ack}
+use Rattle.fsa_model.specs.Grant.{oplock_on, oplock_by, oplock_at, try_oplock, ack_keeping, ack_at, try_ack}
 use Rattle.fsa_model.specs.History.{run}
 use Rattle.fsa_model.specs.Open.{try_create, create_at, create_walked, create_named, create_by_link, create_found, create_there, create_in_file, create_stream, create_on_stream, open_stream, open_granted, open_existing, clashed, create_missing, make_file}
 use Rattle.fsa_model.specs.Outcome.{TurnOut}
@@ -75,7 +75,7 @@ pub open_held_by_oplock_then_sharing_violation :
     ∷ out (ended InvalidOplockProtocol body.Nothing) []
     ∷ []
     )
-unfolding try_create create_at create_walked create_named create_by_link create_found create_there create_in_file create_stream create_on_stream open_stream open_granted open_existing clashed create_missing make_file try_oplock oplock_at oplock_by oplock_on try_ack ack_at ack_with
+unfolding try_create create_at create_walked create_named create_by_link create_found create_there create_in_file create_stream create_on_stream open_stream open_granted open_existing clashed create_missing make_file try_oplock oplock_at oplock_by oplock_on try_ack ack_at ack_keeping
 open_held_by_oplock_then_sharing_violation = refl
 
 -- a write waits for a break that a clashing open began and that was told to keep reads
@@ -96,7 +96,7 @@ pub write_waits_for_handle_break :
     ∷ out (ended Success (body.Left Nil)) (ends 2 1 SharingViolation body.Nothing ∷ ends 1 2 Success (body.Count 1) ∷ [])
     ∷ []
     )
-unfolding try_create create_at create_walked create_named create_by_link create_found create_there create_in_file create_stream create_on_stream open_stream open_granted open_existing clashed create_missing make_file try_oplock oplock_at oplock_by oplock_on try_ack ack_at ack_with try_write write_at write_by write_stream write_at_place write_range write_unlocked write_grown write_bytes
+unfolding try_create create_at create_walked create_named create_by_link create_found create_there create_in_file create_stream create_on_stream open_stream open_granted open_existing clashed create_missing make_file try_oplock oplock_at oplock_by oplock_on try_ack ack_at ack_keeping try_write write_at write_by write_stream write_at_place write_range write_unlocked write_grown write_bytes
 write_waits_for_handle_break = refl
 
 -- a second handle of the same key takes the oplock over; an open that completes while it breaks; a read held until the close
@@ -138,7 +138,7 @@ pub ack_kept_then_cancelled :
     ∷ out (ended Success body.Nothing) (ends 0 3 Cancelled body.Nothing ∷ [])
     ∷ []
     )
-unfolding try_create create_at create_walked create_named create_by_link create_found create_there create_in_file create_stream create_on_stream open_stream open_granted open_existing clashed create_missing make_file try_oplock oplock_at oplock_by oplock_on try_ack ack_at ack_with try_cancel
+unfolding try_create create_at create_walked create_named create_by_link create_found create_there create_in_file create_stream create_on_stream open_stream open_granted open_existing clashed create_missing make_file try_oplock oplock_at oplock_by oplock_on try_ack ack_at ack_keeping try_cancel
 ack_kept_then_cancelled = refl
 
 -- and no oplock is left then
@@ -150,5 +150,5 @@ pub cancelled_gives_up :
     ∷ asks 0 4 (Cancel 3)
     ∷ [])))
     ≡ Some []
-unfolding try_create create_at create_walked create_named create_by_link create_found create_there create_in_file create_stream create_on_stream open_stream open_granted open_existing clashed create_missing make_file try_oplock oplock_at oplock_by oplock_on try_ack ack_at ack_with try_cancel
+unfolding try_create create_at create_walked create_named create_by_link create_found create_there create_in_file create_stream create_on_stream open_stream open_granted open_existing clashed create_missing make_file try_oplock oplock_at oplock_by oplock_on try_ack ack_at ack_keeping try_cancel
 cancelled_gives_up = refl

@@ -17,7 +17,7 @@ use Rattle.fsa_types.specs.declared.request.Request.TheVariants.{Oplock as Oploc
 use Rattle.fsa_types.specs.declared.request.What.TheVariants.{Ask}
 use Rattle.fsa_types.specs.declared.status.Status.TheVariants.{Success, InvalidOplockProtocol}
 use Rattle.fsa_model.specs.Breaks.{awaited, with_breaks}
-use Rattle.fsa_model.specs.Grant.{try_ack, ack_at, ack_with}
+use Rattle.fsa_model.specs.Grant.{try_ack, ack_at, ack_keeping}
 use Rattle.fsa_model.specs.Outcome.{Outcome, Done, Stay}
 use Rattle.fsa_model.specs.Volume.{Handle, Oplock, Pending, Volume, fresh}
 
@@ -130,7 +130,7 @@ pub no_oplock : four without ≡ passes [] ∷ passes [] ∷ passes [] ∷ passe
 no_oplock = refl
 
 pub no_oplock-answered : five without ≡ refuses [] ∷ refuses [] ∷ refuses [] ∷ refuses [] ∷ refuses [] ∷ []
-unfolding try_ack ack_at ack_with
+unfolding try_ack ack_at ack_keeping
 no_oplock-answered = refl
 
 -- ---- no break in progress
@@ -140,7 +140,7 @@ pub level_r : four (with_level R) ≡ passes (granted R ∷ []) ∷ passes (gran
 level_r = refl
 
 pub level_r-answered : five (with_level R) ≡ refuses (granted R ∷ []) ∷ refuses (granted R ∷ []) ∷ refuses (granted R ∷ []) ∷ refuses (granted R ∷ []) ∷ refuses (granted R ∷ []) ∷ []
-unfolding try_ack ack_at ack_with
+unfolding try_ack ack_at ack_keeping
 level_r-answered = refl
 
 -- clashes and new names wait for handles to be given up; a change tells, and doesn't wait
@@ -148,7 +148,7 @@ pub level_rh : four (with_level RH) ≡ begins RH R true ∷ begins RH R true �
 level_rh = refl
 
 pub level_rh-answered : five (with_level RH) ≡ refuses (granted RH ∷ []) ∷ refuses (granted RH ∷ []) ∷ refuses (granted RH ∷ []) ∷ refuses (granted RH ∷ []) ∷ refuses (granted RH ∷ []) ∷ []
-unfolding try_ack ack_at ack_with
+unfolding try_ack ack_at ack_keeping
 level_rh-answered = refl
 
 -- writes are given up before others read or change
@@ -156,7 +156,7 @@ pub level_rw : four (with_level RW) ≡ passes (granted RW ∷ []) ∷ passes (g
 level_rw = refl
 
 pub level_rw-answered : five (with_level RW) ≡ refuses (granted RW ∷ []) ∷ refuses (granted RW ∷ []) ∷ refuses (granted RW ∷ []) ∷ refuses (granted RW ∷ []) ∷ refuses (granted RW ∷ []) ∷ []
-unfolding try_ack ack_at ack_with
+unfolding try_ack ack_at ack_keeping
 level_rw-answered = refl
 
 -- each gives up what its class doesn't leave, and waits
@@ -164,7 +164,7 @@ pub level_rwh : four (with_level RWH) ≡ begins RWH RW true ∷ begins RWH RW t
 level_rwh = refl
 
 pub level_rwh-answered : five (with_level RWH) ≡ refuses (granted RWH ∷ []) ∷ refuses (granted RWH ∷ []) ∷ refuses (granted RWH ∷ []) ∷ refuses (granted RWH ∷ []) ∷ refuses (granted RWH ∷ []) ∷ []
-unfolding try_ack ack_at ack_with
+unfolding try_ack ack_at ack_keeping
 level_rwh-answered = refl
 
 -- ---- a break in progress
@@ -173,54 +173,54 @@ pub rh_to_r : four (with_break RH R) ≡ goes_on RH R true ∷ goes_on RH R true
 rh_to_r = refl
 
 pub rh_to_r-answered : five (with_break RH R) ≡ leaves_none ∷ keeps R ∷ keeps R ∷ keeps R ∷ keeps R ∷ []
-unfolding try_ack ack_at ack_with
+unfolding try_ack ack_at ack_keeping
 rh_to_r-answered = refl
 
 pub rh_to_none : four (with_break RH Nil) ≡ goes_on RH Nil true ∷ goes_on RH Nil true ∷ goes_on RH Nil false ∷ goes_on RH Nil false ∷ []
 rh_to_none = refl
 
 pub rh_to_none-answered : five (with_break RH Nil) ≡ leaves_none ∷ leaves_none ∷ leaves_none ∷ leaves_none ∷ leaves_none ∷ []
-unfolding try_ack ack_at ack_with
+unfolding try_ack ack_at ack_keeping
 rh_to_none-answered = refl
 
 pub rw_to_r : four (with_break RW R) ≡ goes_on RW R false ∷ goes_on RW R false ∷ goes_on RW R true ∷ goes_on RW Nil true ∷ []
 rw_to_r = refl
 
 pub rw_to_r-answered : five (with_break RW R) ≡ leaves_none ∷ keeps R ∷ keeps R ∷ keeps R ∷ keeps R ∷ []
-unfolding try_ack ack_at ack_with
+unfolding try_ack ack_at ack_keeping
 rw_to_r-answered = refl
 
 pub rw_to_none : four (with_break RW Nil) ≡ goes_on RW Nil false ∷ goes_on RW Nil false ∷ goes_on RW Nil true ∷ goes_on RW Nil true ∷ []
 rw_to_none = refl
 
 pub rw_to_none-answered : five (with_break RW Nil) ≡ leaves_none ∷ leaves_none ∷ leaves_none ∷ leaves_none ∷ leaves_none ∷ []
-unfolding try_ack ack_at ack_with
+unfolding try_ack ack_at ack_keeping
 rw_to_none-answered = refl
 
 pub rwh_to_rw : four (with_break RWH RW) ≡ goes_on RWH RW true ∷ goes_on RWH RW true ∷ goes_on RWH R true ∷ goes_on RWH Nil true ∷ []
 rwh_to_rw = refl
 
 pub rwh_to_rw-answered : five (with_break RWH RW) ≡ leaves_none ∷ keeps R ∷ keeps R ∷ keeps RW ∷ keeps RW ∷ []
-unfolding try_ack ack_at ack_with
+unfolding try_ack ack_at ack_keeping
 rwh_to_rw-answered = refl
 
 pub rwh_to_rh : four (with_break RWH RH) ≡ goes_on RWH R true ∷ goes_on RWH R true ∷ goes_on RWH RH true ∷ goes_on RWH Nil true ∷ []
 rwh_to_rh = refl
 
 pub rwh_to_rh-answered : five (with_break RWH RH) ≡ leaves_none ∷ keeps R ∷ keeps RH ∷ keeps R ∷ keeps RH ∷ []
-unfolding try_ack ack_at ack_with
+unfolding try_ack ack_at ack_keeping
 rwh_to_rh-answered = refl
 
 pub rwh_to_r : four (with_break RWH R) ≡ goes_on RWH R true ∷ goes_on RWH R true ∷ goes_on RWH R true ∷ goes_on RWH Nil true ∷ []
 rwh_to_r = refl
 
 pub rwh_to_r-answered : five (with_break RWH R) ≡ leaves_none ∷ keeps R ∷ keeps R ∷ keeps R ∷ keeps R ∷ []
-unfolding try_ack ack_at ack_with
+unfolding try_ack ack_at ack_keeping
 rwh_to_r-answered = refl
 
 pub rwh_to_none : four (with_break RWH Nil) ≡ goes_on RWH Nil true ∷ goes_on RWH Nil true ∷ goes_on RWH Nil true ∷ goes_on RWH Nil true ∷ []
 rwh_to_none = refl
 
 pub rwh_to_none-answered : five (with_break RWH Nil) ≡ leaves_none ∷ leaves_none ∷ leaves_none ∷ leaves_none ∷ leaves_none ∷ []
-unfolding try_ack ack_at ack_with
+unfolding try_ack ack_at ack_keeping
 rwh_to_none-answered = refl

@@ -40,7 +40,7 @@ use Rattle.fsa_model.specs.ClockLines.{tick_fields}
 use Rattle.fsa_model.specs.WaitLines.{cancel_fields, wait_fields}
 use Rattle.fsa_model.specs.Requests.{what_of}
 use Rattle.fsa_model.specs.Verbs.{verb}
-use Rattle.fsa_model.specs.Spelling.{is_built}
+use Rattle.fsa_model.specs.Spelling.{can_be_spelled}
 use Rattle.fsa_model.specs.Spelled.{SpellsFields}
 use Rattle.fsa_model.proofs.SpeltLaws.{bind_ok, only_if_ok, if_ok, read_as_ok, ended_ok, none_left, field_back, number_back, number_of-most, number_at-back, mask_of-back, mask_at-back, text_at-back, string_at-back}
 
@@ -396,7 +396,7 @@ start_at-back bytes start is =
 
 -- what was read is said by a verb of this name, whose fields these bytes write
 abbrev ReadsVerb : List ℕ → What → List ℕ → Type 0
-ReadsVerb name what fields = (verb what ≡ name) × SpellsFields what fields × (is_built what ≡ true)
+ReadsVerb name what fields = (verb what ≡ name) × SpellsFields what fields × (can_be_spelled what ≡ true)
 
 close_back : (fields : List ℕ) (what : What) → close_fields fields ≡ Ok what → ReadsVerb (codes "close") what fields
 unfolding close_fields
@@ -866,7 +866,7 @@ create_back fields what is =
 
 -- what a verb and its fields were read as, and how they write it
 abbrev pub SaysVerb : List ℕ → List ℕ → What → Type 0
-SaysVerb word fields what = (word ≡ verb what) × SpellsFields what fields × (is_built what ≡ true)
+SaysVerb word fields what = (word ≡ verb what) × SpellsFields what fields × (can_be_spelled what ≡ true)
 
 verb_case : (word name fields : List ℕ) (one other : Result What Kind) (what : What) → (if same word name then one else other) ≡ Ok what
     → (one ≡ Ok what → ReadsVerb name what fields) → (other ≡ Ok what → SaysVerb word fields what) → SaysVerb word fields what

@@ -20,7 +20,7 @@ use Rattle.fsa_model.specs.Volume.{Pending, Volume}
 use Rattle.fsa_model.specs.Waiting.{AreLiving, blocker_lives, is_held, is_ready, next_ready, is_granted_under}
 pub use Rattle.fsa_model.specs.Settling.{is_ungiven, HasGiven, is_let_go, let_go, GivesAtMost, GoesOn, MayTakeUp}
 use Rattle.fsa_model.proofs.CountLaws.{and_left, and_right, how_many-append, how_many-weaker, how_many-same, how_many-filter, how_many-filter_le, how_many-map, how_many-split, how_many-some, how_many-none, some-how_many, only-one, how_many-length}
-use Rattle.fsa_model.proofs.OnceLaws.{Extends, Extends-length, Extends-same, Extends-next, is_call_of, is_same-refl, IsOnce-kept}
+use Rattle.fsa_model.proofs.OnceLaws.{AddsEnds, AddsEnds-length, AddsEnds-same, AddsEnds-next, is_call_of, is_same-refl, IsOnce-kept}
 use Rattle.fsa_model.proofs.RowLaws.{option_cases, option_map-none, change_at, change_at-number}
 use Rattle.fsa_model.proofs.SettleLaws.{MaySettle, IsNext, is_under, is_free, how_many_free, next_ready-is, ready-free, next-may_be_held, try-tries, MaySettle-kept, Steps, Steps-settle_step, repeated-ends, some_equal, none-ready}
 use Rattle.fsa_model.proofs.WaitLaws.{unbroken}
@@ -33,9 +33,9 @@ abbrev pub one_if : Bool → ℕ
 one_if test = cond test 1 0
 
 -- where no number is given, and no end is taken away
-pub GivesAtMost-same : (v w : Volume) (more : ℕ) → SameNumbers v w → Extends v.ended w.ended → GivesAtMost v (length v.ended + more) → GivesAtMost w (length w.ended + more)
+pub GivesAtMost-same : (v w : Volume) (more : ℕ) → SameNumbers v w → AddsEnds v.ended w.ended → GivesAtMost v (length v.ended + more) → GivesAtMost w (length w.ended + more)
 GivesAtMost-same v w more same extends gives =
-    let longer = Extends-length extends in
+    let longer = AddsEnds-length extends in
     record {
       files = let is = same.files in let few = gives.files in omega arith;
       links = let is = same.links in let few = gives.links in omega arith;
@@ -45,10 +45,10 @@ GivesAtMost-same v w more same extends gives =
     }
 
 -- where a call that was given a few numbers ends
-pub GivesAtMost-ends : (v w : Volume) (client number more : ℕ) (reply : Reply) → FewNumbers v w → Extends v.ended w.ended → GivesAtMost v (length v.ended + more)
+pub GivesAtMost-ends : (v w : Volume) (client number more : ℕ) (reply : Reply) → FewNumbers v w → AddsEnds v.ended w.ended → GivesAtMost v (length v.ended + more)
     → GivesAtMost (with_end w client number reply) (length (with_end w client number reply).ended + more)
 GivesAtMost-ends v w client number more reply few extends gives =
-    let longer = Extends-length extends in
+    let longer = AddsEnds-length extends in
     let one = length-append w.ended (record { client = client; number = number; reply = reply } ∷ []) in
     record {
       files = let most = few.files in let up = gives.files in omega arith;
@@ -212,7 +212,7 @@ record Goes (turns : List ℕ) (v w : Volume) : Type 0 where
   made : made w ≡ made v
   under : (test : ℕ → Bool) → how_many (λ e. test e.0) w.pending ≤ how_many (λ e. test e.0) v.pending
   granted : (turn : ℕ) → how_many (is_granted_under turn) w.oplocks ≤ how_many (is_granted_under turn) v.oplocks
-  ended : Extends v.ended w.ended
+  ended : AddsEnds v.ended w.ended
   seen : Watches v w
   gives : (more : ℕ) → GivesAtMost v (length v.ended + more) → GivesAtMost w (length w.ended + more)
   breaks : w.last_break + unbroken w ≤ v.last_break + unbroken v
@@ -231,7 +231,7 @@ GoesOn-step v s t turns on steps taken goes in_order below = record {
   made = goes.made ∙ on.made;
   under = λ test. let before = on.under test in let one = goes.under test in omega arith;
   granted = λ turn. let before = on.granted turn in let one = goes.granted turn in omega arith;
-  ended = Extends-next on.ended goes.ended;
+  ended = AddsEnds-next on.ended goes.ended;
   seen = Watches-next on.seen goes.seen;
   gives = λ more up. goes.gives more (on.gives more up);
   breaks = let before = on.breaks in let one = goes.breaks in omega arith;
@@ -268,7 +268,7 @@ Goes-unheld v entry reply once none given there waits =
       granted = keeps.granted;
       ended = keeps.ended;
       seen = keeps.seen;
-      gives = λ more up. GivesAtMost-ends v v entry.1.call.client entry.1.call.number more reply (FewNumbers-same (SameNumbers-same v)) (Extends-same v.ended) up;
+      gives = λ more up. GivesAtMost-ends v v entry.1.call.client entry.1.call.number more reply (FewNumbers-same (SameNumbers-same v)) (AddsEnds-same v.ended) up;
       breaks = omega arith;
       taken = λ turn. (let stay = held-ends v entry.1.call.client entry.1.call.number reply once other (λ e. is_under turn e && is_free v e) in
           let before = how_many-same (is_let_go turn v) (λ e. is_held e.1 && (is_under turn e && is_free v e)) v.pending (λ e. turned_round (is_under turn e) (is_held e.1) (is_free v e)) in
@@ -297,7 +297,7 @@ Goes-waits v w entry reply un once none given next waits =
       made = goes.made ∙ leaves.keeps.made once;
       under = λ test. (let first = leaves.keeps.pending (λ e. test e.0) in let second = goes.under test in omega arith);
       granted = λ turn. (let first = leaves.keeps.granted turn in let second = goes.granted turn in omega arith);
-      ended = Extends-next leaves.keeps.ended goes.ended;
+      ended = AddsEnds-next leaves.keeps.ended goes.ended;
       seen = Watches-next leaves.keeps.seen goes.seen;
       gives = λ more up. goes.gives more (GivesAtMost-same v w more un.numbers leaves.keeps.ended up);
       breaks = (let first = leaves.breaks in let second = goes.breaks in omega arith);
@@ -518,7 +518,7 @@ GoesOn-begins v starved may = record {
   made = refl;
   under = λ test. omega arith;
   granted = λ turn. omega arith;
-  ended = Extends-same v.ended;
+  ended = AddsEnds-same v.ended;
   seen = Watches-equal refl refl;
   gives = λ more up. up;
   breaks = omega arith;

@@ -31,7 +31,7 @@ use Rattle.fsa_model.specs.Waits.{waits_for, held_by}
 pub use Rattle.fsa_model.specs.Settling.{Watches, is_given, GrantsNoneHeld}
 use Rattle.fsa_model.proofs.BreakLaws.{broken, told-oplocks, with_breaks-rest}
 use Rattle.fsa_model.proofs.CountLaws.{and_left, and_right, how_many-filter, how_many-filter_le, how_many-in_order, how_many-none, how_many-split, how_many-weaker, only-one, how_many-map, how_many-same, how_many-some, some-how_many, and_true}
-use Rattle.fsa_model.proofs.OnceLaws.{Extends, Extends-same, Extends-next, Extends-equal, is_call_of, times-pending_ends, made-with_end, IsOnce-kept, is_same-refl}
+use Rattle.fsa_model.proofs.OnceLaws.{AddsEnds, AddsEnds-same, AddsEnds-next, AddsEnds-equal, is_call_of, times-pending_ends, made-with_end, IsOnce-kept, is_same-refl}
 use Rattle.fsa_model.proofs.PendLaws.{HandlesStay, HandlesStay-same, HandlesStay-next, NoneLapsed, NoneLapsed-ends_under, NoneLapsed-same, OneGrantEach, found-under, lapsed}
 use Rattle.fsa_model.proofs.RowLaws.{option_cases, find-any}
 use Rattle.fsa_model.proofs.WaitLaws.{is_of, lacks_break, lowered, begun, goes_on_badly, done_to, new-effect, last-effect, badly-rest, chosen-well, or_none, IsNew, HasOneBreakEach, HasOneOplockEach, with_breaks-lives, with_breaks-spends, unbroken, with_breaks-new, with_breaks-last, awaited-live, find-passes}
@@ -70,7 +70,7 @@ pub record Keeps (v w : Volume) : Type 0 where
   pub pending : (test : ℕ × Pending → Bool) → how_many test w.pending ≤ how_many test v.pending
   pub times : IsOnce v → (client number : ℕ) → times client number w ≡ times client number v
   pub made : IsOnce v → made w ≡ made v
-  pub ended : Extends v.ended w.ended
+  pub ended : AddsEnds v.ended w.ended
   pub seen : Watches v w
 
 -- each break in progress still has its own number, where each living blocker's number has been given
@@ -168,7 +168,7 @@ FewNumbers-before few same = record {
 }
 
 pub Keeps-same : (v : Volume) → Keeps v v
-Keeps-same v = record { oplocks = λ handle. omega arith; granted = λ turn. omega arith; pending = λ test. omega arith; times = λ once client number. refl; made = λ once. refl; ended = Extends-same v.ended; seen = Watches-equal refl refl }
+Keeps-same v = record { oplocks = λ handle. omega arith; granted = λ turn. omega arith; pending = λ test. omega arith; times = λ once client number. refl; made = λ once. refl; ended = AddsEnds-same v.ended; seen = Watches-equal refl refl }
 
 pub Keeps-next : {u v w : Volume} → Keeps u v → Keeps v w → Keeps u w
 Keeps-next {u} {v} {w} first second = record {
@@ -177,7 +177,7 @@ Keeps-next {u} {v} {w} first second = record {
   pending = λ test. let one = first.pending test in let two = second.pending test in omega arith;
   times = λ once client number. second.times (IsOnce-kept u v (first.times once) once) client number ∙ first.times once client number;
   made = λ once. second.made (IsOnce-kept u v (first.times once) once) ∙ first.made once;
-  ended = Extends-next first.ended second.ended;
+  ended = AddsEnds-next first.ended second.ended;
   seen = Watches-next first.seen second.seen;
 }
 
@@ -282,7 +282,7 @@ Keeps-same_waits v w un = record {
   pending = λ test. rw un.pending (omega arith);
   times = λ once client number. rw (un.pending, un.ended) refl;
   made = λ once. rw (un.pending, un.ended) refl;
-  ended = Extends-equal un.ended;
+  ended = AddsEnds-equal un.ended;
   seen = un.seen;
 }
 
@@ -375,7 +375,7 @@ Keeps-changed v change at last same grants = record {
   pending = λ test. omega arith;
   times = λ once client number. refl;
   made = λ once. refl;
-  ended = Extends-same v.ended;
+  ended = AddsEnds-same v.ended;
   seen = Watches-equal refl refl;
 }
 
@@ -387,7 +387,7 @@ Keeps-effect v oplock Ends = Keeps-next {v = without_oplock v oplock.handle} (re
   pending = λ test. omega arith;
   times = λ once client number. refl;
   made = λ once. refl;
-  ended = Extends-same v.ended;
+  ended = AddsEnds-same v.ended;
   seen = Watches-equal refl refl;
 }) (Keeps-told (without_oplock v oplock.handle) oplock.call Nil false)
 Keeps-effect v oplock (Begins level) =

@@ -23,7 +23,7 @@ use Rattle.fsa_types.specs.declared.status.Status.TheVariants.{Success, Cancelle
 use Rattle.fsa_model.specs.Close.{is_call_on, closed_status, is_left_behind, pending_by_turn, with_calls_ended, named_stream, is_link_of_parent, with_mark_on_close, is_stream_over, with_stream_swept, is_link_over, name_bit, with_link_swept, with_swept, with_closed, close_at, try_close, handles_of_client, with_all_closed, with_client_gone, try_leave}
 use Rattle.fsa_model.specs.Changes.{with_change_noted}
 use Rattle.fsa_model.specs.Edits.{is_call, is_lock_on, with_end, with_left, with_link_marked, with_stream_marked, with_ticks, without_file_unless_linked, without_handle, without_link, without_lock, without_oplock}
-use Rattle.fsa_model.specs.Grant.{ack_at, ack_with, is_not_granted, oplock_at, oplock_by, oplock_on, switched, target_of, try_ack, try_oplock, with_all_switched, with_call_ended, with_granted, with_level_kept, with_switched}
+use Rattle.fsa_model.specs.Grant.{ack_at, ack_keeping, is_not_granted, oplock_at, oplock_by, oplock_on, switched, target_of, try_ack, try_oplock, with_all_switched, with_call_ended, with_granted, with_level_kept, with_switched}
 use Rattle.fsa_model.specs.Locking.{unlock_range, unlock_by, unlock_at, try_unlock}
 use Rattle.fsa_model.specs.Lookups.{handle_of, has_left, has_row, number_of}
 use Rattle.fsa_model.specs.Outcome.{Outcome, Done, Stay, refused}
@@ -216,15 +216,15 @@ try_oplock-quiet v client handle level turn =
     (λ stream. quiet-if (is_not_granted v id row.key stream level) _ _ (same v)
     (Quiet-next (Onward-all_switched (switched v id row.key stream) v) (Quiet-same {v = with_all_switched v id row.key stream} {w = with_granted v id row.key stream level turn} refl refl refl))) (same v)) (same v)) (same v)
 
-ack_with-quiet : (v : Volume) (id : ℕ) (level : Level) (turn : ℕ) → Quiet v (volume_after (ack_with v id level turn))
-unfolding ack_with
-ack_with-quiet v id level turn = quiet-if (has_read level) (Stay (with_level_kept v id level turn) (Granted level)) (Done (without_oplock v id) (record { status = Success; body = Left Nil })) (Quiet-same {v = v} {w = with_level_kept v id level turn} refl refl refl) (Quiet-same {v = v} {w = without_oplock v id} refl refl refl)
+ack_keeping-quiet : (v : Volume) (id : ℕ) (level : Level) (turn : ℕ) → Quiet v (volume_after (ack_keeping v id level turn))
+unfolding ack_keeping
+ack_keeping-quiet v id level turn = quiet-if (has_read level) (Stay (with_level_kept v id level turn) (Granted level)) (Done (without_oplock v id) (record { status = Success; body = Left Nil })) (Quiet-same {v = v} {w = with_level_kept v id level turn} refl refl refl) (Quiet-same {v = v} {w = without_oplock v id} refl refl refl)
 
 try_ack-quiet : (v : Volume) (client handle : ℕ) (level : Level) (turn : ℕ) → Quiet v (volume_after (try_ack v client handle level turn))
 unfolding try_ack ack_at
 try_ack-quiet v client handle level turn =
     quiet-option (handle_of v client handle) (λ id. ack_at v id level turn) (refused v InvalidHandle)
-    (λ id. quiet-option (target_of v id) _ _ (λ target. ack_with-quiet v id (in_both level target) turn) (same v)) (same v)
+    (λ id. quiet-option (target_of v id) _ _ (λ target. ack_keeping-quiet v id (in_both level target) turn) (same v)) (same v)
 
 -- ---- any call but a Notify
 

@@ -32,7 +32,7 @@ pub use Rattle.fsa_model.specs.Settling.{MayTurn}
 use Rattle.fsa_model.proofs.CountLaws.{and_left, how_many-append, how_many-weaker, how_many-filter_le, how_many-in_order}
 use Rattle.fsa_model.proofs.GrantLaws.{StaysUnder, StaysUnder-kept, GrantsTo, Grants, Grants-refused, try_oplock-grants, try_ack-grants, Answers, Answers-refused, try_ack-ends, EndsNone, EndsNone-refused, try_oplock-ends}
 use Rattle.fsa_model.proofs.KeepLaws.{KeepsAll, KeepsAll-same, KeptTo, Kept, Kept-if, Kept-refused, KeepsAll-calls_ended, try_close-kept, try_leave-kept, try_unlock-kept, try_wait-kept, try_cancel-kept, ticks-kept, try_notify-kept, Kept-obeys}
-use Rattle.fsa_model.proofs.OnceLaws.{Extends, Extends-next, is_call_of, is_same, is_same-equal, times-with_end, length-filter_split, IsOnce-kept}
+use Rattle.fsa_model.proofs.OnceLaws.{AddsEnds, AddsEnds-next, is_call_of, is_same, is_same-equal, times-with_end, length-filter_split, IsOnce-kept}
 use Rattle.fsa_model.proofs.SettleLaws.{MaySettle-kept, MaySettle-ends, may_be_held, is_under, is_held_wrongly, try-tries, settled-done, some_equal}
 use Rattle.fsa_model.proofs.TakenLaws.{GivesAtMost, GivesAtMost-same, GivesAtMost-ends, is_ungiven, MayTakeUp, GoesOn, taken_up_all-goes}
 use Rattle.fsa_model.proofs.TryLaws.{SameNumbers, FewNumbers, FewNumbers-same, KeepsNumbers, KeepsNumbers-leaves, Leaves, Tries, TriesTo, GrantsNoneHeld, GrantsNoneHeld-kept, HasOneOplockEach-kept, is_given, Watches, Watches-next}
@@ -400,7 +400,7 @@ Adds-answered v call outcome may none tried = go outcome tried
       gives = gives;
     }
 
-    pends : (w : Volume) (blockers : List Blocker) → Watches v w → ((client number : ℕ) → times client number w ≡ times client number v) → made w ≡ made v → w.last_break + unbroken w ≤ v.last_break + unbroken v + 1 → Extends v.ended w.ended
+    pends : (w : Volume) (blockers : List Blocker) → Watches v w → ((client number : ℕ) → times client number w ≡ times client number v) → made w ≡ made v → w.last_break + unbroken w ≤ v.last_break + unbroken v + 1 → AddsEnds v.ended w.ended
         → IsBetween w → (is_held (record { call = call; blockers = blockers }) ≡ false) ⊎ (how_many (is_granted_under (made w + 1)) w.oplocks ≡ 0) → SameNumbers v w
         → is_held_wrongly (made w + 1, record { call = call; blockers = blockers }) ≡ false → list_any (λ b. not (is_given w b)) blockers ≡ false
         → Adds v call.client call.number (with_pending w (made v + 1) call blockers)
@@ -446,7 +446,7 @@ pub record Settles (v w : Volume) : Type 0 where
   pub done : next_ready w ≡ None
   pub times : (client number : ℕ) → times client number w ≡ times client number v
   pub made : made w ≡ made v
-  pub ended : Extends v.ended w.ended
+  pub ended : AddsEnds v.ended w.ended
   pub seen : Watches v w
   pub gives : (more : ℕ) → GivesAtMost v (length v.ended + more) → GivesAtMost w (length w.ended + more)
   pub breaks : w.last_break + unbroken w ≤ v.last_break + unbroken v
@@ -468,7 +468,7 @@ settled-settles v starved may =
       done = settled-done v starved may.take_up.may;
       times = λ client number. kept.keeps.times on.once client number ∙ on.times client number;
       made = kept.keeps.made on.once ∙ on.made;
-      ended = Extends-next on.ended kept.keeps.ended;
+      ended = AddsEnds-next on.ended kept.keeps.ended;
       seen = Watches-next on.seen kept.keeps.seen;
       gives = λ more up. GivesAtMost-same taken (with_stalled taken) more stalled.same kept.keeps.ended (on.gives more up);
       breaks = (let before = on.breaks in let last = kept.breaks in omega arith);
@@ -517,7 +517,7 @@ own_end call (Stay v interim) = []
 own_end call (Hold v blockers interim) = []
 
 -- a try only adds ends
-pub tried-begins : (v : Volume) (turn : ℕ) (what : What) (outcome : Outcome) → TriedTo v turn what outcome → Extends v.ended (volume_after outcome).ended
+pub tried-begins : (v : Volume) (turn : ℕ) (what : What) (outcome : Outcome) → TriedTo v turn what outcome → AddsEnds v.ended (volume_after outcome).ended
 tried-begins v turn what (Done w reply) tried = tried.0.keeps.ended
 tried-begins v turn what (Stay w interim) tried = tried.ended
 tried-begins v turn what (Hold w blockers interim) tried = tried.0.keeps.ended
@@ -527,7 +527,7 @@ answered-ended call turn (Done w reply) = refl
 answered-ended call turn (Stay w interim) = sym (append-nil w.ended)
 answered-ended call turn (Hold w blockers interim) = sym (append-nil w.ended)
 
-between : (v w : Volume) → Extends v.ended w.ended → w.ended ≡ v.ended ++ ends_between v w
+between : (v w : Volume) → AddsEnds v.ended w.ended → w.ended ≡ v.ended ++ ends_between v w
 between v w begins = begins.is ∙ ap (λ (more : List EndOf). v.ended ++ more) (sym (ap (λ (ended : List EndOf). drop (length v.ended) ended) begins.is ∙ drop-append_seam v.ended begins.more))
 
 -- the calls that end in a turn: those that its try ends, its own call where that ends it, and those that the

@@ -139,7 +139,7 @@ lines_from line reading (bytes ∷ more) =
 abbrev pub pieces : List ℕ → List (List ℕ)
 pieces bytes = slice_split (λ byte. byte == 10) bytes
 
--- the script that these bytes are, or else the least faulty line and its first kind
+-- the script that these bytes are, or else the first faulty line and its first kind
 unfoldable pub script_of : List ℕ → Result Script Fault
 script_of bytes =
     if length bytes == 0 then Err (record { line = 1; kind = BadCut })

@@ -103,7 +103,7 @@ pub record MayTurn (v : Volume) : Type 0 where
 -- ---- what a settlement keeps
 
 -- the first ends begin the second
-pub record Extends (before after : List EndOf) : Type 0 where
+pub record AddsEnds (before after : List EndOf) : Type 0 where
   pub more : List EndOf
   pub is : after ≡ before ++ more
 
@@ -148,7 +148,7 @@ pub record GoesOn (v : Volume) (s : Settling) : Type 0 where
   -- no call is pending under another turn, and no oplock is granted
   pub under : (test : ℕ → Bool) → how_many (λ e. test e.0) s.volume.pending ≤ how_many (λ e. test e.0) v.pending
   pub granted : (turn : ℕ) → how_many (is_granted_under turn) s.volume.oplocks ≤ how_many (is_granted_under turn) v.oplocks
-  pub ended : Extends v.ended s.volume.ended
+  pub ended : AddsEnds v.ended s.volume.ended
   pub seen : Watches v s.volume
   pub gives : (more : ℕ) → GivesAtMost v (length v.ended + more) → GivesAtMost s.volume (length s.volume.ended + more)
   pub breaks : s.volume.last_break + unbroken s.volume ≤ v.last_break + unbroken v

@@ -49,34 +49,34 @@ fields_text (WaitFor number) = number_text number
 fields_text Leave = []
 
 -- which calls a line can say: all but leaving, with numbers that fit their fields
-abbrev pub is_built : What → Bool
-is_built (Ask (Create path wanted share disposition options attributes key)) = is_create path wanted share options attributes key
-is_built (Ask (Close handle)) = nat_le handle most_id
-is_built (Ask (Read handle place count)) = is_read handle place count
-is_built (Ask (Write handle start bytes)) = is_write handle start bytes
-is_built (Ask (Flush handle)) = nat_le handle most_id
-is_built (Ask (SetEnd handle length)) = is_set_end handle length
-is_built (Ask (Lock handle place count exclusive wait)) = is_range handle place count
-is_built (Ask (Unlock handle place count)) = is_range handle place count
-is_built (Ask (Oplock handle level)) = is_oplock handle level
-is_built (Ask (Ack handle level)) = nat_le handle most_id
-is_built (Ask (SetDisposition handle delete)) = nat_le handle most_id
-is_built (Ask (Rename handle path replace)) = is_naming handle path
-is_built (Ask (Link handle path replace)) = is_naming handle path
-is_built (Ask (QueryInfo handle kind room)) = is_query_info handle room
-is_built (Ask (SetBasic handle creation access write change attributes)) = is_set_basic handle creation access write change attributes
-is_built (Ask (SetSecurity handle owner dacl)) = is_set_security handle owner dacl
-is_built (Ask (QueryDir handle kind expression restart room)) = is_query_dir handle expression room
-is_built (Ask (Notify handle filter tree room)) = is_notify handle filter room
-is_built (Ask (SetReparse handle buffer)) = is_set_reparse handle buffer
-is_built (Ask (GetReparse handle room)) = is_get_reparse handle room
-is_built (Ask (DeleteReparse handle tag)) = is_delete_reparse handle tag
-is_built (Ask (SetQuota sid limit)) = is_set_quota sid limit
-is_built (Ask (QueryQuota sid)) = nat_le sid most_id
-is_built (Ask (Cancel number)) = nat_le number most_id
-is_built (Tick ticks) = nat_le ticks most_id
-is_built (WaitFor number) = nat_le number most_id
-is_built Leave = false
+abbrev pub can_be_spelled : What → Bool
+can_be_spelled (Ask (Create path wanted share disposition options attributes key)) = is_create path wanted share options attributes key
+can_be_spelled (Ask (Close handle)) = nat_le handle most_id
+can_be_spelled (Ask (Read handle place count)) = is_read handle place count
+can_be_spelled (Ask (Write handle start bytes)) = is_write handle start bytes
+can_be_spelled (Ask (Flush handle)) = nat_le handle most_id
+can_be_spelled (Ask (SetEnd handle length)) = is_set_end handle length
+can_be_spelled (Ask (Lock handle place count exclusive wait)) = is_range handle place count
+can_be_spelled (Ask (Unlock handle place count)) = is_range handle place count
+can_be_spelled (Ask (Oplock handle level)) = is_oplock handle level
+can_be_spelled (Ask (Ack handle level)) = nat_le handle most_id
+can_be_spelled (Ask (SetDisposition handle delete)) = nat_le handle most_id
+can_be_spelled (Ask (Rename handle path replace)) = is_naming handle path
+can_be_spelled (Ask (Link handle path replace)) = is_naming handle path
+can_be_spelled (Ask (QueryInfo handle kind room)) = is_query_info handle room
+can_be_spelled (Ask (SetBasic handle creation access write change attributes)) = is_set_basic handle creation access write change attributes
+can_be_spelled (Ask (SetSecurity handle owner dacl)) = is_set_security handle owner dacl
+can_be_spelled (Ask (QueryDir handle kind expression restart room)) = is_query_dir handle expression room
+can_be_spelled (Ask (Notify handle filter tree room)) = is_notify handle filter room
+can_be_spelled (Ask (SetReparse handle buffer)) = is_set_reparse handle buffer
+can_be_spelled (Ask (GetReparse handle room)) = is_get_reparse handle room
+can_be_spelled (Ask (DeleteReparse handle tag)) = is_delete_reparse handle tag
+can_be_spelled (Ask (SetQuota sid limit)) = is_set_quota sid limit
+can_be_spelled (Ask (QueryQuota sid)) = nat_le sid most_id
+can_be_spelled (Ask (Cancel number)) = nat_le number most_id
+can_be_spelled (Tick ticks) = nat_le ticks most_id
+can_be_spelled (WaitFor number) = nat_le number most_id
+can_be_spelled Leave = false
 
 -- SIDs, each a field
 abbrev pub sids_text : List ℕ → List ℕ
@@ -95,5 +95,5 @@ line_text (RequestLine name number what) = name ++ (number_text number ++ (32 �
 abbrev pub is_line : Line → Bool
 is_line (Pair source target) = nat_le source most_mask && nat_le target most_mask
 is_line (ClientLine name sids) = is_name name && nat_le 1 (length sids) && nat_le (length sids) 16 && list_all (λ sid. nat_le sid most_id) sids
-is_line (RequestLine name number what) = is_name name && nat_le number most_id && is_built what
+is_line (RequestLine name number what) = is_name name && nat_le number most_id && can_be_spelled what
 is_line _ = true

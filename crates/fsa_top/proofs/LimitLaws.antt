@@ -6,11 +6,11 @@ use Rattle.std.proofs.lemmas.Bool.Decides.{nat_tests}
 use Rattle.fsa_model.specs.Script.{script_of}
 use Rattle.fsa_model.specs.Setup.{Script}
 use Rattle.fsa_model.proofs.ScriptLaws.{script_of-few, script_of-named}
-use Rattle.history_laws.specs.Named.{IsRead}
+use Rattle.history_laws.specs.Named.{IsReadScript}
 use Rattle.history_laws.proofs.ReadNames.{script_of-read}
 use Rattle.wire_io.specs.Source.{HasMoreThan, ReadsWhole}
 use Rattle.fsa_top.specs.Limits.{PassesLimit, client_lines, limit_of, line_feeds, most_bytes, most_client_lines, most_line_feeds}
-use Rattle.fsa_top.specs.Order.{IsWithin}
+use Rattle.fsa_top.specs.Order.{IsWithinLimits}
 use Rattle.fsa_top.specs.declared.limits.Limit.{Limit}
 use Rattle.fsa_top.specs.declared.limits.Limit.TheVariants.{Bytes, Lines, Clients}
 
@@ -40,12 +40,12 @@ limits_none bytes none = elim (cases_Bool (nat_lt most_bytes (length bytes))) [
 ]
 
 -- the script that they are
-pub script-within : (bytes : List ℕ) (script : Script) → limit_of bytes ≡ None → script_of bytes ≡ Ok script → IsWithin script
+pub script-within : (bytes : List ℕ) (script : Script) → limit_of bytes ≡ None → script_of bytes ≡ Ok script → IsWithinLimits script
 script-within bytes script none is =
     let few = limits_none bytes none in record {
       lines = (let lines = script_of-few bytes script is in omega (arith, lines, few.1));
       clients = (let clients = script_of-named bytes script is in omega (arith, clients, few.2));
     }
 
-pub script-read : (bytes : List ℕ) (script : Script) → limit_of bytes ≡ None → script_of bytes ≡ Ok script → IsRead script
+pub script-read : (bytes : List ℕ) (script : Script) → limit_of bytes ≡ None → script_of bytes ≡ Ok script → IsReadScript script
 script-read bytes script none is = (let few = limits_none bytes none in script_of-read bytes script (omega (arith, few.0)) is)

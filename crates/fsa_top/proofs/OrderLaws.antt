@@ -8,12 +8,12 @@ use Rattle.fsa_types.specs.declared.request.Call.{Call}
 use Rattle.fsa_model.specs.Schedule.{all_calls, leave_after}
 use Rattle.fsa_model.specs.Setup.{Client, Script}
 use Rattle.history_laws.specs.Cursors.{first_from, first_of}
-use Rattle.history_laws.specs.Named.{IsRead}
+use Rattle.history_laws.specs.Named.{IsReadScript}
 use Rattle.history_laws.proofs.CursorLaws.{first_from-before, first_from-is, first_from-least}
 use Rattle.history_laws.proofs.NextLaws.{leave_at, leaves_from}
 use Rattle.history_laws.proofs.OrderLaws.{call_within}
 use Rattle.history_laws.proofs.PlaceLaws.{first_of-most}
-use Rattle.fsa_top.specs.Order.{Follows, IsLeastCursor}
+use Rattle.fsa_top.specs.Order.{AreNextPlaces, IsLeastCursor}
 
 -- ---- the calls of a script
 
@@ -114,7 +114,7 @@ first_from-other client (suc place) (first ∷ more) call at other =
     let next : first_from client (suc place + 1) (first ∷ more) ≡ suc (place + 1) + first_of client (drop (place + 1) more) = ap (λ n. first_from client n (first ∷ more)) (let e : suc place + 1 ≡ suc (place + 1) = omega arith in e) in
     omega (arith, rest, next)
 
-pub ListedFrom-next : (script : Script) (place : ℕ) (places following : List ℕ) (call : Call) → IsRead script → slice_get script.lines place ≡ Some call → ListedFrom script (place + 1) places following
+pub ListedFrom-next : (script : Script) (place : ℕ) (places following : List ℕ) (call : Call) → IsReadScript script → slice_get script.lines place ≡ Some call → ListedFrom script (place + 1) places following
     → ListedFrom script place (set places call.client place) (set following place (get_or places call.client 0))
 ListedFrom-next script place places following call is_read at listed = record {
   long = length-set places call.client place ∙ listed.long;
@@ -158,7 +158,7 @@ ListedFrom-next script place places following call is_read at listed = record {
       | inl same ↦ absurd (differ a b (sym (eqb-true b a same)) isnt)
     ]
 
-pub ListedFrom-follows : (script : Script) (places following : List ℕ) → ListedFrom script 0 places following → Follows script following
+pub ListedFrom-follows : (script : Script) (places following : List ℕ) → ListedFrom script 0 places following → AreNextPlaces script following
 ListedFrom-follows script places following listed = record { long = listed.long_following; each = λ place call at. listed.behind place call (omega arith) at }
 
 pub ListedFrom-first : (script : Script) (places following : List ℕ) → ListedFrom script 0 places following → (client : ℕ) → client < length places → slice_index_or places client 0 ≡ first_of client (all_calls script)
@@ -224,11 +224,11 @@ IsLeastCursor-next waiting cursors client all least so = elim (cases_Bool (waiti
 line_there : (script : Script) (lines : List Call) (i : ℕ) (call : Call) → lines ≡ script.lines → i < length lines → slice_get script.lines i ≡ Some (get_or lines i call)
 line_there script lines i call same inside = ap (λ (l : List Call). slice_get l i) (sym same) ∙ slice_get-get_or lines i call inside
 
-pub line_within : (script : Script) (lines : List Call) (i : ℕ) (call : Call) → IsRead script → lines ≡ script.lines → i < length lines → (get_or lines i call).client < length script.setup.clients
+pub line_within : (script : Script) (lines : List Call) (i : ℕ) (call : Call) → IsReadScript script → lines ≡ script.lines → i < length lines → (get_or lines i call).client < length script.setup.clients
 line_within script lines i call is_read same inside =
     call_within script i (get_or lines i call) is_read (line_at script i (get_or lines i call) (line_there script lines i call same inside))
 
-pub ListedFrom-back : (script : Script) (lines : List Call) (place : ℕ) (places following : List ℕ) (call : Call) → IsRead script → lines ≡ script.lines → 0 < place → place ≤ length lines
+pub ListedFrom-back : (script : Script) (lines : List Call) (place : ℕ) (places following : List ℕ) (call : Call) → IsReadScript script → lines ≡ script.lines → 0 < place → place ≤ length lines
     → ListedFrom script place places following
     → ListedFrom script (place - 1) (set places (get_or lines (place - 1) call).client (place - 1)) (set following (place - 1) (get_or places (get_or lines (place - 1) call).client 0))
 ListedFrom-back script lines place places following call is_read same some few listed =
@@ -237,7 +237,7 @@ ListedFrom-back script lines place places following call is_read same some few l
 
 -- ---- behind a call
 
-pub line_behind : (script : Script) (lines : List Call) (following : List ℕ) (place : ℕ) (default : Call) (other : ℕ) → lines ≡ script.lines → Follows script following → place < length lines
+pub line_behind : (script : Script) (lines : List Call) (following : List ℕ) (place : ℕ) (default : Call) (other : ℕ) → lines ≡ script.lines → AreNextPlaces script following → place < length lines
     → (call : Call) → slice_get (all_calls script) place ≡ Some call → ((get_or lines place default).client ≡ call.client) × (get_or following place other ≡ first_from call.client (place + 1) (all_calls script))
 line_behind script lines following place default other same follows inside call at =
     let there : slice_get script.lines place ≡ Some (get_or lines place default) = line_there script lines place default same inside in
@@ -262,7 +262,7 @@ leave_behind script place past call at =
       sym long ∙ sym none ∙ sym here,
     )
 
-pub client_within : (script : Script) (place client : ℕ) → IsRead script → place < length (all_calls script) → ((call : Call) → slice_get (all_calls script) place ≡ Some call → client ≡ call.client)
+pub client_within : (script : Script) (place client : ℕ) → IsReadScript script → place < length (all_calls script) → ((call : Call) → slice_get (all_calls script) place ≡ Some call → client ≡ call.client)
     → client < length script.setup.clients
 client_within script place client is_read inside own =
     let call : Call = get_or (all_calls script) place (leave_after script.lines 0) in

@@ -22,7 +22,7 @@ use Rattle.fsa_model.proofs.ScheduleLaws.{Scheduled-none, Scheduled-push}
 use Rattle.fsa_model.proofs.ScriptLaws.{all_calls-numbered}
 use Rattle.fsa_model.proofs.SettleLaws.{some_equal}
 use Rattle.history_laws.specs.Cursors.{StandAt, first_from, first_of}
-use Rattle.history_laws.specs.Named.{IsRead}
+use Rattle.history_laws.specs.Named.{IsReadScript}
 use Rattle.history_laws.specs.Whole.{GoesOnTo, how_many_left}
 use Rattle.history_laws.proofs.CursorLaws.{first_from-is}
 use Rattle.history_laws.proofs.NextLaws.{AreLineCalls-all, AreLineCalls-at}
@@ -31,12 +31,12 @@ use Rattle.history_laws.proofs.PlaceLaws.{is_same-at, is_same-self, number_at}
 use Rattle.history_laws.proofs.PlainText.{text-plain}
 use Rattle.history_laws.proofs.SameText.{same_text}
 use Rattle.history_laws.proofs.WholeLaws.{Scheduled-goes_on, left_falls, some_run}
-use Rattle.fsa_machine.specs.Stands.{Seen}
+use Rattle.fsa_machine.specs.MachineView.{MachineView}
 use Rattle.wire_io.specs.Sink.{Written, Appends, AppendsPart}
 use Rattle.wire_io.proofs.SinkLaws.{Appends-append, Appends-none, AppendsPart-append, AppendsPart-longer, AppendsPart-none, AppendsPart-whole}
-use Rattle.fsa_top.specs.Order.{Follows, IsLeastCursor, IsWithin}
+use Rattle.fsa_top.specs.Order.{AreNextPlaces, IsLeastCursor, IsWithinLimits}
 use Rattle.fsa_top.specs.Runs.{IsHistory, WritesPart, WritesText}
-use Rattle.fsa_top.specs.Progress.{IsNextAt, MadeTurn, MakesTurn, Shows, Progress}
+use Rattle.fsa_top.specs.Progress.{IsNextAt, MadeTurn, MakesTurn, WroteTurns, Progress}
 use Rattle.fsa_top.specs.declared.order.Order.{Order}
 use Rattle.fsa_top.specs.declared.run.RunFault.{RunFault}
 use Rattle.fsa_top.proofs.OrderLaws.{length-all_calls}
@@ -78,14 +78,14 @@ last_same (first ∷ xs) [] x y same = absurd (let long : length (first ∷ xs +
 last_same (first ∷ xs) (other ∷ ys) x y same = last_same xs ys x y (let rest : xs ++ x ∷ [] ≡ ys ++ y ∷ [] = cc in rest)
 
 -- the machine's turn is a turn of the script's history
-record MakesNext (script : Script) (old : Seen) (call : Call) (out : TurnOut) : Type 0 where
+record MakesNext (script : Script) (old : MachineView) (call : Call) (out : TurnOut) : Type 0 where
   before : Run
   turned : Turned
   runs : run script.setup old.entries ≡ Some before
   turns : turn before.volume call out.starved ≡ Some turned
   out_is : turned.out ≡ out
 
-makes_next : (script : Script) (old new : Seen) (call : Call) (out : TurnOut) → old.setup ≡ script.setup → MadeTurn old new call out → MakesNext script old call out
+makes_next : (script : Script) (old new : MachineView) (call : Call) (out : TurnOut) → old.setup ≡ script.setup → MadeTurn old new call out → MakesNext script old call out
 makes_next script old new call out setup made =
     let runs : run script.setup (old.entries ++ record { call = call; starved = out.starved } ∷ []) ≡ Some made.gave.state
     = ap (λ (s : Setup). run s (old.entries ++ record { call = call; starved = out.starved } ∷ [])) (sym (made.setup ∙ setup)) ∙ ap (run new.setup) (sym made.entries) ∙ made.gave.runs in
@@ -103,14 +103,14 @@ next_is script history call before runs is = sym (ap (option_and_then (λ (r : R
 
 -- ---- one more turn
 
-pub scheduled-turn : (script : Script) (old new : Seen) (call : Call) (out : TurnOut) → old.setup ≡ script.setup → Scheduled script old.entries → next script old.entries ≡ Some call → MadeTurn old new call out
+pub scheduled-turn : (script : Script) (old new : MachineView) (call : Call) (out : TurnOut) → old.setup ≡ script.setup → Scheduled script old.entries → next script old.entries ≡ Some call → MadeTurn old new call out
     → Scheduled script new.entries
 scheduled-turn script old new call out setup scheduled is made =
     let turns : MakesNext script old call out = makes_next script old new call out setup made in
     subst (Scheduled script) (sym made.entries)
     (Scheduled-push script old.entries (record { call = call; starved = out.starved }) turns.before turns.turned scheduled turns.runs (next_is script old.entries call turns.before turns.runs is) turns.turns)
 
-shown-turn : (script : Script) (old new : Seen) (call : Call) (out : TurnOut) → old.setup ≡ script.setup → MadeTurn old new call out
+shown-turn : (script : Script) (old new : MachineView) (call : Call) (out : TurnOut) → old.setup ≡ script.setup → MadeTurn old new call out
     → shown_turns script new.entries ≡ shown_turns script old.entries ++ turn_text old.setup.clients call out
 shown-turn script old new call out setup made =
     let turns : MakesNext script old call out = makes_next script old new call out setup made in
@@ -119,15 +119,15 @@ shown-turn script old new call out setup made =
     ∙ ap (λ (o : TurnOut). shown_turns script old.entries ++ turn_text script.setup.clients call o) turns.out_is
     ∙ ap (λ (s : Setup). shown_turns script old.entries ++ turn_text s.clients call out) (sym setup)
 
-pub Shows-turn : (script : Script) (old new : Seen) (call : Call) (out : TurnOut) (first mid now : Written) → old.setup ≡ script.setup → next script old.entries ≡ Some call → MadeTurn old new call out
-    → Appends mid now (turn_text old.setup.clients call out) → Shows script old.entries first mid → Shows script new.entries first now
-Shows-turn script old new call out first mid now setup is made wrote shows = record {
+pub WroteTurns-turn : (script : Script) (old new : MachineView) (call : Call) (out : TurnOut) (first mid now : Written) → old.setup ≡ script.setup → next script old.entries ≡ Some call → MadeTurn old new call out
+    → Appends mid now (turn_text old.setup.clients call out) → WroteTurns script old.entries first mid → WroteTurns script new.entries first now
+WroteTurns-turn script old new call out first mid now setup is made wrote shows = record {
   scheduled = scheduled-turn script old new call out setup shows.scheduled is made;
   wrote = subst (Appends first now) (sym (shown-turn script old new call out setup made)) (Appends-append first mid now _ _ shows.wrote wrote);
 }
 
 -- fewer calls are left
-pub left-turn : (script : Script) (old new : Seen) (call : Call) (out : TurnOut) → old.setup ≡ script.setup → next script old.entries ≡ Some call → MadeTurn old new call out
+pub left-turn : (script : Script) (old new : MachineView) (call : Call) (out : TurnOut) → old.setup ≡ script.setup → next script old.entries ≡ Some call → MadeTurn old new call out
     → how_many_left script new.entries < how_many_left script old.entries
 left-turn script old new call out setup is made =
     let turns : MakesNext script old call out = makes_next script old new call out setup made in
@@ -137,7 +137,7 @@ left-turn script old new call out setup is made =
 -- ---- the next call
 
 -- it stands at its client's cursor
-pub at_cursor : (script : Script) (seen : Seen) (order : Order) (place : ℕ) (call : Call) → Progress script seen order → next script seen.entries ≡ Some call → slice_get (all_calls script) place ≡ Some call
+pub at_cursor : (script : Script) (seen : MachineView) (order : Order) (place : ℕ) (call : Call) → Progress script seen order → next script seen.entries ≡ Some call → slice_get (all_calls script) place ≡ Some call
     → slice_index_or order.places.items call.client 0 ≡ place
 at_cursor script seen order place call stands is at =
     let r = some_run script seen.entries stands.scheduled in
@@ -146,7 +146,7 @@ at_cursor script seen order place call stands is at =
     is_same-at (all_calls script) (slice_index_or order.places.items call.client 0) place call call (all_calls-numbered script stands.is_read.numbered) there at (is_same-self call)
 
 -- a turn of it may be made
-pub next-asked : (script : Script) (seen : Seen) (order : Order) (place : ℕ) (call : Call) → Progress script seen order → next script seen.entries ≡ Some call → slice_get (all_calls script) place ≡ Some call
+pub next-asked : (script : Script) (seen : MachineView) (order : Order) (place : ℕ) (call : Call) → Progress script seen order → next script seen.entries ≡ Some call → slice_get (all_calls script) place ≡ Some call
     → IsLineCall (length seen.setup.clients) call × (call.number ≡ calls_of call.client (map (λ entry. entry.call) seen.entries) + 1)
 next-asked script seen order place call stands is at =
     let fits : IsLineCall (length script.setup.clients) call = AreLineCalls-at (length script.setup.clients) (all_calls script) place call (AreLineCalls-all script stands.is_read.fit) at in
@@ -159,7 +159,7 @@ next-asked script seen order place call stands is at =
     )
 
 -- after its turn
-pub Progress-turn : (script : Script) (old new : Seen) (order later : Order) (place : ℕ) (call : Call) (out : TurnOut) → Progress script old order → next script old.entries ≡ Some call → slice_get (all_calls script) place ≡ Some call
+pub Progress-turn : (script : Script) (old new : MachineView) (order later : Order) (place : ℕ) (call : Call) (out : TurnOut) → Progress script old order → next script old.entries ≡ Some call → slice_get (all_calls script) place ≡ Some call
     → MadeTurn old new call out → later.following ≡ order.following → later.places.items ≡ slice_set order.places.items call.client (first_from call.client (place + 1) (all_calls script)) → Progress script new later
 Progress-turn script old new order later place call out stands is at made following places =
     let cursor : slice_index_or order.places.items call.client 0 ≡ place = at_cursor script old order place call stands is at in
@@ -173,7 +173,7 @@ Progress-turn script old new order later place call out stands is at made follow
       few = (let falls = left-turn script old new call out stands.setup is made in
           let long : length new.entries ≡ length old.entries + 1 = ap (λ (h : List HistoryEntry). length h) made.entries ∙ length-append old.entries (record { call = call; starved = out.starved } ∷ []) in
           omega (arith, falls, long, stands.few));
-      follows = subst (λ (f : List ℕ). Follows script f) (sym (ap (λ f. f.items) following)) stands.follows;
+      follows = subst (λ (f : List ℕ). AreNextPlaces script f) (sym (ap (λ f. f.items) following)) stands.follows;
       long = ap length places ∙ length-set order.places.items call.client _ ∙ stands.long;
       cursors = subst (λ (history : List HistoryEntry). StandAt (all_calls script) history later.places.items) (sym made.entries)
           (subst (StandAt (all_calls script) (old.entries ++ record { call = call; starved = out.starved } ∷ []))
@@ -182,7 +182,7 @@ Progress-turn script old new order later place call out stands is at made follow
 
 -- ---- before the first turn
 
-pub Progress-begun : (script : Script) (seen : Seen) (order : Order) → IsRead script → IsWithin script → seen.setup ≡ script.setup → seen.entries ≡ [] → Follows script order.following.items
+pub Progress-begun : (script : Script) (seen : MachineView) (order : Order) → IsReadScript script → IsWithinLimits script → seen.setup ≡ script.setup → seen.entries ≡ [] → AreNextPlaces script order.following.items
     → length order.places.items ≡ length script.setup.clients → ((client : ℕ) → client < length order.places.items → slice_index_or order.places.items client 0 ≡ first_of client (all_calls script)) → Progress script seen order
 Progress-begun script seen order is_read within setup none follows long first = record {
   is_read = is_read;
@@ -196,8 +196,8 @@ Progress-begun script seen order is_read within setup none follows long first = 
   cursors = subst (λ (history : List HistoryEntry). StandAt (all_calls script) history order.places.items) (sym none) (calls-begun script order.places.items is_read long first);
 }
 
-pub Shows-begun : (script : Script) (history : List HistoryEntry) (written : Written) → history ≡ [] → Shows script history written written
-Shows-begun script history written none = subst (λ (h : List HistoryEntry). Shows script h written written) (sym none) (record { scheduled = Scheduled-none script; wrote = Appends-none written })
+pub WroteTurns-begun : (script : Script) (history : List HistoryEntry) (written : Written) → history ≡ [] → WroteTurns script history written written
+WroteTurns-begun script history written none = subst (λ (h : List HistoryEntry). WroteTurns script h written written) (sym none) (record { scheduled = Scheduled-none script; wrote = Appends-none written })
 
 -- ---- what was written so far
 
@@ -213,26 +213,26 @@ whole_part : (script : Script) (history whole : List HistoryEntry) (first now : 
 whole_part script history whole first now goes part =
     (whole, goes.scheduled, goes.all, run-coherent script.setup whole, run-watches_report script.setup whole, subst (AppendsPart first now) (sym (text_split script whole (shown_turns script history) goes.shows.0 goes.shows.1)) part)
 
-pub Shows-part : (script : Script) (history : List HistoryEntry) (first now : Written) → IsRead script → Shows script history first now → WritesPart script first now
-Shows-part script history first now is_read shows =
+pub WroteTurns-part : (script : Script) (history : List HistoryEntry) (first now : Written) → IsReadScript script → WroteTurns script history first now → WritesPart script first now
+WroteTurns-part script history first now is_read shows =
     let goes = Scheduled-goes_on script history is_read shows.scheduled in
     whole_part script history goes.0 first now goes.1
     (AppendsPart-whole first now (shown_turns script history) (goes.1.shows.0 ++ last_line (length goes.0)) (some_last goes.1.shows.0 (length goes.0)) shows.wrote)
 
 -- so it is with a part of the lines of the next turn
-Shows-front : (script : Script) (old new : Seen) (call : Call) (out : TurnOut) (first mid now : Written) → IsRead script → old.setup ≡ script.setup → next script old.entries ≡ Some call → MadeTurn old new call out
-    → AppendsPart mid now (turn_text old.setup.clients call out) → Shows script old.entries first mid → WritesPart script first now
-Shows-front script old new call out first mid now is_read setup is made front shows =
+WroteTurns-front : (script : Script) (old new : MachineView) (call : Call) (out : TurnOut) (first mid now : Written) → IsReadScript script → old.setup ≡ script.setup → next script old.entries ≡ Some call → MadeTurn old new call out
+    → AppendsPart mid now (turn_text old.setup.clients call out) → WroteTurns script old.entries first mid → WritesPart script first now
+WroteTurns-front script old new call out first mid now is_read setup is made front shows =
     let goes = Scheduled-goes_on script new.entries is_read (scheduled-turn script old new call out setup shows.scheduled is made) in
     whole_part script new.entries goes.0 first now goes.1
     (AppendsPart-longer first now (shown_turns script new.entries) (goes.1.shows.0 ++ last_line (length goes.0))
     (subst (AppendsPart first now) (sym (shown-turn script old new call out setup made)) (AppendsPart-append first mid now _ _ shows.wrote front)))
 
 -- a turn that wasn't made, or whose lines weren't written
-pub MakesTurn-part : (script : Script) (old new : Seen) (call : Call) (first mid now : Written) (fault : RunFault) → IsRead script → old.setup ≡ script.setup → next script old.entries ≡ Some call
-    → MakesTurn old new call mid now (Err fault) → Shows script old.entries first mid → WritesPart script first now
-MakesTurn-part script old new call first mid now Failed is_read setup is makes shows = Shows-front script old new call makes.0 first mid now is_read setup is makes.1 makes.2 shows
-MakesTurn-part script old new call first mid now NoMemory is_read setup is makes shows = subst (WritesPart script first) (sym makes) (Shows-part script old.entries first mid is_read shows)
+pub MakesTurn-part : (script : Script) (old new : MachineView) (call : Call) (first mid now : Written) (fault : RunFault) → IsReadScript script → old.setup ≡ script.setup → next script old.entries ≡ Some call
+    → MakesTurn old new call mid now (Err fault) → WroteTurns script old.entries first mid → WritesPart script first now
+MakesTurn-part script old new call first mid now Failed is_read setup is makes shows = WroteTurns-front script old new call makes.0 first mid now is_read setup is makes.1 makes.2 shows
+MakesTurn-part script old new call first mid now NoMemory is_read setup is makes shows = subst (WritesPart script first) (sym makes) (WroteTurns-part script old.entries first mid is_read shows)
 
 -- ---- the end
 
@@ -241,11 +241,11 @@ pub last_none : (old now : Written) (turns : ℕ) → now ≡ old → AppendsPar
 last_none old now turns same = subst (λ (w : Written). AppendsPart old w (last_line turns)) (sym same) (AppendsPart-none old (last_line turns) (omega arith))
 
 -- a part of the last line was written behind the lines of all turns
-pub Shows-last_part : (script : Script) (history : List HistoryEntry) (first mid now : Written) → HasAllCalls script history → Shows script history first mid → AppendsPart mid now (last_line (length history)) → WritesPart script first now
-Shows-last_part script history first mid now all shows last = (history, shows.scheduled, all, run-coherent script.setup history, run-watches_report script.setup history, AppendsPart-append first mid now _ _ shows.wrote last)
+pub WroteTurns-last_part : (script : Script) (history : List HistoryEntry) (first mid now : Written) → HasAllCalls script history → WroteTurns script history first mid → AppendsPart mid now (last_line (length history)) → WritesPart script first now
+WroteTurns-last_part script history first mid now all shows last = (history, shows.scheduled, all, run-coherent script.setup history, run-watches_report script.setup history, AppendsPart-append first mid now _ _ shows.wrote last)
 
 -- a schedule that has all calls is the one history with its text
-pub history-one : (script : Script) (history : List HistoryEntry) → IsRead script → Scheduled script history → HasAllCalls script history → IsHistory script history
+pub history-one : (script : Script) (history : List HistoryEntry) → IsReadScript script → Scheduled script history → HasAllCalls script history → IsHistory script history
 history-one script history is_read scheduled all = record {
   scheduled = scheduled;
   whole = all;
@@ -256,29 +256,29 @@ history-one script history is_read scheduled all = record {
 }
 
 -- the last line was
-pub Shows-whole : (script : Script) (history : List HistoryEntry) (first mid now : Written) → IsRead script → HasAllCalls script history → Shows script history first mid → Appends mid now (last_line (length history)) → WritesText script first now
-Shows-whole script history first mid now is_read all shows last = (history, history-one script history is_read shows.scheduled all, Appends-append first mid now _ _ shows.wrote last)
+pub WroteTurns-whole : (script : Script) (history : List HistoryEntry) (first mid now : Written) → IsReadScript script → HasAllCalls script history → WroteTurns script history first mid → Appends mid now (last_line (length history)) → WritesText script first now
+WroteTurns-whole script history first mid now is_read all shows last = (history, history-one script history is_read shows.scheduled all, Appends-append first mid now _ _ shows.wrote last)
 
 -- where no call is next
-pub Progress-all : (script : Script) (seen : Seen) (order : Order) → Progress script seen order → next script seen.entries ≡ None → HasAllCalls script seen.entries
+pub Progress-all : (script : Script) (seen : MachineView) (order : Order) → Progress script seen order → next script seen.entries ≡ None → HasAllCalls script seen.entries
 Progress-all script seen order stands none = next-all script seen.entries stands.is_read stands.scheduled none
 
 -- ---- where the next call stands
 
-abbrev pub LeastOf : Seen → Order → ℕ → Type 0
+abbrev pub LeastOf : MachineView → Order → ℕ → Type 0
 LeastOf seen order place =
     (r : Run) → run seen.setup seen.entries ≡ Some r → IsLeastCursor (λ client. waits r.volume client) order.places.items (length order.places.items) (length order.following.items + length order.places.items) place
 
-all_long : (script : Script) (seen : Seen) (order : Order) → Progress script seen order → length order.following.items + length order.places.items ≡ length (all_calls script)
+all_long : (script : Script) (seen : MachineView) (order : Order) → Progress script seen order → length order.following.items + length order.places.items ≡ length (all_calls script)
 all_long script seen order stands =
     let long : length (all_calls script) ≡ length script.lines + length script.setup.clients = length-all_calls script in
     omega (arith, long, stands.long, stands.follows.long)
 
-run_here : (script : Script) (seen : Seen) (r : Run) → seen.setup ≡ script.setup → run script.setup seen.entries ≡ Some r → run seen.setup seen.entries ≡ Some r
+run_here : (script : Script) (seen : MachineView) (r : Run) → seen.setup ≡ script.setup → run script.setup seen.entries ≡ Some r → run seen.setup seen.entries ≡ Some r
 run_here script seen r same runs = ap (λ (s : Setup). run s seen.entries) same ∙ runs
 
 -- at the least cursor
-pub next_here : (script : Script) (seen : Seen) (order : Order) (place : ℕ) → Progress script seen order → LeastOf seen order place → place < length order.following.items + length order.places.items → IsNextAt script seen.entries place
+pub next_here : (script : Script) (seen : MachineView) (order : Order) (place : ℕ) → Progress script seen order → LeastOf seen order place → place < length order.following.items + length order.places.items → IsNextAt script seen.entries place
 next_here script seen order place stands least inside =
     let r = some_run script seen.entries stands.scheduled in
     of r.0 r.1 (least r.0 (run_here script seen r.0 stands.setup r.1))
@@ -306,7 +306,7 @@ next_here script seen order place stands least inside =
     ]
 
 -- and where that is behind all calls none is next
-pub next_nowhere : (script : Script) (seen : Seen) (order : Order) (place : ℕ) → Progress script seen order → LeastOf seen order place → length order.following.items + length order.places.items ≤ place → next script seen.entries ≡ None
+pub next_nowhere : (script : Script) (seen : MachineView) (order : Order) (place : ℕ) → Progress script seen order → LeastOf seen order place → length order.following.items + length order.places.items ≤ place → next script seen.entries ≡ None
 next_nowhere script seen order place stands least past =
     let r = some_run script seen.entries stands.scheduled in
     let so : IsLeastCursor (λ client. waits r.0.volume client) order.places.items (length order.places.items) (length order.following.items + length order.places.items) place = least r.0 (run_here script seen r.0 stands.setup r.1) in
@@ -315,9 +315,9 @@ next_nowhere script seen order place stands least past =
     (λ client within free. let few : place ≤ slice_index_or order.places.items client 0 = so.least client within free in omega (arith, few, past, all_long script seen order stands))
 
 -- so few turns are made
-pub Progress-few : (script : Script) (seen : Seen) (order : Order) → Progress script seen order → length seen.entries ≤ 40064
+pub Progress-few : (script : Script) (seen : MachineView) (order : Order) → Progress script seen order → length seen.entries ≤ 40064
 Progress-few script seen order progress = (let long = length-all_calls script in omega (arith, long, progress.few, progress.within.lines, progress.within.clients))
 
 -- and fewer before the next one
-pub Progress-room : (script : Script) (seen : Seen) (order : Order) → Progress script seen order → length seen.entries < 1000000
+pub Progress-room : (script : Script) (seen : MachineView) (order : Order) → Progress script seen order → length seen.entries < 1000000
 Progress-room script seen order progress = (let few = Progress-few script seen order progress in omega (arith, few))

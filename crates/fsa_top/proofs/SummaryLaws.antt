@@ -19,10 +19,10 @@ use Rattle.fsa_model.proofs.GeneratorLaws.{length-generated}
 use Rattle.fsa_model.proofs.HistoryLaws.{run-gives}
 use Rattle.fsa_model.proofs.ScriptLaws.{script_of-fits, script_of-numbered, script_of-sids}
 use Rattle.fsa_model.proofs.SettleLaws.{some_equal}
-use Rattle.history_laws.specs.Named.{AreNamed, IsRead}
+use Rattle.history_laws.specs.Named.{AreNamed, IsReadScript}
 use Rattle.history_laws.proofs.WholeLaws.{some_run}
-use Rattle.fsa_machine.specs.Stands.{Seen}
-use Rattle.fsa_top.specs.Order.{IsWithin}
+use Rattle.fsa_machine.specs.MachineView.{MachineView}
+use Rattle.fsa_top.specs.Order.{IsWithinLimits}
 use Rattle.fsa_top.specs.Summaries.{IsSummary, counts_text}
 use Rattle.fsa_top.proofs.RunLaws.{history-one}
 
@@ -99,7 +99,7 @@ generated-four : (seed : ℕ) → length (generated seed).setup.clients ≡ 4
 unfolding generated
 generated-four seed = refl
 
-pub generated-read : (seed : ℕ) → script_of (generated_text seed) ≡ Ok (generated seed) → IsRead (generated seed)
+pub generated-read : (seed : ℕ) → script_of (generated_text seed) ≡ Ok (generated seed) → IsReadScript (generated seed)
 generated-read seed is = record {
   named = generated-named seed;
   fit = script_of-fits (generated_text seed) (generated seed) is;
@@ -107,7 +107,7 @@ generated-read seed is = record {
   few = (let long = length-generated seed in omega (arith, long));
 }
 
-pub generated-within : (seed : ℕ) → IsWithin (generated seed)
+pub generated-within : (seed : ℕ) → IsWithinLimits (generated seed)
 generated-within seed = record {
   lines = (let long = length-generated seed in omega (arith, long));
   clients = (let four = generated-four seed in omega (arith, four));
@@ -118,7 +118,7 @@ generated-sids seed is = script_of-sids (generated_text seed) (generated seed) i
 
 -- ---- its summary
 
-pub summary-is : (script : Script) (seen : Seen) (text : List ℕ) → IsRead script → seen.setup ≡ script.setup → Scheduled script seen.entries → HasAllCalls script seen.entries
+pub summary-is : (script : Script) (seen : MachineView) (text : List ℕ) → IsReadScript script → seen.setup ≡ script.setup → Scheduled script seen.entries → HasAllCalls script seen.entries
     → ((r : Run) → run seen.setup seen.entries ≡ Some r → text ≡ summary_text (length seen.entries) (flat_map statuses_of r.outs)) → IsSummary script text
 summary-is script seen text is_read setup scheduled all is =
     let r = some_run script seen.entries scheduled in

@@ -6,12 +6,12 @@ use Rattle.fsa_model.specs.Setup.{Script}
 use Rattle.history_laws.specs.Cursors.{first_from}
 
 -- a script within the limits
-pub record IsWithin (script : Script) : Type 0 where
+pub record IsWithinLimits (script : Script) : Type 0 where
   pub lines : length script.lines ≤ 40000
   pub clients : length script.setup.clients ≤ 64
 
 -- behind each line the place of its client's next call
-pub record Follows (script : Script) (following : List ℕ) : Type 0 where
+pub record AreNextPlaces (script : Script) (following : List ℕ) : Type 0 where
   pub long : length following ≡ length script.lines
   pub each : (place : ℕ) (call : Call) → slice_get script.lines place ≡ Some call → slice_index_or following place 0 ≡ first_from call.client (place + 1) (all_calls script)
 

@@ -7,24 +7,24 @@ use Rattle.fsa_model.specs.Schedule.{Scheduled, all_calls, next}
 use Rattle.fsa_model.specs.Setup.{Script}
 use Rattle.fsa_model.specs.Text.{shown_turns, turn_text}
 use Rattle.history_laws.specs.Cursors.{StandAt}
-use Rattle.history_laws.specs.Named.{IsRead}
+use Rattle.history_laws.specs.Named.{IsReadScript}
 use Rattle.history_laws.specs.Whole.{how_many_left}
-use Rattle.fsa_machine.specs.Stands.{GaveOut, Seen}
+use Rattle.fsa_machine.specs.MachineView.{GaveOut, MachineView}
 use Rattle.wire_io.specs.Sink.{Written, Appends, AppendsPart}
-use Rattle.fsa_top.specs.Order.{Follows, IsWithin}
+use Rattle.fsa_top.specs.Order.{AreNextPlaces, IsWithinLimits}
 use Rattle.fsa_top.specs.declared.order.Order.{Order}
 use Rattle.fsa_top.specs.declared.run.RunFault.{RunFault}
 use Rattle.fsa_top.specs.declared.run.RunFault.TheVariants.{Failed, NoMemory}
 
 -- the machine's history is a schedule of the script, and the order knows which of its calls were made
-pub record Progress (script : Script) (seen : Seen) (order : Order) : Type 0 where
-  pub is_read : IsRead script
-  pub within : IsWithin script
+pub record Progress (script : Script) (seen : MachineView) (order : Order) : Type 0 where
+  pub is_read : IsReadScript script
+  pub within : IsWithinLimits script
   pub setup : seen.setup ≡ script.setup
   pub scheduled : Scheduled script seen.entries
   -- no more calls were made and are left than the script has
   pub few : length seen.entries + how_many_left script seen.entries ≤ length (all_calls script)
-  pub follows : Follows script order.following.items
+  pub follows : AreNextPlaces script order.following.items
   pub long : length order.places.items ≡ length script.setup.clients
   pub cursors : StandAt (all_calls script) seen.entries order.places.items
 
@@ -35,19 +35,19 @@ pub record IsNextAt (script : Script) (history : List HistoryEntry) (place : ℕ
   pub is : next script history ≡ Some call
 
 -- the lines of a schedule's turns were written
-pub record Shows (script : Script) (history : List HistoryEntry) (written written_now : Written) : Type 0 where
+pub record WroteTurns (script : Script) (history : List HistoryEntry) (written written_now : Written) : Type 0 where
   pub scheduled : Scheduled script history
   pub wrote : Appends written written_now (shown_turns script history)
 
 -- the machine made a turn of this call, which gave this out
-pub record MadeTurn (old new : Seen) (call : Call) (out : TurnOut) : Type 0 where
+pub record MadeTurn (old new : MachineView) (call : Call) (out : TurnOut) : Type 0 where
   pub setup : new.setup ≡ old.setup
   pub entries : new.entries ≡ old.entries ++ record { call = call; starved = out.starved } ∷ []
   pub gave : GaveOut new.setup new.entries out
 
 -- the turn was made and its lines were written; where the sink failed, a part of them was; where there was no
 -- memory, nothing was
-abbrev pub MakesTurn : Seen → Seen → Call → Written → Written → Result (Unit {0}) RunFault → Type 0
+abbrev pub MakesTurn : MachineView → MachineView → Call → Written → Written → Result (Unit {0}) RunFault → Type 0
 MakesTurn old new call written written_now (Ok done) =
     (out : TurnOut) × MadeTurn old new call out × Appends written written_now (turn_text old.setup.clients call out)
 MakesTurn old new call written written_now (Err Failed) =

@@ -32,7 +32,7 @@ pub record Promised {S K : Type 0} (of : SourceView S) (on : SinkView K) (is_lis
   -- 1: exactly where the words are no list that the program takes; then the source isn't touched
   pub usage_exactly : (status ≡ 1) ↔ (is_list ≡ false)
   pub usage_reads_nothing : status ≡ 1 → (source_now ≡ source) × Says usage_line (on.written sink) (on.written sink_now) (on.faults sink) (on.faults sink_now)
-  -- 2: the bytes are no script, and the line that names the least faulty line was written
+  -- 2: the bytes are no script, and the line that names the first faulty line was written
   pub bad_script : status ≡ 2 → FoundBad (of.left source) (of.left source_now) (on.written sink) (on.written sink_now) (on.faults sink) (on.faults sink_now)
   -- 3: the source failed at its last take; the sink isn't touched
   pub source_failed : status ≡ 3 → FailsLast (of.faults source) (of.faults source_now) (of.taken source_now).since × (sink_now ≡ sink)

@@ -28,7 +28,7 @@ pub record IsHistory (script : Script) (history : List HistoryEntry) : Type 0 wh
   pub watches_report_exactly : WatchesReport script.setup history
   pub plainly : shows_no_memory (text script history) ≡ false → history ≡ plain script
 
--- the line that names the least faulty line
+-- the line that names the first faulty line
 abbrev pub bad_line : ℕ → List ℕ
 bad_line line = codes "bad line " ++ decimal line ++ 10 ∷ []
 
@@ -82,7 +82,7 @@ WritesWholePart script written written_now = (history : List HistoryEntry) × Wh
 abbrev pub WritesBegun : Script → Written → Written → Type 0
 WritesBegun script written written_now = (history : List HistoryEntry) × Begun script history × AppendsFront written written_now (text script history)
 
--- the bytes are no script, and the line that names the least faulty line was written, or a part of it where the sink failed
+-- the bytes are no script, and the line that names the first faulty line was written, or a part of it where the sink failed
 abbrev pub NamesFault : List ℕ → Written → Written → ℕ → ℕ → Type 0
 NamesFault bytes written written_now faults faults_now =
     (fault : Fault) × (script_of bytes ≡ Err fault) × Says (bad_line fault.line) written written_now faults faults_now
@@ -104,7 +104,7 @@ ReadsScript left left_now script = (bytes : List ℕ) × ReadsWithin left left_n
 abbrev pub Ran : (Script → Written → Written → Type 0) → Option (List ℕ) → Option (List ℕ) → Written → Written → Type 0
 Ran writes left left_now written written_now = (script : Script) × ReadsScript left left_now script × writes script written written_now
 
--- the source was read to its end within the limits, its bytes are no script, and the line that names the least faulty line was written
+-- the source was read to its end within the limits, its bytes are no script, and the line that names the first faulty line was written
 abbrev pub FoundBad : Option (List ℕ) → Option (List ℕ) → Written → Written → ℕ → ℕ → Type 0
 FoundBad left left_now written written_now faults faults_now =
     (bytes : List ℕ) × ReadsWithin left left_now bytes × NamesFault bytes written written_now faults faults_now

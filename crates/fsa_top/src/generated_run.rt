@@ -4,10 +4,10 @@ ghost use Rattle.std.specs.Prelude.{◌≡◌, ◌≢◌, ◌≤◌, ◌⊎◌, 
 ghost use Rattle.fsa_model.specs.Generator.{generated};
 ghost use Rattle.fsa_model.specs.LineCalls.{HaveSids};
 ghost use Rattle.fsa_model.specs.Schedule.{HasAllCalls, Scheduled};
-ghost use Rattle.history_laws.specs.Named.{IsRead};
+ghost use Rattle.history_laws.specs.Named.{IsReadScript};
 ghost use Rattle.script_read.specs.ScriptView.{contents};
 ghost use Rattle.wire_io.specs.Faults.{FailsLast};
-ghost use Rattle.fsa_top.specs.Order.{IsWithin};
+ghost use Rattle.fsa_top.specs.Order.{IsWithinLimits};
 ghost use Rattle.fsa_top.specs.Summaries.{IsSummary, WritesSummary, WritesSummaryPart};
 
 use crate::nowhere::Nowhere;
@@ -22,8 +22,8 @@ use wire_io::{Failed, Sink, put_all};
 
 // The machine after all calls of a script.
 fn machine_after(alloc: Global, script: &Script) -> Result<VolumeMachine, NoMemory>
-    requires is_read { IsRead (contents script.now) }
-    requires within { IsWithin (contents script.now) }
+    requires is_read { IsReadScript (contents script.now) }
+    requires within { IsWithinLimits (contents script.now) }
     requires sids { HaveSids (contents script.now).setup.clients }
     ensures setup { IfOk result (λ machine. machine.setup ≡ (contents script.now).setup) }
     ensures scheduled { IfOk result (λ machine. Scheduled (contents script.now) machine.entries) }
@@ -42,8 +42,8 @@ fn machine_after(alloc: Global, script: &Script) -> Result<VolumeMachine, NoMemo
 // The generated script of a seed, as a run takes it: its text is read as it.
 fn script_of_seed(alloc: Global, seed: u64) -> Result<Script, NoMemory>
     ensures script { IfOk result (λ script. contents script ≡ generated seed) }
-    ensures is_read { IsRead (generated seed) }
-    ensures within { IsWithin (generated seed) }
+    ensures is_read { IsReadScript (generated seed) }
+    ensures within { IsWithinLimits (generated seed) }
     ensures sids { HaveSids (generated seed).setup.clients }
 {
     a_generated_script_is_read();

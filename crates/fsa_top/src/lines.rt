@@ -86,7 +86,7 @@ fn put_bad<K: Sink>(sink: &mut K, line: u32) -> Result<(), Failed>
     Ok(())
 }
 
-/// Writes which line is the least faulty one. It takes no memory.
+/// Writes which line is the first faulty one. It takes no memory.
 pub fn say_bad<K: Sink>(sink: &mut K, line: u32)
     ensures says { Says (bad_line line) (K.written sink.old) (K.written sink.new) (K.faults sink.old) (K.faults sink.new) }
     ensures later { K.faults sink.old ≤ K.faults sink.new }

@@ -6,9 +6,9 @@ ghost use Rattle.fsa_model.specs.History.{Run, run};
 ghost use Rattle.fsa_model.specs.Schedule.{all_calls, next};
 ghost use Rattle.fsa_model.specs.Waiting.{waits};
 ghost use Rattle.history_laws.specs.Cursors.{first_from, first_of};
-ghost use Rattle.history_laws.specs.Named.{IsRead};
+ghost use Rattle.history_laws.specs.Named.{IsReadScript};
 ghost use Rattle.script_read.specs.ScriptView.{contents};
-ghost use Rattle.fsa_top.specs.Order.{Follows, IsLeastCursor, IsWithin};
+ghost use Rattle.fsa_top.specs.Order.{AreNextPlaces, IsLeastCursor, IsWithinLimits};
 ghost use Rattle.fsa_top.specs.Progress.{IsNextAt, Progress};
 
 use fsa_machine::VolumeMachine;
@@ -28,7 +28,7 @@ pub struct Order {
 
 // The places of the leavings.
 fn leave_places(alloc: Global, script: &Script) -> Result<Vec<usize>, NoMemory>
-    requires within { IsWithin (contents script.now) }
+    requires within { IsWithinLimits (contents script.now) }
     ensures long { IfOk result (λ places. length places.items ≡ length (contents script.now).setup.clients) }
     ensures each { IfOk result (λ places. (client : ℕ) → client < length places.items → slice_index_or places.items client 0 ≡ length (contents script.now).lines + client) }
 {
@@ -43,12 +43,12 @@ fn leave_places(alloc: Global, script: &Script) -> Result<Vec<usize>, NoMemory>
 
 // Lists the places from the last line to the first: of each client's first call, and behind each line.
 fn list_back(script: &Script, places: &mut [usize], following: &mut [usize])
-    requires is_read { IsRead (contents script.now) }
+    requires is_read { IsReadScript (contents script.now) }
     requires leaves { (length places.old ≡ length (contents script.now).setup.clients) × ((client : ℕ) → client < length places.old → slice_index_or places.old client 0 ≡ length (contents script.now).lines + client) }
     requires room { length following.old ≡ length (contents script.now).lines }
     ensures long { length places.new ≡ length (contents script.now).setup.clients }
     ensures first { (client : ℕ) → client < length places.new → slice_index_or places.new client 0 ≡ first_of client (all_calls (contents script.now)) }
-    ensures follows { Follows (contents script.now) following.new }
+    ensures follows { AreNextPlaces (contents script.now) following.new }
 {
     let lines = script.lines().as_slice();
     for place in (0..lines.len()).rev() {
@@ -72,11 +72,11 @@ fn lesser(machine: &VolumeMachine, client: u32, place: usize, least: usize) -> u
 impl Order {
     /// The order before the first turn.
     pub fn new(alloc: Global, script: &Script) -> Result<Order, NoMemory>
-        requires is_read { IsRead (contents script.now) }
-        requires within { IsWithin (contents script.now) }
+        requires is_read { IsReadScript (contents script.now) }
+        requires within { IsWithinLimits (contents script.now) }
         ensures long { IfOk result (λ order. length order.places.items ≡ length (contents script.now).setup.clients) }
         ensures first { IfOk result (λ order. (client : ℕ) → client < length order.places.items → slice_index_or order.places.items client 0 ≡ first_of client (all_calls (contents script.now))) }
-        ensures follows { IfOk result (λ order. Follows (contents script.now) order.following.items) }
+        ensures follows { IfOk result (λ order. AreNextPlaces (contents script.now) order.following.items) }
     {
         let mut places = leave_places(alloc, script)?;
         let mut following = vec![in alloc; 0usize; script.lines().len()]?;
@@ -113,9 +113,9 @@ impl Order {
 
     // The client of the call at this place, and where its next call stands.
     fn behind(&self, script: &Script, place: usize) -> (usize, usize)
-        requires follows { Follows (contents script.now) self.now.following.items }
+        requires follows { AreNextPlaces (contents script.now) self.now.following.items }
         requires long { length self.now.places.items ≡ length (contents script.now).setup.clients }
-        requires within { IsWithin (contents script.now) }
+        requires within { IsWithinLimits (contents script.now) }
         requires there { place < length (all_calls (contents script.now)) }
         ensures { (call : Call) → slice_get (all_calls (contents script.now)) place ≡ Some call → (result.0 ≡ call.client) × (result.1 ≡ first_from call.client (place + 1) (all_calls (contents script.now))) }
     {
@@ -128,9 +128,9 @@ impl Order {
 
     /// The call at this place was made: its client's next one stands behind it.
     pub fn go_on(&mut self, script: &Script, place: usize)
-        requires is_read { IsRead (contents script.now) }
-        requires within { IsWithin (contents script.now) }
-        requires follows { Follows (contents script.now) self.old.following.items }
+        requires is_read { IsReadScript (contents script.now) }
+        requires within { IsWithinLimits (contents script.now) }
+        requires follows { AreNextPlaces (contents script.now) self.old.following.items }
         requires long { length self.old.places.items ≡ length (contents script.now).setup.clients }
         requires there { place < length (all_calls (contents script.now)) }
         ensures following { self.new.following ≡ self.old.following }

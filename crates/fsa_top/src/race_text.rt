@@ -6,7 +6,7 @@ ghost use Rattle.fsa_model.specs.History.{Run, run};
 ghost use Rattle.fsa_model.specs.Outcome.{out_of};
 ghost use Rattle.fsa_model.specs.Setup.{client_of};
 ghost use Rattle.fsa_model.specs.Text.{text, turn_text};
-ghost use Rattle.history_laws.specs.Named.{IsRead};
+ghost use Rattle.history_laws.specs.Named.{IsReadScript};
 ghost use Rattle.script_read.specs.ScriptView.{contents};
 ghost use Rattle.wire_io.specs.Faults.{FailsLast};
 ghost use Rattle.wire_io.specs.Sink.{Appends, AppendsPart};
@@ -109,7 +109,7 @@ pub fn race_script<R: Threads + Wait + Sync, K: Sink, G: Gate + Sync>(
     sink: &mut K,
     gate: &G,
 ) -> Result<(), RunFault>
-    requires is_read { IsRead (contents script.now) }
+    requires is_read { IsReadScript (contents script.now) }
     requires can { CanRace (contents script.now) }
     requires gate { (client number : ℕ) → G.is_for gate.now client number }
     ensures ok { OnOk result (WritesWhole (contents script.now) (K.written sink.old) (K.written sink.new)) }

@@ -7,14 +7,14 @@ ghost use Rattle.fsa_model.specs.Outcome.{out_of};
 ghost use Rattle.fsa_model.specs.Schedule.{HasAllCalls, all_calls, calls_of, leave_after};
 ghost use Rattle.fsa_model.specs.Setup.{client_of};
 ghost use Rattle.fsa_model.specs.Text.{last_line};
-ghost use Rattle.history_laws.specs.Named.{IsRead};
+ghost use Rattle.history_laws.specs.Named.{IsReadScript};
 ghost use Rattle.history_laws.specs.Whole.{how_many_left};
 ghost use Rattle.wire_io.specs.Faults.{FailsLast};
 ghost use Rattle.wire_io.specs.Sink.{Appends, AppendsPart, Written};
 ghost use Rattle.script_read.specs.ScriptView.{contents};
-ghost use Rattle.fsa_top.specs.Order.{IsWithin};
+ghost use Rattle.fsa_top.specs.Order.{IsWithinLimits};
 ghost use Rattle.fsa_top.specs.Runs.{WritesPart, WritesText};
-ghost use Rattle.fsa_top.specs.Progress.{IsNextAt, MadeTurn, MakesTurn, Shows, Progress};
+ghost use Rattle.fsa_top.specs.Progress.{IsNextAt, MadeTurn, MakesTurn, WroteTurns, Progress};
 ghost use Rattle.fsa_top.specs.declared.run.RunFault.TheVariants.{Failed, NoMemory};
 
 use crate::order::Order;
@@ -125,7 +125,7 @@ fn make_turn_at<K: Sink>(
     place: usize,
     sink: &mut K,
 ) -> Result<(), RunFault>
-    requires within { IsWithin (contents script.now) }
+    requires within { IsWithinLimits (contents script.now) }
     requires setup { machine.old.setup ≡ (contents script.now).setup }
     requires few { length machine.old.entries < 1000000 }
     requires there { place < length (all_calls (contents script.now)) }
@@ -159,8 +159,8 @@ fn take_turn<K: Sink>(
     requires next { IsNextAt (contents script.now) machine.old.entries place }
     ensures stands { OnOk result (Progress (contents script.now) machine.new order.new) }
     ensures fewer { OnOk result (how_many_left (contents script.now) machine.new.entries < how_many_left (contents script.now) machine.old.entries) }
-    ensures shows { OnOk result ((first : Written) → Shows (contents script.now) machine.old.entries first (K.written sink.old) → Shows (contents script.now) machine.new.entries first (K.written sink.new)) }
-    ensures part { OnErr result ((first : Written) → Shows (contents script.now) machine.old.entries first (K.written sink.old) → WritesPart (contents script.now) first (K.written sink.new)) }
+    ensures shows { OnOk result ((first : Written) → WroteTurns (contents script.now) machine.old.entries first (K.written sink.old) → WroteTurns (contents script.now) machine.new.entries first (K.written sink.new)) }
+    ensures part { OnErr result ((first : Written) → WroteTurns (contents script.now) machine.old.entries first (K.written sink.old) → WritesPart (contents script.now) first (K.written sink.new)) }
     ensures later { K.faults sink.old ≤ K.faults sink.new }
     ensures failed { IsErrOf result RunFault.Failed → FailsLast (K.faults sink.old) (K.faults sink.new) (K.written sink.new).since_fault }
     ensures unfailed { OnOk result (K.faults sink.new ≡ K.faults sink.old) }
@@ -181,10 +181,10 @@ pub fn run_calls<K: Sink>(
     sink: &mut K,
 ) -> Result<(), RunFault>
     requires stands { Progress (contents script.now) machine.old order.old }
-    requires shows { Shows (contents script.now) machine.old.entries (K.written sink.old) (K.written sink.old) }
+    requires shows { WroteTurns (contents script.now) machine.old.entries (K.written sink.old) (K.written sink.old) }
     ensures setup { OnOk result (machine.new.setup ≡ (contents script.now).setup) }
     ensures few { OnOk result (length machine.new.entries ≤ 40064) }
-    ensures ok { OnOk result (Shows (contents script.now) machine.new.entries (K.written sink.old) (K.written sink.new)) }
+    ensures ok { OnOk result (WroteTurns (contents script.now) machine.new.entries (K.written sink.old) (K.written sink.new)) }
     ensures all { OnOk result (HasAllCalls (contents script.now) machine.new.entries) }
     ensures part { OnErr result (WritesPart (contents script.now) (K.written sink.old) (K.written sink.new)) }
     ensures later { K.faults sink.old ≤ K.faults sink.new }
@@ -235,7 +235,7 @@ fn run_on<K: Sink>(
     sink: &mut K,
 ) -> Result<(), RunFault>
     requires stands { Progress (contents script.now) machine.old order.old }
-    requires shows { Shows (contents script.now) machine.old.entries (K.written sink.old) (K.written sink.old) }
+    requires shows { WroteTurns (contents script.now) machine.old.entries (K.written sink.old) (K.written sink.old) }
     ensures ok { OnOk result (WritesText (contents script.now) (K.written sink.old) (K.written sink.new)) }
     ensures part { OnErr result (WritesPart (contents script.now) (K.written sink.old) (K.written sink.new)) }
     ensures later { K.faults sink.old ≤ K.faults sink.new }
@@ -252,8 +252,8 @@ fn run_on<K: Sink>(
 /// `Failed` where the sink failed, `NoMemory` where there was no memory; a part of the text of a
 /// history that has all calls is written then, or nothing.
 pub fn run_script<K: Sink>(alloc: Global, script: &Script, sink: &mut K) -> Result<(), RunFault>
-    requires is_read { IsRead (contents script.now) }
-    requires within { IsWithin (contents script.now) }
+    requires is_read { IsReadScript (contents script.now) }
+    requires within { IsWithinLimits (contents script.now) }
     requires sids { HaveSids (contents script.now).setup.clients }
     ensures ok { OnOk result (WritesText (contents script.now) (K.written sink.old) (K.written sink.new)) }
     ensures part { IsErrOf result RunFault.Failed → WritesPart (contents script.now) (K.written sink.old) (K.written sink.new) }

@@ -202,7 +202,7 @@ fn race_source<R: Threads + Wait + Sync, S: Source, K: Sink, G: Gate + Sync>(
 /// - 0: the source was read to its end, its bytes are a script, and the text of the script's one
 ///   history is written.
 /// - 1: the words are no list that the program takes.
-/// - 2: the bytes are no script; the line that names the least faulty line is written.
+/// - 2: the bytes are no script; the line that names the first faulty line is written.
 /// - 3: the source failed at its last take; nothing is written.
 /// - 4: the sink failed at its last put; a part of the text of a scheduled history that has all calls is
 ///   written, and not all of it.

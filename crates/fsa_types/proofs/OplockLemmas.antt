@@ -9,7 +9,7 @@ use Rattle.std.proofs.lemmas.List.Elements.{All-nil, All-push, All-cons, All-map
 use Rattle.std.proofs.lemmas.List.Kept.{AllPairs-filter}
 use Rattle.std.proofs.lemmas.List.Quantifiers.{all_pairs_push}
 use Rattle.fsa_types.specs.OplockGrants.{as_granted, as_answered}
-use Rattle.fsa_types.specs.OplockLists.{OplockState, begun, lowered, after_effect, effect_on, after_breaks, IsOplock, AreOplocks, CanBegin, CanGoOn, CanHave, IsLater, IsCopy}
+use Rattle.fsa_types.specs.OplockLists.{OplockState, begun, lowered, after_effect, effect_on, after_breaks, IsSoundOplock, AreOplocks, CanBegin, CanGoOn, CanHave, IsLater, IsCopy}
 use Rattle.fsa_types.specs.Oplocks.{Oplock, Effect, Stays, Ends, Begins, Lowers, effect, has_read, has_write, has_handle, level_with, in_both, is_within, keep}
 use Rattle.fsa_types.specs.Sorting.{put_in_order, in_order}
 use Rattle.fsa_types.specs.declared.oplock.Class.{Class}
@@ -107,7 +107,7 @@ same_handle a b handle is_a is_b =
 
 pub AreOplocks-nil : (last : ℕ) → AreOplocks [] last
 AreOplocks-nil last = record {
-  each = All-nil IsOplock;
+  each = All-nil IsSoundOplock;
   handles_differ = λ i j d below within. absurd (omega arith);
   numbers_differ = λ i j d below within. absurd (omega arith);
   numbers_given = All-nil (λ o. o.number ≤ last);
@@ -116,7 +116,7 @@ AreOplocks-nil last = record {
 -- an oplock taken out, or more of them
 pub AreOplocks-filter : (p : Oplock → Bool) (oplocks : List Oplock) (last : ℕ) → AreOplocks oplocks last → AreOplocks (filter p oplocks) last
 AreOplocks-filter p oplocks last are = record {
-  each = All-filter p IsOplock oplocks are.each;
+  each = All-filter p IsSoundOplock oplocks are.each;
   handles_differ = AllPairs-filter (λ a b. (a.handle == b.handle) ≡ false) p oplocks are.handles_differ;
   numbers_differ = AllPairs-filter (λ a b. (is_some a.target && a.number == b.number) ≡ false) p oplocks are.numbers_differ;
   numbers_given = All-filter p (λ o. o.number ≤ last) oplocks are.numbers_given;
@@ -125,7 +125,7 @@ AreOplocks-filter p oplocks last are = record {
 AreOplocks-begun : (handle : ℕ) (level : Level) (oplocks : List Oplock) (last : ℕ) → CanBegin level handle oplocks → AreOplocks oplocks last
     → AreOplocks (map (begun handle level (last + 1)) oplocks) (last + 1)
 AreOplocks-begun handle level oplocks last can are = record {
-  each = All-map IsOplock (begun handle level (last + 1)) oplocks (λ k d within. elim (cases_Bool ((get_or oplocks k d).handle == handle)) [
+  each = All-map IsSoundOplock (begun handle level (last + 1)) oplocks (λ k d within. elim (cases_Bool ((get_or oplocks k d).handle == handle)) [
     | inl here ↦ rw here (record {
       has_number = rw (ne_eqb (last + 1) 0 (λ e. absurd (omega arith))) refl;
       has_call = refl;
@@ -161,7 +161,7 @@ AreOplocks-begun handle level oplocks last can are = record {
 AreOplocks-lowered : (handle : ℕ) (level : Level) (oplocks : List Oplock) (last : ℕ) → CanGoOn level handle oplocks → AreOplocks oplocks last
     → AreOplocks (map (lowered handle level) oplocks) last
 AreOplocks-lowered handle level oplocks last can are = record {
-  each = All-map IsOplock (lowered handle level) oplocks (λ k d within. elim (cases_Bool ((get_or oplocks k d).handle == handle)) [
+  each = All-map IsSoundOplock (lowered handle level) oplocks (λ k d within. elim (cases_Bool ((get_or oplocks k d).handle == handle)) [
     | inl here ↦ (let had = can k d within here in let was = are.each k d within in rw here (record {
       has_number = was.has_number ∙ had.1;
       has_call = was.has_call ∙ ap not had.1;
@@ -210,7 +210,7 @@ IsCopy-effect (Lowers level) handle held was copy =
     ])
 
 -- what a kind does to a copy can be had on the oplock
-pub CanHave-effect : (kind : Class) (was : Oplock) (oplocks : List Oplock) → IsOplock was → IsCopy oplocks was → CanHave (effect_on kind was) was.handle oplocks
+pub CanHave-effect : (kind : Class) (was : Oplock) (oplocks : List Oplock) → IsSoundOplock was → IsCopy oplocks was → CanHave (effect_on kind was) was.handle oplocks
 CanHave-effect kind was oplocks is copy = by_target kind was.level was.target is.target_within (λ k d within same. let later = copy k d within same in (later.level, later.target))
   where
     by_target : (kind : Class) (level : Level) (target : Option Level) → option_map_or (λ t. is_within t level) target true ≡ true
@@ -227,7 +227,7 @@ CanHave-effect kind was oplocks is copy = by_target kind was.level was.target is
     ]
 
 -- breaks of copies leave the oplocks sound
-pub AreOplocks-breaks : (kind : Class) (held : OplockState) (chosen : List Oplock) → All IsOplock chosen → All (IsCopy held.oplocks) chosen
+pub AreOplocks-breaks : (kind : Class) (held : OplockState) (chosen : List Oplock) → All IsSoundOplock chosen → All (IsCopy held.oplocks) chosen
     → AreOplocks held.oplocks held.last_break → AreOplocks (after_breaks kind held chosen).oplocks (after_breaks kind held chosen).last_break
 AreOplocks-breaks kind held [] each copies are = are
 AreOplocks-breaks kind held (o ∷ chosen) each copies are =
@@ -254,16 +254,16 @@ IsCopy-own oplocks differ j d within k e inside same =
 
 -- those that are chosen of a list are sound, and copies
 pub chosen-are : (before : Oplock → Oplock → Bool) (p : Oplock → Bool) (oplocks : List Oplock) (last : ℕ) → AreOplocks oplocks last
-    → All IsOplock (in_order before (filter p oplocks)) × All (IsCopy oplocks) (in_order before (filter p oplocks))
+    → All IsSoundOplock (in_order before (filter p oplocks)) × All (IsCopy oplocks) (in_order before (filter p oplocks))
 chosen-are before p oplocks last are = (
-  All-in_order IsOplock before (filter p oplocks) (All-filter p IsOplock oplocks are.each),
+  All-in_order IsSoundOplock before (filter p oplocks) (All-filter p IsSoundOplock oplocks are.each),
   All-in_order (IsCopy oplocks) before (filter p oplocks) (All-filter p (IsCopy oplocks) oplocks (IsCopy-own oplocks are.handles_differ)),
 )
 
 -- ---- what is granted
 
 -- the number of no break that is in progress is 0
-numbered-not_0 : (o : Oplock) → IsOplock o → (is_some o.target && o.number == 0) ≡ false
+numbered-not_0 : (o : Oplock) → IsSoundOplock o → (is_some o.target && o.number == 0) ≡ false
 numbered-not_0 o is = no_both (o.number == 0) (is_some o.target) is.has_number
   where
     no_both : (zero target : Bool) → not zero ≡ target → (target && zero) ≡ false
@@ -277,7 +277,7 @@ pub AreOplocks-push : (oplocks : List Oplock) (last handle key : ℕ) (level : L
 AreOplocks-push oplocks last handle key level turn are others =
     let more : Oplock = as_granted handle key level turn in
     record {
-      each = All-push IsOplock oplocks more are.each (record { has_number = refl; has_call = refl; target_within = refl });
+      each = All-push IsSoundOplock oplocks more are.each (record { has_number = refl; has_call = refl; target_within = refl });
       handles_differ = all_pairs_push (λ a b. (a.handle == b.handle) ≡ false) oplocks more are.handles_differ others;
       numbers_differ = all_pairs_push (λ a b. (is_some a.target && a.number == b.number) ≡ false) oplocks more are.numbers_differ
           (λ k d within. numbered-not_0 (get_or oplocks k d) (are.each k d within));
@@ -291,7 +291,7 @@ as_answered-handle handle level turn o = elim (cases_Bool (o.handle == handle)) 
 pub AreOplocks-as_answered : (oplocks : List Oplock) (last handle : ℕ) (level : Level) (turn : ℕ) → AreOplocks oplocks last
     → AreOplocks (map (as_answered handle level turn) oplocks) last
 AreOplocks-as_answered oplocks last handle level turn are = record {
-  each = All-map IsOplock (as_answered handle level turn) oplocks (λ k d within. elim (cases_Bool ((get_or oplocks k d).handle == handle)) [
+  each = All-map IsSoundOplock (as_answered handle level turn) oplocks (λ k d within. elim (cases_Bool ((get_or oplocks k d).handle == handle)) [
     | inl here ↦ rw here (record { has_number = refl; has_call = refl; target_within = refl })
     | inr other ↦ rw other (are.each k d within)
   ]);

@@ -86,7 +86,7 @@ awaited_among class chosen after =
 
 -- an oplock has the number of a break exactly where it has a target, and a call that is pending as
 -- granted exactly where it has none; its target is within its level
-pub record IsOplock (oplock : Oplock) : Type 0 where
+pub record IsSoundOplock (oplock : Oplock) : Type 0 where
   pub has_number : not (oplock.number == 0) ≡ is_some oplock.target
   pub has_call : is_some oplock.call ≡ not (is_some oplock.target)
   pub target_within : IsTrue (option_map_or (λ target. is_within target oplock.level) oplock.target true)
@@ -94,7 +94,7 @@ pub record IsOplock (oplock : Oplock) : Type 0 where
 -- each oplock is sound; at most one is of a handle; and the numbers of the breaks in progress differ, and
 -- none is above the last one given
 pub record AreOplocks (oplocks : List Oplock) (last_break : ℕ) : Type 0 where
-  pub each : All IsOplock oplocks
+  pub each : All IsSoundOplock oplocks
   pub handles_differ : AllPairs (λ a b. (a.handle == b.handle) ≡ false) oplocks
   pub numbers_differ : AllPairs (λ a b. (is_some a.target && a.number == b.number) ≡ false) oplocks
   pub numbers_given : All (λ oplock. oplock.number ≤ last_break) oplocks

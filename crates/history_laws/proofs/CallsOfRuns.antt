@@ -20,7 +20,7 @@ use Rattle.fsa_model.proofs.HistoryLaws.{run-push}
 use Rattle.fsa_model.proofs.OnceHistory.{Runs, run-runs}
 use Rattle.fsa_model.proofs.RowLaws.{option_cases}
 use Rattle.fsa_model.proofs.SettleLaws.{some_equal}
-use Rattle.history_laws.specs.Named.{IsRead}
+use Rattle.history_laws.specs.Named.{IsReadScript}
 use Rattle.history_laws.proofs.EndLines.{AreOurs}
 use Rattle.history_laws.proofs.SettlePlain.{GivesStarved, turn-starved}
 
@@ -56,7 +56,7 @@ leaves-ours lines all place [] within few = tt
 leaves-ours lines all place (client ∷ clients) within few =
     (let most = calls_of-few place lines in ((omega arith, omega arith), leaves-ours lines all (place + 1) clients (omega arith) few))
 
-all_calls-ours : (script : Script) → IsRead script → AreOurCalls (length script.setup.clients) (all_calls script)
+all_calls-ours : (script : Script) → IsReadScript script → AreOurCalls (length script.setup.clients) (all_calls script)
 all_calls-ours script read =
     AreOurCalls-append (length script.setup.clients) script.lines _
     (lines-ours (length script.setup.clients) [] script.lines read.numbered read.fit (let few = read.few in omega arith))
@@ -69,7 +69,7 @@ found-ours clients test (first ∷ calls) call ours found = elim (cases_Bool (te
   | inr fails ↦ found-ours clients test calls call ours.1 (rw fails at found)
 ]
 
-next-ours : (script : Script) (history : List HistoryEntry) (call : Call) → IsRead script → next script history ≡ Some call → IsOurCall (length script.setup.clients) call
+next-ours : (script : Script) (history : List HistoryEntry) (call : Call) → IsReadScript script → next script history ≡ Some call → IsOurCall (length script.setup.clients) call
 next-ours script history call read is = elim (option_cases (run script.setup history)) [
   | inl none ↦ (let impossible : None ≡ Some call = rw none at is in cc)
   | inr some ↦ found-ours (length script.setup.clients) (λ other. not (is_made history other) && not (waits some.0.volume other.client)) (all_calls script) call (all_calls-ours script read) (rw some.1 at is)
@@ -86,7 +86,7 @@ some-entry test (entry ∷ history) some = elim (cases_Bool (test entry)) [
 ]
 
 -- the client and the number of a call that was made are in bounds
-made-ours : (script : Script) (history : List HistoryEntry) (client number : ℕ) → IsRead script → Scheduled script history → 1 ≤ how_many (is_entry_of client number) history
+made-ours : (script : Script) (history : List HistoryEntry) (client number : ℕ) → IsReadScript script → Scheduled script history → 1 ≤ how_many (is_entry_of client number) history
     → (client < length script.setup.clients) × (number < 2 ^ 64)
 made-ours script history client number read scheduled some =
     let entry = some-entry (is_entry_of client number) history some in
@@ -154,7 +154,7 @@ none_next (call ∷ calls) history v all =
     rw made (none_next calls history v (and_right (is_made history call) (list_all (is_made history) calls) all))
 
 -- what the next turn gives out is of the script's clients
-turned-ours : (script : Script) (history : List HistoryEntry) (entry : HistoryEntry) (rest : List HistoryEntry) (r : Run) (t : Turned) → IsRead script → run script.setup history ≡ Some r
+turned-ours : (script : Script) (history : List HistoryEntry) (entry : HistoryEntry) (rest : List HistoryEntry) (r : Run) (t : Turned) → IsReadScript script → run script.setup history ≡ Some r
     → Scheduled script (history ++ entry ∷ rest) → turn r.volume entry.call entry.starved ≡ Some t → AreOurs script.setup.clients t.out.ended
 turned-ours script history entry rest r t read is scheduled turns = counted-ours script.setup.clients t.out.ended (λ client number some.
     let whole = how_many-append (is_entry_of client number) (history ++ entry ∷ []) rest in
@@ -170,7 +170,7 @@ turned-ours script history entry rest r t read is scheduled turns = counted-ours
         let few : how_many (is_entry_of client number) (history ++ entry ∷ rest) ≤ 1 = Scheduled-differ script (history ++ entry ∷ rest) scheduled client number in
         omega arith)) (run-push script.setup history entry r t is turns)
 
-pub GoesOn-scheduled : (script : Script) (history : List HistoryEntry) (r : Run) (rest : List HistoryEntry) → IsRead script → run script.setup history ≡ Some r → Scheduled script (history ++ rest)
+pub GoesOn-scheduled : (script : Script) (history : List HistoryEntry) (r : Run) (rest : List HistoryEntry) → IsReadScript script → run script.setup history ≡ Some r → Scheduled script (history ++ rest)
     → HasAllCalls script (history ++ rest) → GoesOn script history r rest
 GoesOn-scheduled script history r [] read is scheduled whole =
     none_next (all_calls script) history r.volume (subst (HasAllCalls script) (append-nil history) whole)

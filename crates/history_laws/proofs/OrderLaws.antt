@@ -15,18 +15,18 @@ use Rattle.fsa_model.proofs.CountLaws.{and_right}
 use Rattle.fsa_model.proofs.ScriptLaws.{all_calls-numbered}
 use Rattle.fsa_model.proofs.RowLaws.{option_cases}
 use Rattle.history_laws.specs.Cursors.{StandAt, first_from, first_of}
-use Rattle.history_laws.specs.Named.{IsRead}
+use Rattle.history_laws.specs.Named.{IsReadScript}
 use Rattle.history_laws.proofs.CursorLaws.{StandAt-begun, StandAt-push, first_from-is, next_in-least, next_in-none}
 use Rattle.history_laws.proofs.NextLaws.{AreLineCalls-all, AreLineCalls-at, none_next-all}
 use Rattle.history_laws.proofs.WholeLaws.{some_run}
 
 -- each call is of a client of the script
-pub call_within : (script : Script) (place : ℕ) (call : Call) → IsRead script → slice_get (all_calls script) place ≡ Some call → call.client < length script.setup.clients
+pub call_within : (script : Script) (place : ℕ) (call : Call) → IsReadScript script → slice_get (all_calls script) place ≡ Some call → call.client < length script.setup.clients
 call_within script place call is_read at =
     IsLineCall.client (AreLineCalls-at (length script.setup.clients) (all_calls script) place call (AreLineCalls-all script is_read.fit) at)
 
 -- where no call is next all were made
-pub next-all : (script : Script) (history : List HistoryEntry) → IsRead script → Scheduled script history → next script history ≡ None → HasAllCalls script history
+pub next-all : (script : Script) (history : List HistoryEntry) → IsReadScript script → Scheduled script history → next script history ≡ None → HasAllCalls script history
 next-all script history is_read scheduled none =
     let r = some_run script history scheduled in
     none_next-all script history r.0 (all_calls-numbered script is_read.numbered) is_read.fit scheduled r.1 (sym (ap (option_and_then (λ (r : Run). next_in (all_calls script) history r.volume)) r.1) ∙ none)
@@ -50,12 +50,12 @@ begin_is calls first (suc clients) zero within = ap (λ n. first_of n calls) (le
 begin_is calls first (suc clients) (suc i) within =
     begin_is calls (first + 1) clients i (omega arith) ∙ ap (λ n. first_of n calls) (let e : first + 1 + i ≡ first + suc i = omega arith in e)
 
-pub calls-begun : (script : Script) (cursors : List ℕ) → IsRead script → length cursors ≡ length script.setup.clients
+pub calls-begun : (script : Script) (cursors : List ℕ) → IsReadScript script → length cursors ≡ length script.setup.clients
     → ((client : ℕ) → client < length cursors → slice_index_or cursors client 0 ≡ first_of client (all_calls script)) → StandAt (all_calls script) [] cursors
 calls-begun script cursors is_read long begins =
     StandAt-begun (all_calls script) cursors begins (λ place call at. (let within : call.client < length script.setup.clients = call_within script place call is_read at in omega arith))
 
-pub calls-go : (script : Script) (history : List HistoryEntry) (cursors : List ℕ) (entry : HistoryEntry) → IsRead script → StandAt (all_calls script) history cursors → length cursors ≡ length script.setup.clients
+pub calls-go : (script : Script) (history : List HistoryEntry) (cursors : List ℕ) (entry : HistoryEntry) → IsReadScript script → StandAt (all_calls script) history cursors → length cursors ≡ length script.setup.clients
     → slice_get (all_calls script) (slice_index_or cursors entry.call.client 0) ≡ Some entry.call
     → StandAt (all_calls script) (history ++ entry ∷ []) (slice_set cursors entry.call.client (first_from entry.call.client (slice_index_or cursors entry.call.client 0 + 1) (all_calls script)))
 calls-go script history cursors entry is_read stands long at =
@@ -83,7 +83,7 @@ first_at {X} test (first ∷ xs) x found = elim (cases_Bool (test first)) [
     later isnt rest (suc j) y less there = rest.before j y (omega arith) there
 
 -- the next call stands at its client's cursor
-pub next_at_cursor : (script : Script) (history : List HistoryEntry) (cursors : List ℕ) (v : Volume) (call : Call) → IsRead script → StandAt (all_calls script) history cursors → length cursors ≡ length script.setup.clients
+pub next_at_cursor : (script : Script) (history : List HistoryEntry) (cursors : List ℕ) (v : Volume) (call : Call) → IsReadScript script → StandAt (all_calls script) history cursors → length cursors ≡ length script.setup.clients
     → next_in (all_calls script) history v ≡ Some call → slice_get (all_calls script) (slice_index_or cursors call.client 0) ≡ Some call
 next_at_cursor script history cursors v call is_read stands long is =
     subst (λ (place : ℕ). slice_get (all_calls script) place ≡ Some call) here first.at
@@ -137,7 +137,7 @@ next_at_cursor script history cursors v call is_read stands long is =
     ]
 
 -- a schedule's turns, one after the other
-stand_on : (script : Script) (front rest : List HistoryEntry) (cursors : List ℕ) → IsRead script → length cursors ≡ length script.setup.clients → StandAt (all_calls script) front cursors
+stand_on : (script : Script) (front rest : List HistoryEntry) (cursors : List ℕ) → IsReadScript script → length cursors ≡ length script.setup.clients → StandAt (all_calls script) front cursors
     → ((k : ℕ) (entry : HistoryEntry) → slice_get rest k ≡ Some entry → next script (front ++ take k rest) ≡ Some entry.call)
     → (later : List ℕ) × (length later ≡ length script.setup.clients) × StandAt (all_calls script) (front ++ rest) later
 stand_on script front [] cursors is_read long stands in_order =
@@ -156,7 +156,7 @@ stand_on script front (entry ∷ rest) cursors is_read long stands in_order =
     of is_next (inl none) = absurd (let impossible : None ≡ Some entry.call = rw none at is_next in cc)
     of is_next (inr some) = next_at_cursor script front cursors some.0.volume entry.call is_read stands long (rw some.1 at is_next)
 
-pub Scheduled-stands : (script : Script) (history : List HistoryEntry) → IsRead script → Scheduled script history
+pub Scheduled-stands : (script : Script) (history : List HistoryEntry) → IsReadScript script → Scheduled script history
     → (cursors : List ℕ) × (length cursors ≡ length script.setup.clients) × StandAt (all_calls script) history cursors
 Scheduled-stands script history is_read scheduled =
     let clients : ℕ = length script.setup.clients in
@@ -168,7 +168,7 @@ Scheduled-stands script history is_read scheduled =
 
 -- ---- which call is next
 
-pub next-least : (script : Script) (history : List HistoryEntry) (cursors : List ℕ) (v : Volume) (call : Call) → IsRead script → StandAt (all_calls script) history cursors → length cursors ≡ length script.setup.clients
+pub next-least : (script : Script) (history : List HistoryEntry) (cursors : List ℕ) (v : Volume) (call : Call) → IsReadScript script → StandAt (all_calls script) history cursors → length cursors ≡ length script.setup.clients
     → slice_get (all_calls script) (slice_index_or cursors call.client 0) ≡ Some call → waits v call.client ≡ false
     → ((client : ℕ) → client < length cursors → waits v client ≡ false → slice_index_or cursors call.client 0 ≤ slice_index_or cursors client 0)
     → next_in (all_calls script) history v ≡ Some call
@@ -176,7 +176,7 @@ next-least script history cursors v call is_read stands long at free least =
     next_in-least (all_calls script) history cursors v call stands at free least
     (λ place other there. (let within : other.client < length script.setup.clients = call_within script place other is_read there in omega arith))
 
-pub next-none : (script : Script) (history : List HistoryEntry) (cursors : List ℕ) (v : Volume) → IsRead script → StandAt (all_calls script) history cursors → length cursors ≡ length script.setup.clients
+pub next-none : (script : Script) (history : List HistoryEntry) (cursors : List ℕ) (v : Volume) → IsReadScript script → StandAt (all_calls script) history cursors → length cursors ≡ length script.setup.clients
     → ((client : ℕ) → client < length cursors → waits v client ≡ false → length (all_calls script) ≤ slice_index_or cursors client 0) → next_in (all_calls script) history v ≡ None
 next-none script history cursors v is_read stands long none =
     next_in-none (all_calls script) history cursors v stands none

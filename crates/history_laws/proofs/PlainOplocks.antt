@@ -7,7 +7,7 @@ use Rattle.fsa_types.specs.declared.request.Level.{Level}
 use Rattle.fsa_types.specs.declared.status.Status.{Status}
 use Rattle.fsa_types.specs.declared.status.Status.TheVariants.{InvalidHandle, InvalidParameter, OplockNotGranted, InvalidOplockProtocol, OplockSwitchedToNewHandle}
 use Rattle.fsa_model.specs.Edits.{without_oplock}
-use Rattle.fsa_model.specs.Grant.{target_of, is_not_granted, with_call_ended, with_switched, switched, with_granted, oplock_on, oplock_by, oplock_at, try_oplock, ack_with, ack_at, try_ack}
+use Rattle.fsa_model.specs.Grant.{target_of, is_not_granted, with_call_ended, with_switched, switched, with_granted, oplock_on, oplock_by, oplock_at, try_oplock, ack_keeping, ack_at, try_ack}
 use Rattle.fsa_model.specs.Lookups.{handle_of}
 use Rattle.fsa_model.specs.Volume.{Handle, Oplock, Volume}
 use Rattle.fsa_model.specs.Starving.{EndsPlain, TriesPlain, is_no_memory}
@@ -61,9 +61,9 @@ try_oplock-plain v client handle level turn =
     TriesPlain-option (handle_of v client handle) (λ id. oplock_at v id level turn) _
     (λ id found. oplock_at-plain v id level turn) (TriesPlain-refused v InvalidHandle refl)
 
-ack_with-plain : (v : Volume) (handle : ℕ) (kept : Level) (turn : ℕ) → TriesPlain v (ack_with v handle kept turn)
-unfolding ack_with
-ack_with-plain v handle kept turn =
+ack_keeping-plain : (v : Volume) (handle : ℕ) (kept : Level) (turn : ℕ) → TriesPlain v (ack_keeping v handle kept turn)
+unfolding ack_keeping
+ack_keeping-plain v handle kept turn =
     TriesPlain-if (has_read kept) _ _
     (λ is. record { so = EndsPlain-same refl })
     (λ no. TriesPlain-done v (without_oplock v handle) _ (EndsPlain-same refl) refl)
@@ -71,8 +71,8 @@ ack_with-plain v handle kept turn =
 ack_at-plain : (v : Volume) (id : ℕ) (level : Level) (turn : ℕ) → TriesPlain v (ack_at v id level turn)
 unfolding ack_at
 ack_at-plain v id level turn =
-    TriesPlain-option (target_of v id) (λ target. ack_with v id (in_both level target) turn) _
-    (λ target found. ack_with-plain v id (in_both level target) turn) (TriesPlain-refused v InvalidOplockProtocol refl)
+    TriesPlain-option (target_of v id) (λ target. ack_keeping v id (in_both level target) turn) _
+    (λ target found. ack_keeping-plain v id (in_both level target) turn) (TriesPlain-refused v InvalidOplockProtocol refl)
 
 pub try_ack-plain : (v : Volume) (client handle : ℕ) (level : Level) (turn : ℕ) → TriesPlain v (try_ack v client handle level turn)
 unfolding try_ack

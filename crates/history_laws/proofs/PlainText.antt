@@ -27,7 +27,7 @@ use Rattle.fsa_model.specs.Waiting.{waits}
 use Rattle.fsa_model.proofs.CountLaws.{and_left, how_many-length, how_many-weaker}
 use Rattle.fsa_model.proofs.HistoryLaws.{run-push}
 use Rattle.fsa_model.proofs.SettleLaws.{some_equal}
-use Rattle.history_laws.specs.Named.{AreNamed, IsRead}
+use Rattle.history_laws.specs.Named.{AreNamed, IsReadScript}
 use Rattle.fsa_model.specs.Starving.{is_no_memory, starved_of}
 use Rattle.history_laws.proofs.CallsOfRuns.{GoesOn, GoesOn-scheduled}
 use Rattle.history_laws.proofs.EndLines.{line_words, name-ends_word}
@@ -230,7 +230,7 @@ plain_goes script (suc fuel) history r (entry ∷ rest) turns named is on none f
     ∙ ap (λ (made : HistoryEntry). plain_on fuel script (history ++ made ∷ [])) is_plain
     ∙ sym (ap (λ (o : Option Call). option_map_or (λ call. plain_on fuel script (history ++ plain_entry call ∷ [])) o history) is_next)
 
-pub text-plain : (script : Script) (history : List HistoryEntry) → IsRead script → Scheduled script history → HasAllCalls script history → shows_no_memory (text script history) ≡ false → history ≡ plain script
+pub text-plain : (script : Script) (history : List HistoryEntry) → IsReadScript script → Scheduled script history → HasAllCalls script history → shows_no_memory (text script history) ≡ false → history ≡ plain script
 text-plain script history read scheduled whole none =
     plain_goes script (length (all_calls script)) [] (begun script.setup) history (length history) read.named refl (GoesOn-scheduled script [] (begun script.setup) history read refl scheduled whole)
     (ap shows_no_memory (sym (text_on-whole script history scheduled.runs)) ∙ none) (how_many-length (λ (call : Call). not (is_made [] call)) (all_calls script))

@@ -15,7 +15,7 @@ use Rattle.fsa_model.specs.Lines.{Line, Version, DefaultTable, PairTable, Pair, 
 use Rattle.fsa_model.specs.Script.{Reading, nothing_read, takes_version, takes_table, takes_pairs, takes_clients, takes_requests, place_of, next_number, with_call, with_client, take_client, take_call, take_request_of, take_request, take_line, line_after, end_after, at_line, lines_from, pieces, script_of}
 use Rattle.fsa_model.proofs.ScriptLaws.{script_of-few, script_of-fits, script_of-numbered}
 use Rattle.fsa_model.proofs.SettleLaws.{some_equal}
-use Rattle.history_laws.specs.Named.{AreNamed, IsRead}
+use Rattle.history_laws.specs.Named.{AreNamed, IsReadScript}
 
 -- ---- one client more
 
@@ -206,7 +206,7 @@ script_of-names bytes =
     (λ some. lines_from-names 1 nothing_read (pieces bytes) AreNamed-none)
 
 -- a script that was read is as the laws of its histories ask
-pub script_of-read : (bytes : List ℕ) (script : Script) → length bytes < 2 ^ 63 → script_of bytes ≡ Ok script → IsRead script
+pub script_of-read : (bytes : List ℕ) (script : Script) → length bytes < 2 ^ 63 → script_of bytes ≡ Ok script → IsReadScript script
 script_of-read bytes script short is = record {
   named = (script_of-names bytes).given script is;
   fit = script_of-fits bytes script is;

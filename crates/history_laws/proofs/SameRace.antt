@@ -22,7 +22,7 @@ use Rattle.fsa_model.proofs.OnceHistory.{Runs, run-runs}
 use Rattle.fsa_model.proofs.ScheduleLaws.{calls_of-push}
 use Rattle.fsa_model.proofs.ScriptLaws.{length-filter_calls}
 use Rattle.fsa_model.proofs.SettleLaws.{some_equal}
-use Rattle.history_laws.specs.Named.{IsRead}
+use Rattle.history_laws.specs.Named.{IsReadScript}
 use Rattle.history_laws.specs.Races.{Begun, Whole, made_by, own_calls}
 use Rattle.history_laws.proofs.CallsOfRuns.{calls_of-few, counted-ours, some-entry, turned-there}
 use Rattle.history_laws.proofs.EndLines.{AreOurs, FollowsTurn, name-ends_word, same_client, same_starved}
@@ -89,7 +89,7 @@ record IsKnown (script : Script) (call : Call) : Type 0 where
   number : call.number ≡ place + 1
   few : call.number < 2 ^ 64
 
-known_at : (script : Script) (history : List HistoryEntry) (k : ℕ) (entry : HistoryEntry) → IsRead script → Whole script history → slice_get history k ≡ Some entry → IsKnown script entry.call
+known_at : (script : Script) (history : List HistoryEntry) (k : ℕ) (entry : HistoryEntry) → IsReadScript script → Whole script history → slice_get history k ≡ Some entry → IsKnown script entry.call
 known_at script history k entry read whole at =
     let own = among history k entry at in
     let client = all_at (λ (e : HistoryEntry). e.call.client < length script.setup.clients) history whole.no_others k entry at in
@@ -176,7 +176,7 @@ Whole-begun script history whole = record {
   no_others = whole.no_others;
 }
 
-pub Whole-differ : (script : Script) (history : List HistoryEntry) → IsRead script → Whole script history → CallsDiffer history
+pub Whole-differ : (script : Script) (history : List HistoryEntry) → IsReadScript script → Whole script history → CallsDiffer history
 Whole-differ script history read whole = Begun-differ script history read.numbered (Whole-begun script history whole)
 
 -- ---- turn by turn
@@ -196,7 +196,7 @@ entry_at : (history : List HistoryEntry) (entry : HistoryEntry) (rest : List His
 entry_at [] entry rest = refl
 entry_at (first ∷ history) entry rest = entry_at history entry rest
 
-turned-ours : (script : Script) (history : List HistoryEntry) (entry : HistoryEntry) (rest : List HistoryEntry) (r : Run) (t : Turned) → IsRead script → run script.setup history ≡ Some r
+turned-ours : (script : Script) (history : List HistoryEntry) (entry : HistoryEntry) (rest : List HistoryEntry) (r : Run) (t : Turned) → IsReadScript script → run script.setup history ≡ Some r
     → Whole script (history ++ entry ∷ rest) → turn r.volume entry.call entry.starved ≡ Some t → AreOurs script.setup.clients t.out.ended
 turned-ours script history entry rest r t read is whole turns = counted-ours script.setup.clients t.out.ended (λ client number some.
     let both = how_many-append (is_entry_of client number) (history ++ entry ∷ []) rest in
@@ -220,7 +220,7 @@ turned-ours script history entry rest r t read is whole turns = counted-ours scr
         let same : found.1.0.call.number ≡ number = eqb-true found.1.0.call.number number (and_right (found.1.0.call.client == client) (found.1.0.call.number == number) found.1.1.1) in
         (subst (λ (c : ℕ). c < length script.setup.clients) by known.client, subst (λ (n : ℕ). n < 2 ^ 64) same known.few)
 
-goes_on : (script : Script) (history : List HistoryEntry) (r : Run) (rest : List HistoryEntry) → IsRead script → run script.setup history ≡ Some r → Whole script (history ++ rest) → GoesOn script r rest
+goes_on : (script : Script) (history : List HistoryEntry) (r : Run) (rest : List HistoryEntry) → IsReadScript script → run script.setup history ≡ Some r → Whole script (history ++ rest) → GoesOn script r rest
 goes_on script history r [] read is whole = tt
 goes_on script history r (entry ∷ rest) read is whole =
     let there = turned-there script.setup history entry rest r is whole.runs in (
@@ -246,7 +246,7 @@ head_words clients call answer back =
     ∙ append_assoc begins asks (10 ∷ (answers ++ back))
     ∙ ap (λ (bytes : List ℕ). 62 ∷ 32 ∷ bytes) (append_assoc (name_of clients call.client) (32 ∷ decimal call.number) (32 ∷ (verb call.what ++ 10 ∷ (answers ++ back))))
 
-head_tells : (script : Script) (one other : Call) (answer another : Answer) (back rest : List ℕ) → IsRead script → IsKnown script one → IsKnown script other
+head_tells : (script : Script) (one other : Call) (answer another : Answer) (back rest : List ℕ) → IsReadScript script → IsKnown script one → IsKnown script other
     → turn_head script.setup.clients one answer ++ back ≡ turn_head script.setup.clients other another ++ rest → one ≡ other
 head_tells script one other answer another back rest read known also alike =
     let clients : List Client = script.setup.clients in
@@ -267,7 +267,7 @@ follows : (script : Script) (r : Run) (rest : List HistoryEntry) (turns : ℕ) �
 follows script r [] turns on = inr (turns, refl)
 follows script r (entry ∷ rest) turns on = inl (_, turn_lines script.setup.clients r.volume entry rest turns on.0.turned on.0.turns)
 
-same_next : (script : Script) (r : Run) (one other : HistoryEntry) (rest more : List HistoryEntry) (turns count : ℕ) → IsRead script
+same_next : (script : Script) (r : Run) (one other : HistoryEntry) (rest more : List HistoryEntry) (turns count : ℕ) → IsReadScript script
     → GoesOn script r (one ∷ rest) → GoesOn script r (other ∷ more)
     → text_on script.setup.clients r.volume (one ∷ rest) ++ last_line turns ≡ text_on script.setup.clients r.volume (other ∷ more) ++ last_line count → one ≡ other
 same_next script r one other rest more turns count read on also same =
@@ -285,7 +285,7 @@ same_next script r one other rest more turns count read on also same =
     same_entry one other calls
     (sym (GivesStarved.names (turn-starved r.volume one.call one.starved on.0.turned on.0.turns)) ∙ names ∙ GivesStarved.names (turn-starved r.volume other.call other.starved also.0.turned also.0.turns))
 
-same_rest : (script : Script) (r : Run) (rest more : List HistoryEntry) (turns count : ℕ) → IsRead script → GoesOn script r rest → GoesOn script r more
+same_rest : (script : Script) (r : Run) (rest more : List HistoryEntry) (turns count : ℕ) → IsReadScript script → GoesOn script r rest → GoesOn script r more
     → text_on script.setup.clients r.volume rest ++ last_line turns ≡ text_on script.setup.clients r.volume more ++ last_line count → rest ≡ more
 same_rest script r [] [] turns count read on also same = refl
 same_rest script r [] (other ∷ more) turns count read on also same = apart (same ∙ turn_lines script.setup.clients r.volume other more count also.0.turned also.0.turns)
@@ -311,7 +311,7 @@ same_rest script r (one ∷ rest) (other ∷ more) turns count read on also same
     ap (λ (entries : List HistoryEntry). one ∷ entries) (same_rest script (with_turn r on.0.turned) rest more turns count read on.1 after left)
     ∙ ap (λ (entry : HistoryEntry). entry ∷ more) entries
 
-pub same_race : (script : Script) (history other : List HistoryEntry) → IsRead script → Whole script history → Whole script other → text script other ≡ text script history → other ≡ history
+pub same_race : (script : Script) (history other : List HistoryEntry) → IsReadScript script → Whole script history → Whole script other → text script other ≡ text script history → other ≡ history
 same_race script history other read whole also same =
     same_rest script (begun script.setup) other history (length other) (length history) read (goes_on script [] (begun script.setup) other read refl also) (goes_on script [] (begun script.setup) history read refl whole)
     (sym (text_on-whole script other also.runs) ∙ same ∙ text_on-whole script history whole.runs)

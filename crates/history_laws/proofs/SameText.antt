@@ -18,7 +18,7 @@ use Rattle.fsa_model.proofs.EngineLaws.{turn-turned}
 use Rattle.fsa_model.proofs.HistoryLaws.{turns_text-push}
 use Rattle.fsa_model.proofs.RowLaws.{option_cases}
 use Rattle.fsa_model.proofs.SettleLaws.{some_equal}
-use Rattle.history_laws.specs.Named.{IsRead}
+use Rattle.history_laws.specs.Named.{IsReadScript}
 use Rattle.fsa_model.specs.Starving.{starved_of}
 use Rattle.history_laws.proofs.CallsOfRuns.{GoesOn, GoesOn-scheduled}
 use Rattle.history_laws.proofs.EndLines.{FollowsTurn, same_starved}
@@ -91,7 +91,7 @@ pub same_entry : (one other : HistoryEntry) → one.call ≡ other.call → one.
 same_entry one other calls starved = subst (λ (made : HistoryEntry). one ≡ made) (ap (λ (call : Call). record { call = call; starved = one.starved }) calls ∙ ap (λ (ids : List CallId). record { call = other.call; starved = ids }) starved) refl
 
 -- the first entries of both are the same
-same_next : (script : Script) (history : List HistoryEntry) (r : Run) (one other : HistoryEntry) (rest more : List HistoryEntry) (turns count : ℕ) → IsRead script
+same_next : (script : Script) (history : List HistoryEntry) (r : Run) (one other : HistoryEntry) (rest more : List HistoryEntry) (turns count : ℕ) → IsReadScript script
     → GoesOn script history r (one ∷ rest) → GoesOn script history r (other ∷ more)
     → text_on script.setup.clients r.volume (one ∷ rest) ++ last_line turns ≡ text_on script.setup.clients r.volume (other ∷ more) ++ last_line count → one ≡ other
 same_next script history r one other rest more turns count read on also same =
@@ -109,7 +109,7 @@ same_next script history r one other rest more turns count read on also same =
     same_entry one other calls
     (sym (GivesStarved.names (turn-starved r.volume one.call one.starved on.0.turned on.0.turns)) ∙ names ∙ GivesStarved.names (turn-starved r.volume other.call other.starved also.0.turned also.0.turns))
 
-same_rest : (script : Script) (history : List HistoryEntry) (r : Run) (rest more : List HistoryEntry) (turns count : ℕ) → IsRead script → GoesOn script history r rest → GoesOn script history r more
+same_rest : (script : Script) (history : List HistoryEntry) (r : Run) (rest more : List HistoryEntry) (turns count : ℕ) → IsReadScript script → GoesOn script history r rest → GoesOn script history r more
     → text_on script.setup.clients r.volume rest ++ last_line turns ≡ text_on script.setup.clients r.volume more ++ last_line count → rest ≡ more
 same_rest script history r [] [] turns count read on also same = refl
 same_rest script history r [] (other ∷ more) turns count read on also same = (let impossible : None ≡ Some other.call = sym on ∙ also.0.next in cc)
@@ -130,7 +130,7 @@ same_rest script history r (one ∷ rest) (other ∷ more) turns count read on a
     ∙ ap (λ (entry : HistoryEntry). entry ∷ more) entries
 
 -- two scheduled histories of all calls of a script that was read, with one text, are one
-pub same_text : (script : Script) (history other : List HistoryEntry) → IsRead script → Scheduled script history → HasAllCalls script history → Scheduled script other → HasAllCalls script other
+pub same_text : (script : Script) (history other : List HistoryEntry) → IsReadScript script → Scheduled script history → HasAllCalls script history → Scheduled script other → HasAllCalls script other
     → text script other ≡ text script history → other ≡ history
 same_text script history other read scheduled whole also_scheduled also_whole same =
     same_rest script [] (begun script.setup) other history (length other) (length history) read

@@ -21,7 +21,7 @@ use Rattle.fsa_types.specs.declared.status.Status.TheVariants.{Cancelled, Invali
 use Rattle.fsa_model.specs.Close.{close_at, closed_status, handles_of_client, is_call_on, is_left_behind, is_link_of_parent, is_link_over, is_stream_over, name_bit, named_stream, names, pending_by_turn, try_close, try_leave, with_all_closed, with_calls_ended, with_client_gone, with_closed, with_link_swept, with_mark_on_close, with_stream_swept, with_swept}
 use Rattle.fsa_model.specs.Changes.{with_change_noted}
 use Rattle.fsa_model.specs.Edits.{is_call, with_end, with_link_marked, with_stream_marked, with_ticks, with_watch, without_handle, without_lock, without_oplock, without_stream}
-use Rattle.fsa_model.specs.Grant.{ack_at, ack_with, oplock_at, oplock_by, oplock_on, switched, try_ack, try_oplock, with_call_ended, with_granted, with_level_kept, with_switched}
+use Rattle.fsa_model.specs.Grant.{ack_at, ack_keeping, oplock_at, oplock_by, oplock_on, switched, try_ack, try_oplock, with_call_ended, with_granted, with_level_kept, with_switched}
 use Rattle.fsa_model.specs.Locking.{try_unlock, unlock_at, unlock_by, unlock_range}
 use Rattle.fsa_model.specs.Lookups.{has_left, number_of}
 use Rattle.fsa_model.specs.Once.{how_many, is_end}
@@ -277,7 +277,7 @@ module _ (who number : ℕ) where
   keep-none v id reply = record { so = record { ended = λ bare. refl; left = refl } }
 
   acks : (v : Volume) (client handle : ℕ) (level : Level) (turn : ℕ) → TriesKeep v (try_ack v client handle level turn)
-  unfolding try_ack ack_at ack_with
+  unfolding try_ack ack_at ack_keeping
   acks v client handle level turn = search (keep-if, keep-option, keep-refused, keep-level, keep-none) depth 20
 
   -- ---- any call but the client's leaving and its cancellation of this call

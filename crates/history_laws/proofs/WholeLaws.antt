@@ -25,7 +25,7 @@ use Rattle.fsa_model.proofs.RowLaws.{option_cases}
 use Rattle.fsa_model.proofs.ScheduleLaws.{Scheduled-push}
 use Rattle.fsa_model.proofs.ScriptLaws.{all_calls-numbered}
 use Rattle.fsa_model.proofs.WaitLaws.{find-passes}
-use Rattle.history_laws.specs.Named.{IsRead}
+use Rattle.history_laws.specs.Named.{IsReadScript}
 use Rattle.history_laws.specs.Whole.{GoesOnTo, how_many_left}
 use Rattle.history_laws.proofs.NextLaws.{none_next-all, found_at}
 use Rattle.history_laws.proofs.PlaceLaws.{is_made-push, is_same-self}
@@ -108,7 +108,7 @@ ends script history scheduled all = record {
   shows = ([], sym (append-nil (shown_turns script history)));
 }
 
-goes_on : (most : ℕ) (script : Script) (history : List HistoryEntry) (r : Run) → IsRead script → Scheduled script history → run script.setup history ≡ Some r → how_many_left script history ≤ most
+goes_on : (most : ℕ) (script : Script) (history : List HistoryEntry) (r : Run) → IsReadScript script → Scheduled script history → run script.setup history ≡ Some r → how_many_left script history ≤ most
     → (whole : List HistoryEntry) × GoesOnTo script history whole
 goes_on zero script history r is_read scheduled runs few = (history, ends script history scheduled (none_left (is_made history) (all_calls script) (omega arith)))
 goes_on (suc most) script history r is_read scheduled runs few = elim (option_cases (next_in (all_calls script) history r.volume)) [
@@ -140,7 +140,7 @@ some_run script history scheduled = elim (option_cases (run script.setup history
 ]
 
 -- each schedule goes on to one that has all calls
-pub Scheduled-goes_on : (script : Script) (history : List HistoryEntry) → IsRead script → Scheduled script history → (whole : List HistoryEntry) × GoesOnTo script history whole
+pub Scheduled-goes_on : (script : Script) (history : List HistoryEntry) → IsReadScript script → Scheduled script history → (whole : List HistoryEntry) × GoesOnTo script history whole
 Scheduled-goes_on script history is_read scheduled =
     let r = some_run script history scheduled in
     goes_on (how_many_left script history) script history r.0 is_read scheduled r.1 (omega arith)

@@ -12,7 +12,7 @@ pub record AreNamed (clients : List Client) : Type 0 where
 
 -- what the bytes of a script give: its clients have names, its lines are calls of these, numbered in turn, and
 -- few enough that their numbers are below 2 ^ 64
-pub record IsRead (script : Script) : Type 0 where
+pub record IsReadScript (script : Script) : Type 0 where
   pub named : AreNamed script.setup.clients
   pub fit : AreLineCalls (length script.setup.clients) script.lines
   pub numbered : AreNumbered [] script.lines

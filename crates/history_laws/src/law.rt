@@ -13,7 +13,7 @@ ghost use Rattle.fsa_model.specs.Text.{shows_no_memory, text};
 ghost use Rattle.fsa_model.specs.Turn.{Turned, try, turn};
 ghost use Rattle.fsa_model.specs.Volume.{Volume};
 ghost use Rattle.fsa_model.specs.Waiting.{is_wait};
-ghost use Rattle.history_laws.specs.Named.{IsRead};
+ghost use Rattle.history_laws.specs.Named.{IsReadScript};
 ghost use Rattle.history_laws.specs.Races.{Begun, Whole};
 ghost use Rattle.history_laws.specs.WaitEnds.{cancels_in, ends_otherwise, is_wait_end, leaves_in};
 ghost use Rattle.fsa_model.specs.Starving.{TriesPlain, starved_of};
@@ -32,26 +32,26 @@ pub fn starved_calls_end_without_memory()
 /// A script that was read from bytes, fewer than 2 ^ 63, is as the laws below ask: its clients have names
 /// that differ, and its lines are calls of these, numbered in turn.
 pub fn scripts_are_read()
-    ensures read { (bytes : List ℕ) (script : Script) → length bytes < 2 ^ 63 → script_of bytes ≡ Ok script → IsRead script }
+    ensures read { (bytes : List ℕ) (script : Script) → length bytes < 2 ^ 63 → script_of bytes ≡ Ok script → IsReadScript script }
 {}
 
 /// Two histories of one script on one thread, each with all its calls, are the same where their texts are: the
 /// lines of the calls that ended in a turn tell which of them found no memory.
 pub fn two_histories_with_one_text_are_one()
-    ensures only { (script : Script) (history other : List HistoryEntry) → IsRead script → Scheduled script history → HasAllCalls script history
+    ensures only { (script : Script) (history other : List HistoryEntry) → IsReadScript script → Scheduled script history → HasAllCalls script history
         → Scheduled script other → HasAllCalls script other → text script other ≡ text script history → other ≡ history }
 {}
 
 /// Where no line of its text shows NO_MEMORY, such a history is the one in which memory is never wanting.
 pub fn text_without_no_memory_is_plain()
-    ensures plain { (script : Script) (history : List HistoryEntry) → IsRead script → Scheduled script history → HasAllCalls script history
+    ensures plain { (script : Script) (history : List HistoryEntry) → IsReadScript script → Scheduled script history → HasAllCalls script history
         → shows_no_memory (text script history) ≡ false → history ≡ plain script }
 {}
 
 /// Two whole histories of one script, whose clients ran side by side, are the same where their texts are: the first
 /// line of a turn tells its call, and the lines of the calls that ended in it which of them found no memory.
 pub fn two_whole_histories_with_one_text_are_one()
-    ensures only { (script : Script) (history other : List HistoryEntry) → IsRead script → Whole script history → Whole script other
+    ensures only { (script : Script) (history other : List HistoryEntry) → IsReadScript script → Whole script history → Whole script other
         → text script other ≡ text script history → other ≡ history }
 {}
 

@@ -432,7 +432,7 @@ setsecurity 3 4294967295 acl|Ask(SetSecurity { handle: 3, owner: Some(4294967295
 setsecurity 4 keep acl,+7:0x1f01ff,-4294967295:0x0|Ask(SetSecurity { handle: 4, owner: None, dacl: Put(BoundedList { items: [Ace { allow: true, sid: 7, mask: 2032127 }, Ace { allow: false, sid: 4294967295, mask: 0 }], room: 2 }) })
 "#;
 
-// What a text is answered: `script`, or its least faulty line and its kind.
+// What a text is answered: `script`, or its first faulty line and its kind.
 fn answer_to(alloc: Global, text: &str) -> Result<String, AllocError> {
     match read_script(alloc, text.as_bytes()) {
         Ok(_) => String::from_str(alloc, "script"),

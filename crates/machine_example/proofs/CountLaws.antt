@@ -6,7 +6,7 @@ use Rattle.fsa_types.specs.declared.request.Call.{Call}
 use Rattle.fsa_model.specs.History.{HistoryEntry}
 use Rattle.fsa_model.specs.Schedule.{calls_of}
 use Rattle.fsa_model.proofs.ScheduleLaws.{calls_of-push}
-use Rattle.fsa_machine.specs.Stands.{calls_in}
+use Rattle.fsa_machine.specs.MachineView.{calls_in}
 use Rattle.fsa_model.proofs.SettleLaws.{some_equal}
 
 -- the call at this place, and those behind it

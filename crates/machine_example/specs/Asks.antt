@@ -9,7 +9,7 @@ use Rattle.fsa_types.specs.declared.request.What.{What}
 use Rattle.fsa_model.specs.History.{HistoryEntry}
 use Rattle.fsa_model.specs.LineCalls.{ticks_fit}
 use Rattle.fsa_model.specs.Schedule.{calls_of}
-use Rattle.fsa_machine.specs.Stands.{calls_in}
+use Rattle.fsa_machine.specs.MachineView.{calls_in}
 
 -- within the bounds of requests
 pub record CanBeMade (what : What) : Type 0 where

@@ -2,7 +2,7 @@
 
 ghost use Rattle.std.specs.Prelude.{◌≡◌, ◌<◌, ◌+◌, ◌-◌, ◌^◌, [], OnOk, length};
 ghost use Rattle.fsa_model.specs.Schedule.{calls_of};
-ghost use Rattle.fsa_machine.specs.Stands.{calls_in};
+ghost use Rattle.fsa_machine.specs.MachineView.{calls_in};
 
 use fsa_machine::VolumeMachine;
 use fsa_types::{Call, What, Why};

@@ -4,7 +4,7 @@ ghost use Rattle.std.specs.Prelude.{◌≡◌, ◌<◌, ◌≤◌, ◌+◌, ◌+
 ghost use Rattle.fsa_model.specs.Outcome.{out_of};
 ghost use Rattle.fsa_machine.specs.Serves.{most_entries};
 ghost use Rattle.fsa_machine.specs.Spare.{is_ack_or_cancel};
-ghost use Rattle.fsa_machine.specs.Stands.{GaveOut};
+ghost use Rattle.fsa_machine.specs.MachineView.{GaveOut};
 ghost use Rattle.machine_example.specs.Asks.{CanBeMade, next_call};
 
 use crate::session::{ask, next_number, two_clients};

@@ -3,7 +3,7 @@
 ghost use Rattle.std.specs.Prelude.{◌≡◌, ◌<◌, ◌≤◌, ◌+◌, ◌-◌, ◌^◌, ◌==◌, ◌++◌, ◌∷◌, [], All, cond, IfOk, OnErr, length, nat_le};
 ghost use Rattle.fsa_model.specs.Outcome.{out_of};
 ghost use Rattle.fsa_model.specs.Schedule.{calls_of};
-ghost use Rattle.fsa_machine.specs.Stands.{GaveOut, calls_in};
+ghost use Rattle.fsa_machine.specs.MachineView.{GaveOut, calls_in};
 ghost use Rattle.fsa_machine.specs.Serves.{most_entries};
 ghost use Rattle.machine_example.specs.Asks.{CanBeMade, is_full, next_call};
 

@@ -12,6 +12,6 @@ fault_of (BadUnit place) = path.BadUnit place
 fault_of BadStream = path.BadStream
 
 -- a check that answers `Ok` found no fault, and one that answers `Err` found this one
-abbrev pub Answers : {T : Type 0} → Option PathFault → Result T NameFault → Type 0
-Answers found (Ok value) = found ≡ None
-Answers found (Err fault) = found ≡ Some (fault_of fault)
+abbrev pub FindsFault : {T : Type 0} → Option PathFault → Result T NameFault → Type 0
+FindsFault found (Ok value) = found ≡ None
+FindsFault found (Err fault) = found ≡ Some (fault_of fault)

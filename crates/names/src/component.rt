@@ -2,7 +2,7 @@
 
 ghost use Rattle.std.specs.Prelude.{◌≡◌, ◌+◌, ◌<◌, ◌^◌, length, position};
 ghost use Rattle.fsa_types.specs.Paths.{is_bad_unit, is_dots, component_fault};
-ghost use Rattle.names.specs.NameFault.{Answers};
+ghost use Rattle.names.specs.NameFault.{FindsFault};
 
 use crate::fault::NameFault;
 
@@ -14,7 +14,7 @@ const MOST_UNITS: usize = 255;
 /// in the component.
 pub(crate) fn check_component(place: usize, name: &[u16]) -> Result<(), NameFault>
     requires { place + length name.now < 2 ^ 63 }
-    ensures { Answers (component_fault place name.now) result }
+    ensures { FindsFault (component_fault place name.now) result }
 {
     if name.is_empty() {
         return Err(NameFault::Empty);

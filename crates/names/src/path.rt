@@ -5,7 +5,7 @@ ghost use Rattle.std.specs.Iterator.{YieldsFirstBy, item_count};
 ghost use Rattle.std.specs.List.{slice_split};
 ghost use Rattle.std.specs.Option.{option_map};
 ghost use Rattle.fsa_types.specs.Paths.{is_separator, pieces, pieces_fault, last_fault, path_fault, components, rest_of, stream_of};
-ghost use Rattle.names.specs.NameFault.{Answers};
+ghost use Rattle.names.specs.NameFault.{FindsFault};
 
 use crate::component::check_component;
 use crate::cut::{COLON, SEPARATOR, before, split_once};
@@ -167,7 +167,7 @@ impl<'a> Iterator for Components<'a> {
 /// It takes time linear in the units, and no memory.
 pub fn split_path<'a>(units: &'a [u16]) -> Result<PathParts<'a>, NameFault>
     ensures ok { IfOk result (λ parts. parts ≡ units.now) }
-    ensures fault { Answers (path_fault units.now) result }
+    ensures fault { FindsFault (path_fault units.now) result }
 {
     if units.len() > MOST_UNITS {
         return Err(NameFault::TooLong);
@@ -186,7 +186,7 @@ pub fn split_path<'a>(units: &'a [u16]) -> Result<PathParts<'a>, NameFault>
 fn check_pieces(rest: &[u16]) -> Result<usize, NameFault>
     requires { length rest.now < 32760 }
     ensures count { IfOk result (λ count. count ≡ length (slice_split is_separator rest.now)) }
-    ensures fault { Answers (pieces_fault 1 (slice_split is_separator rest.now)) result }
+    ensures fault { FindsFault (pieces_fault 1 (slice_split is_separator rest.now)) result }
 {
     let mut left = rest;
     let mut place = 1;
@@ -204,7 +204,7 @@ fn check_pieces(rest: &[u16]) -> Result<usize, NameFault>
 // Whether the last piece of a path is sound; its first unit has this place.
 fn check_last(place: usize, piece: &[u16]) -> Result<(), NameFault>
     requires { place + length piece.now < 2 ^ 63 }
-    ensures { Answers (last_fault place piece.now) result }
+    ensures { FindsFault (last_fault place piece.now) result }
 {
     check_component(place, before(piece, COLON))?;
     check_stream(piece)

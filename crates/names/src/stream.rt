@@ -4,7 +4,7 @@ ghost use Rattle.std.specs.Prelude.{◌≡◌, ◌==◌, ◌||◌};
 ghost use Rattle.std.specs.List.{slice_split, list_any};
 ghost use Rattle.fsa_types.specs.CaseTable.{up, ascii_pairs};
 ghost use Rattle.fsa_types.specs.Paths.{is_colon, is_bad_stream, is_data, stream_fault};
-ghost use Rattle.names.specs.NameFault.{Answers};
+ghost use Rattle.names.specs.NameFault.{FindsFault};
 
 use crate::cut::{COLON, split_once};
 use crate::fault::NameFault;
@@ -18,7 +18,7 @@ const DATA: [u16; 5] = [0x24, 0x44, 0x41, 0x54, 0x41];
 /// Whether the stream part of the last piece of a path is sound, or `BadStream`; a piece without a
 /// stream part is sound. It takes time linear in the piece.
 pub(crate) fn check_stream(piece: &[u16]) -> Result<(), NameFault>
-    ensures { Answers (stream_fault (slice_split is_colon piece.now)) result }
+    ensures { FindsFault (stream_fault (slice_split is_colon piece.now)) result }
 {
     let Some((_, part)) = split_once(piece, COLON) else {
         return Ok(());

@@ -4,7 +4,7 @@ use Rattle.std.specs.Prelude.{IfNone, Option}
 use Rattle.fsa_types.specs.declared.status.Status.{Status}
 use Rattle.fsa_model.specs.Volume.{Volume}
 use Rattle.op_data.specs.Conditions.{HasWriteRoom}
-use Rattle.volume_state.specs.Seen.{Spare}
+use Rattle.volume_state.specs.VolumeView.{Spare}
 
 -- a break lowers the room for ends alone
 pub HasWriteRoom-broken : (v new : Volume) (had left : Spare) (fault : Option Status) (link stream at count : ℕ)

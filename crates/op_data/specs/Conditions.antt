@@ -6,7 +6,7 @@ use Rattle.fsa_model.specs.Lookups.{bytes_of, is_named_stream}
 use Rattle.fsa_model.specs.Volume.{Volume}
 use Rattle.op_parts.specs.Room.{HasNoteRoom}
 use Rattle.volume_state.specs.Room.{stream_of_handle}
-use Rattle.volume_state.specs.Seen.{Spare, CanWrite, room_for}
+use Rattle.volume_state.specs.VolumeView.{Spare, CanWrite, room_for}
 
 -- numbers are left for breaks
 pub record MayUse (v : Volume) : Type 0 where

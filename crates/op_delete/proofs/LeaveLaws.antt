@@ -13,7 +13,7 @@ use Rattle.fsa_model.specs.Lookups.{handle_of, has_row, is_after, is_opened_by, 
 use Rattle.fsa_model.specs.Volume.{Handle, Volume}
 use Rattle.fsa_model.proofs.RowLaws.{find-all, find-any, lives-found, none-all, number_of-none, option_cases, row_of-here}
 use Rattle.volume_state.proofs.OpenLaws.{IfSome-map, find-passes}
-use Rattle.volume_state.specs.Seen.{Spare}
+use Rattle.volume_state.specs.VolumeView.{Spare}
 use Rattle.op_delete.specs.Ends.{with_ended}
 use Rattle.op_delete.specs.declared.ends.Ending.TheVariants.{OfClient}
 use Rattle.op_delete.specs.declared.leave.Sum.{Sum}

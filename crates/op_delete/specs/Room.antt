@@ -6,7 +6,7 @@ use Rattle.fsa_model.specs.Changes.{units_noted, dirs_noted}
 use Rattle.fsa_model.specs.Lookups.{has_row, is_after}
 use Rattle.fsa_model.specs.Volume.{Handle, Volume}
 use Rattle.op_delete.specs.declared.leave.Sum.{Sum}
-use Rattle.volume_state.specs.Seen.{Spare}
+use Rattle.volume_state.specs.VolumeView.{Spare}
 
 -- the units and the directories of a note that the handle's stream is removed, where it has one
 abbrev pub stream_units : Volume → Handle → ℕ

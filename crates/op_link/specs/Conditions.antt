@@ -12,7 +12,7 @@ use Rattle.fsa_model.specs.Lookups.{child_of, has_row, is_at_or_below, is_direct
 use Rattle.fsa_model.specs.Outcome.{Outcome, Hold, ends_with}
 use Rattle.fsa_model.specs.Volume.{File, Link, Handle, Volume}
 use Rattle.volume_state.specs.Paths.{units_in, dirs_in}
-use Rattle.volume_state.specs.Seen.{Spare, room_for}
+use Rattle.volume_state.specs.VolumeView.{Spare, room_for}
 
 -- numbers are left for a link and for breaks
 pub record MayName (v : Volume) : Type 0 where
@@ -75,11 +75,11 @@ abbrev pub StaysOut : List (ℕ × File) → List (ℕ × Link) → ℕ → ℕ 
 StaysOut files links file dir = (is_directory files file && is_at_or_below links file dir) ≡ false
 
 -- a try ends with this status, or is held by these, and leaves the volume so
-abbrev pub Comes : Outcome → Volume → List Blocker → Option Status → Type 0
-Comes outcome new blockers (Some status) = outcome ≡ ends_with new status
-Comes outcome new blockers None = outcome ≡ Hold new blockers Held
+abbrev pub EndsOrHolds : Outcome → Volume → List Blocker → Option Status → Type 0
+EndsOrHolds outcome new blockers (Some status) = outcome ≡ ends_with new status
+EndsOrHolds outcome new blockers None = outcome ≡ Hold new blockers Held
 
 -- where it is held there is room to make it pending with what it waits for
-abbrev pub HasHeldRoom : Option Status → Spare → List Blocker → Type 0
-HasHeldRoom (Some status) spare blockers = Unit {0}
-HasHeldRoom None spare blockers = (1 ≤ spare.pending) × (length blockers ≤ spare.blockers)
+abbrev pub HasRoomIfHeld : Option Status → Spare → List Blocker → Type 0
+HasRoomIfHeld (Some status) spare blockers = Unit {0}
+HasRoomIfHeld None spare blockers = (1 ≤ spare.pending) × (length blockers ≤ spare.blockers)

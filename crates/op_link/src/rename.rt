@@ -10,7 +10,7 @@ ghost use Rattle.fsa_model.specs.Outcome.{ends_with};
 ghost use Rattle.fsa_model.specs.Rename.{entry_right, keeps_name, lacks_entry_right, naming_by, rename_at, rename_below_closed, rename_by, rename_directory, rename_done, rename_free, rename_into, rename_link, rename_named, rename_over, rename_over_broken, rename_over_closed, rename_walked, replaced_link, try_rename};
 ghost use Rattle.fsa_model.specs.Replacement.{is_any_open, new_name};
 ghost use Rattle.op_link.specs.Calls.{IsRename, asked_rename};
-ghost use Rattle.op_link.specs.Conditions.{Comes, Frees, HasBreaksRoom, HasHeldRoom, HasRenameRoom, IsReplaceable, MayName, StaysOut};
+ghost use Rattle.op_link.specs.Conditions.{EndsOrHolds, Frees, HasBreaksRoom, HasRoomIfHeld, HasRenameRoom, IsReplaceable, MayName, StaysOut};
 ghost use Rattle.op_parts.specs.Walks.{IsIn, ReachesHolder, walked_of};
 ghost use Rattle.volume_state.specs.Living.{CanHold};
 ghost use Rattle.volume_state.specs.Room.{KeepsEnds};
@@ -73,8 +73,8 @@ fn rename_free(
     requires file { named.now.file ≡ linked_file volume.old.content named.now.link }
     requires name { name ≡ new_name named.now }
     requires frees { Frees volume.old.content.table volume.old.content.files volume.old.content.links volume.old.content.handles named.now.link dir (new_name named.now) replaced }
-    ensures gives { Comes (rename_free volume.old.content named.now dir replaced) volume.new.content blockers.new.items result }
-    ensures room { HasHeldRoom result volume.new.spare blockers.new.items }
+    ensures gives { EndsOrHolds (rename_free volume.old.content named.now dir replaced) volume.new.content blockers.new.items result }
+    ensures room { HasRoomIfHeld result volume.new.spare blockers.new.items }
     ensures ends { KeepsEnds volume.old volume.new }
 {
     if break_to_name(volume, named, HandleSet::Link(named.link()), blockers) {
@@ -102,8 +102,8 @@ fn rename_over_closed(
     requires link { IsReplaceable volume.old.content replaced dir (new_name named.now) }
     requires other { (replaced == named.now.link) ≡ false }
     requires moves_file { is_directory volume.old.content.files named.now.file ≡ false }
-    ensures gives { Comes (rename_over_closed volume.old.content named.now dir replaced) volume.new.content blockers.new.items result }
-    ensures room { HasHeldRoom result volume.new.spare blockers.new.items }
+    ensures gives { EndsOrHolds (rename_over_closed volume.old.content named.now dir replaced) volume.new.content blockers.new.items result }
+    ensures room { HasRoomIfHeld result volume.new.spare blockers.new.items }
     ensures ends { KeepsEnds volume.old volume.new }
 {
     if is_any_open(volume, HandleSet::Link(replaced)) {
@@ -131,8 +131,8 @@ fn rename_over_broken(
     requires link { IsReplaceable volume.old.content replaced dir (new_name named.now) }
     requires other { (replaced == named.now.link) ≡ false }
     requires moves_file { is_directory volume.old.content.files named.now.file ≡ false }
-    ensures gives { Comes (rename_over_broken volume.old.content named.now dir replaced) volume.new.content blockers.new.items result }
-    ensures room { HasHeldRoom result volume.new.spare blockers.new.items }
+    ensures gives { EndsOrHolds (rename_over_broken volume.old.content named.now dir replaced) volume.new.content blockers.new.items result }
+    ensures room { HasRoomIfHeld result volume.new.spare blockers.new.items }
     ensures ends { KeepsEnds volume.old volume.new }
 {
     if break_to_name(volume, named, HandleSet::Link(replaced), blockers) {
@@ -160,8 +160,8 @@ fn rename_over(
     requires client { named.now.client < length volume.old.content.clients }
     requires child { child_of volume.old.content dir (new_name named.now) ≡ Some replaced }
     requires other { (replaced == named.now.link) ≡ false }
-    ensures gives { Comes (rename_over volume.old.content named.now dir replaced) volume.new.content blockers.new.items result }
-    ensures room { HasHeldRoom result volume.new.spare blockers.new.items }
+    ensures gives { EndsOrHolds (rename_over volume.old.content named.now dir replaced) volume.new.content blockers.new.items result }
+    ensures room { HasRoomIfHeld result volume.new.spare blockers.new.items }
     ensures ends { KeepsEnds volume.old volume.new }
 {
     match replace_fault(volume, named.asked(), replaced) {
@@ -218,8 +218,8 @@ fn rename_named(
     requires file { named.now.file ≡ linked_file volume.old.content named.now.link }
     requires name { name ≡ new_name named.now }
     requires client { named.now.client < length volume.old.content.clients }
-    ensures gives { Comes (rename_named volume.old.content named.now dir) volume.new.content blockers.new.items result }
-    ensures room { HasHeldRoom result volume.new.spare blockers.new.items }
+    ensures gives { EndsOrHolds (rename_named volume.old.content named.now dir) volume.new.content blockers.new.items result }
+    ensures room { HasRoomIfHeld result volume.new.spare blockers.new.items }
     ensures ends { KeepsEnds volume.old volume.new }
 {
     if lacks_entry_right(volume, named, dir) {
@@ -247,8 +247,8 @@ fn rename_below_closed(
     requires file { named.now.file ≡ linked_file volume.old.content named.now.link }
     requires name { name ≡ new_name named.now }
     requires client { named.now.client < length volume.old.content.clients }
-    ensures gives { Comes (rename_below_closed volume.old.content named.now dir) volume.new.content blockers.new.items result }
-    ensures room { HasHeldRoom result volume.new.spare blockers.new.items }
+    ensures gives { EndsOrHolds (rename_below_closed volume.old.content named.now dir) volume.new.content blockers.new.items result }
+    ensures room { HasRoomIfHeld result volume.new.spare blockers.new.items }
     ensures ends { KeepsEnds volume.old volume.new }
 {
     if is_any_open(volume, HandleSet::Below(named.file())) {
@@ -272,8 +272,8 @@ fn rename_directory(
     requires file { named.now.file ≡ linked_file volume.old.content named.now.link }
     requires name { name ≡ new_name named.now }
     requires client { named.now.client < length volume.old.content.clients }
-    ensures gives { Comes (rename_directory volume.old.content named.now dir) volume.new.content blockers.new.items result }
-    ensures room { HasHeldRoom result volume.new.spare blockers.new.items }
+    ensures gives { EndsOrHolds (rename_directory volume.old.content named.now dir) volume.new.content blockers.new.items result }
+    ensures room { HasRoomIfHeld result volume.new.spare blockers.new.items }
     ensures ends { KeepsEnds volume.old volume.new }
 {
     if volume.is_at_or_below(named.file(), dir) {
@@ -300,8 +300,8 @@ fn rename_in_room(
     requires file { named.now.file ≡ linked_file volume.old.content named.now.link }
     requires name { name ≡ new_name named.now }
     requires client { named.now.client < length volume.old.content.clients }
-    ensures gives { Comes (rename_into volume.old.content named.now dir) volume.new.content blockers.new.items result }
-    ensures room { HasHeldRoom result volume.new.spare blockers.new.items }
+    ensures gives { EndsOrHolds (rename_into volume.old.content named.now dir) volume.new.content blockers.new.items result }
+    ensures room { HasRoomIfHeld result volume.new.spare blockers.new.items }
     ensures ends { KeepsEnds volume.old volume.new }
 {
     if volume.is_directory(named.file()) {

@@ -10,7 +10,7 @@ ghost use Rattle.op_link.specs.Conditions.{HasNameRoom, HasReplaceRoom, IsReplac
 ghost use Rattle.volume_state.specs.Living.{CanHold};
 ghost use Rattle.volume_state.specs.Paths.{units_in, dirs_in};
 ghost use Rattle.volume_state.specs.Room.{KeepsEnds};
-ghost use Rattle.volume_state.specs.Seen.{room_for};
+ghost use Rattle.volume_state.specs.VolumeView.{room_for};
 
 use crate::naming::Naming;
 use bitflags::Flags;

@@ -9,7 +9,7 @@ use Rattle.fsa_model.specs.Sound.{is_link_of_directory, is_stream_of_link}
 use Rattle.fsa_model.specs.Volume.{Volume}
 use Rattle.op_parts.specs.Room.{HasWaitRoom}
 use Rattle.volume_state.specs.Living.{is_link_to}
-use Rattle.volume_state.specs.Seen.{Spare}
+use Rattle.volume_state.specs.VolumeView.{Spare}
 
 -- the client is one of the volume's, no handle of it has the call's number, and numbers are
 -- left for all that one open makes

@@ -10,7 +10,7 @@ ghost use Rattle.fsa_model.specs.Edits.{with_file, with_link};
 ghost use Rattle.fsa_model.specs.Sound.{PointFits, is_link_of_directory};
 ghost use Rattle.op_open.specs.Conditions.{MayOpen};
 ghost use Rattle.volume_state.specs.Room.{KeepsEnds};
-ghost use Rattle.volume_state.specs.Seen.{room_for};
+ghost use Rattle.volume_state.specs.VolumeView.{room_for};
 ghost use Rattle.fsa_model.specs.Changes.{units_noted, dirs_noted};
 ghost use Rattle.volume_state.specs.Living.{CanHold, is_link_to};
 ghost use Rattle.volume_state.specs.Paths.{units_in, dirs_in};

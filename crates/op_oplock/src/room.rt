@@ -3,7 +3,7 @@
 ghost use Rattle.std.specs.Prelude.{ℕ, ◌≡◌, ◌≤◌, length, IsOk, OnOk, Some};
 ghost use Rattle.fsa_model.specs.Grant.{switched};
 ghost use Rattle.volume_state.specs.Room.{KeepsEnds, stream_of_handle};
-ghost use Rattle.volume_state.specs.Seen.{room_for};
+ghost use Rattle.volume_state.specs.VolumeView.{room_for};
 
 use fsa_types::NoMemory;
 use volume_state::{Need, Volume};

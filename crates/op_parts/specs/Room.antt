@@ -7,7 +7,7 @@ use Rattle.fsa_types.specs.declared.reply.Blocker.{Blocker}
 use Rattle.fsa_model.specs.Breaks.{awaited, told}
 use Rattle.fsa_model.specs.Changes.{units_noted, dirs_noted}
 use Rattle.fsa_model.specs.Volume.{Volume}
-use Rattle.volume_state.specs.Seen.{Spare}
+use Rattle.volume_state.specs.VolumeView.{Spare}
 
 -- there is room for the ends of the calls that a break may tell, and for the call to be pending with the
 -- breaks that it may wait for, in the list of blockers too; each oplock tells one call at most

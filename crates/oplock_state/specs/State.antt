@@ -31,7 +31,7 @@ abbrev pub taken_up : State → Option ℕ → ℕ → List Oplock
 taken_up state acting key = in_order is_opened_before (filter (is_marked state.marked acting key) state.rows)
 
 -- chosen handles differ, and each has an oplock
-pub record AreMarks (marked : List ℕ) (rows : List Oplock) : Type 0 where
+pub record AreChosen (marked : List ℕ) (rows : List Oplock) : Type 0 where
   pub differ : AllPairs (λ a b. (a == b) ≡ false) marked
   pub each : All (λ handle. IsTrue (has_oplock handle rows)) marked
 

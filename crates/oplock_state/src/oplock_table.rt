@@ -3,7 +3,7 @@
 ghost use Rattle.std.specs.Prelude.{ℕ, ◌≡◌, ◌≤◌, ◌<◌, ◌+◌, ◌^◌, ◌==◌, ◌∷◌, [], false, not, List, All, AllPairs, filter, length, IfNone, IsSome, OnOk, Some, option_map};
 ghost use Rattle.std.specs.Option.{option_map_or, ForSome};
 ghost use Rattle.fsa_types.specs.OplockGrants.{after_answer, after_grant, switched_among, target_among};
-ghost use Rattle.fsa_types.specs.OplockLists.{after_breaks, awaited_among, effect_on, last_by, left_by, without_oplock_of, IsCopy, IsOplock};
+ghost use Rattle.fsa_types.specs.OplockLists.{after_breaks, awaited_among, effect_on, last_by, left_by, without_oplock_of, IsCopy, IsSoundOplock};
 ghost use Rattle.fsa_types.specs.Oplocks.{Oplock, in_both};
 ghost use Rattle.fsa_types.specs.Sorting.{in_order};
 ghost use Rattle.fsa_model.specs.Breaks.{is_broken_before, is_chosen};
@@ -117,7 +117,7 @@ impl OplockTable {
     /// its stream and in the list, and puts by who is told.
     pub fn begin(&mut self, handles: &HandleTable, class: Class)
         requires numbers { self.old.last + length self.old.chosen < 2 ^ 64 }
-        requires sound { All IsOplock self.old.chosen }
+        requires sound { All IsSoundOplock self.old.chosen }
         requires copies { All (IsCopy self.old.rows) self.old.chosen }
         requires there { AreThere self.old.rows self.old.chosen }
         requires sorted { AreSorted handles.now.rows self.old.rows self.old.tables }

@@ -40,7 +40,7 @@ const OWN: u64 = 0;
 impl Model for StreamOplocks {
     ghost use Rattle.std.specs.Prelude.{◌-◌, ◌≤◌, length, min};
     ghost use Rattle.std.specs.Vec.{vec_capacity};
-    ghost use Rattle.oplock_state.specs.State.{AreMarks, State};
+    ghost use Rattle.oplock_state.specs.State.{AreChosen, State};
     ghost use Rattle.volume_tables.specs.Rooms.{room_in};
 
     ghost Value = { State };
@@ -55,7 +55,7 @@ impl Model for StreamOplocks {
       waited = o.list.waited;
     } };
 
-    ghost invariant = { λ o. (length o.list.rows ≤ vec_capacity o.marked) × AreMarks o.marked.items o.list.rows };
+    ghost invariant = { λ o. (length o.list.rows ≤ vec_capacity o.marked) × AreChosen o.marked.items o.list.rows };
 }
 
 impl StreamOplocks {

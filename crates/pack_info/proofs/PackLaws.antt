@@ -9,7 +9,7 @@ use Rattle.fsa_types.specs.declared.reply.PackKind.TheVariants.{Names, Dir, Full
 use Rattle.fsa_types.specs.PackedRows.{Numbers, NumbersFit, PackRow}
 use Rattle.fsa_types.specs.LittleEndian.{zeros}
 use Rattle.fsa_types.specs.Packing.{Packed, packed, before_name, after_name, name_of, head, head_size, rounded, size_of, entry_bytes, is_nothing, entries_bytes, shown, bytes, size, fitting, longest_fitting}
-use Rattle.pack_info.specs.Entries.{entries_size, entries_of, IsFitting, next_of, IsEntry, AreEntries, CanWrite, AreWritable}
+use Rattle.pack_info.specs.Entries.{entries_size, entries_of, IsFitting, next_of, IsEntry, AreEntries, FitsWidths, AreWritable}
 use Rattle.pack_info.proofs.NumberLaws.{length-zeros, length-name_of}
 
 pub length-head : (kind : PackKind) (n : Numbers) (next len : ℕ) → length (head kind n next len) ≡ head_size kind
@@ -177,7 +177,7 @@ nothing-entries row_of kind [] = refl
 nothing-entries row_of kind (row ∷ rows) = grind (arith, nat_tests)
 
 pub can_write : {T : Type 0} (row_of : T → PackRow) (kind : PackKind) (row : T) (rest more : List T) (last : Bool) → rest ≡ row ∷ more → last ≡ eqb (length more) 0
-    → AreWritable kind (entries_of row_of kind rest) → CanWrite kind (packed kind (row_of row)) last
+    → AreWritable kind (entries_of row_of kind rest) → FitsWidths kind (packed kind (row_of row)) last
 can_write {T = T} row_of kind row rest more last cut e all =
     let s : AreWritable kind (entries_of row_of kind (row ∷ more)) = subst (λ (rs : List T). AreWritable kind (entries_of row_of kind rs)) cut all in
     let l : last ≡ is_nothing (entries_of row_of kind more) = e ∙ sym (nothing-entries row_of kind more) in
@@ -199,7 +199,7 @@ small_writable kind (e ∷ f ∷ fs) small =
     (record { now = omega (arith, small, sum, r); next = λ g. omega (arith, small, sum) }, small_writable kind (f ∷ fs) (omega (arith, small, sum)))
 
 -- a change whose name has fewer than 2 ^ 31 - 8 units can be written
-short_writable : (row : PackRow) (last : Bool) → length row.name + 8 < 2 ^ 31 → CanWrite Changes (packed Changes row) last
+short_writable : (row : PackRow) (last : Bool) → length row.name + 8 < 2 ^ 31 → FitsWidths Changes (packed Changes row) last
 short_writable row last short =
     let n = length-name_of Changes row.name in
     record { now = omega (arith, short, n); next = λ f. omega (arith, short, n) }
@@ -245,7 +245,7 @@ shown_fit Full n f = record { action = omega arith; creation = f.creation; acces
 shown_fit IdFull n f = record { action = omega arith; creation = f.creation; access = f.access; write = f.write; change = f.change; length = f.length; room = f.room; attributes = f.attributes; file = f.file }
 shown_fit Streams n f = record { action = omega arith; creation = omega arith; access = omega arith; write = omega arith; change = omega arith; length = f.length; room = f.room; attributes = omega arith; file = omega arith }
 
-next_small : (kind : PackKind) (e : Packed) (last : Bool) → CanWrite kind e last → next_of kind (size_of kind e) last < 2 ^ 32
+next_small : (kind : PackKind) (e : Packed) (last : Bool) → FitsWidths kind e last → next_of kind (size_of kind e) last < 2 ^ 32
 next_small kind e true can = omega arith
 next_small kind e false can = can.next refl
 

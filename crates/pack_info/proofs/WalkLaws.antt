@@ -5,11 +5,11 @@ use Rattle.fsa_types.specs.declared.reply.PackKind.{PackKind}
 use Rattle.fsa_types.specs.declared.reply.PackKind.TheVariants.{Names, Dir, Full, IdFull, Streams, Changes}
 use Rattle.pack_info.specs.declared.reading.Head.{Head}
 use Rattle.fsa_types.specs.Packing.{Packed, head, head_size, size_of, entry_bytes, is_nothing, entries_bytes}
-use Rattle.pack_info.specs.Entries.{next_of, padding_of, AreEntries, IsEntry, Begins, IsTail}
+use Rattle.pack_info.specs.Entries.{next_of, padding_of, AreEntries, IsEntry, BeginsWithEntry, IsTail}
 use Rattle.std.specs.Prelude.{Option, Result}
 use Rattle.pack_info.specs.declared.walk.PackedEntry.{PackedEntry}
 use Rattle.pack_info.specs.declared.walk.Malformed.{Malformed}
-use Rattle.pack_info.specs.Walks.{WalkState, Gives, Steps, left_of}
+use Rattle.pack_info.specs.Walks.{WalkState, GivesEntry, StepsToEntry, left_of}
 use Rattle.pack_info.specs.Reading.{raw_head, IsPlain, IsBlank, HeadFits}
 use Rattle.pack_info.proofs.PackLaws.{length-head, size-at_least, rounds}
 use Rattle.pack_info.proofs.TailLaws.{head-some}
@@ -23,19 +23,19 @@ entry_parts kind e true rest = append_assoc (head kind e.numbers 0 (length e.nam
 entry_parts kind e false rest = simp append_assoc
 
 -- what a buffer that begins with an entry was read as
-pub read_as : (kind : PackKind) (h : Head) (buffer after : List ℕ) (e : Packed) (rest : List ℕ) → IsPlain kind h → HeadFits h → buffer ≡ raw_head kind h ++ after → Begins kind buffer e rest
+pub read_as : (kind : PackKind) (h : Head) (buffer after : List ℕ) (e : Packed) (rest : List ℕ) → IsPlain kind h → HeadFits h → buffer ≡ raw_head kind h ++ after → BeginsWithEntry kind buffer e rest
     → IsHeadOf kind h e.numbers (next_of kind (size_of kind e) (is_nothing rest)) (length e.name) after (e.name ++ (padding_of kind (size_of kind e) (is_nothing rest) ++ rest))
 read_as kind h buffer after e rest plain fits is b =
     one_head kind h e.numbers (next_of kind (size_of kind e) (is_nothing rest)) (length e.name) after (e.name ++ (padding_of kind (size_of kind e) (is_nothing rest) ++ rest)) plain fits b.is_entry.numbers b.is_entry.next b.is_entry.len
     (sym is ∙ b.spelled ∙ entry_parts kind e (is_nothing rest) rest)
 
-pub tail_of : (kind : PackKind) (h : Head) (buffer after : List ℕ) (e : Packed) (rest : List ℕ) → IsPlain kind h → HeadFits h → buffer ≡ raw_head kind h ++ after → Begins kind buffer e rest
+pub tail_of : (kind : PackKind) (h : Head) (buffer after : List ℕ) (e : Packed) (rest : List ℕ) → IsPlain kind h → HeadFits h → buffer ≡ raw_head kind h ++ after → BeginsWithEntry kind buffer e rest
     → IsTail kind h.next h.len after e.name rest
 tail_of kind h buffer after e rest plain fits is b =
     let r = read_as kind h buffer after e rest plain fits is b in
     record { spelled = rw r.len_is r.rest_is; len_is = sym r.len_is; next_is = rw r.len_is r.next_is; name_is = b.is_entry.name }
 
-pub too_few : (kind : PackKind) (buffer : List ℕ) (e : Packed) (rest : List ℕ) → length buffer < head_size kind → Begins kind buffer e rest → ⊥
+pub too_few : (kind : PackKind) (buffer : List ℕ) (e : Packed) (rest : List ℕ) → length buffer < head_size kind → BeginsWithEntry kind buffer e rest → ⊥
 too_few kind buffer e rest lt b =
     let last = is_nothing rest in
     let s = ap length (b.spelled ∙ entry_parts kind e (is_nothing rest) rest) in
@@ -45,7 +45,7 @@ too_few kind buffer e rest lt b =
 
 -- a head and a tail that were read are an entry
 pub begins_with : (kind : PackKind) (h : Head) (buffer after name rest : List ℕ) → IsPlain kind h → HeadFits h → h.index ≡ 0 → h.attributes_size ≡ 0 → h.reserved ≡ 0 → buffer ≡ raw_head kind h ++ after
-    → IsTail kind h.next h.len after name rest → Begins kind buffer (record { numbers = h.numbers; name = name }) rest
+    → IsTail kind h.next h.len after name rest → BeginsWithEntry kind buffer (record { numbers = h.numbers; name = name }) rest
 begins_with kind h buffer after name rest plain fits a b c is t =
     let e : Packed = record { numbers = h.numbers; name = name } in
     record {
@@ -79,7 +79,7 @@ nothing_written kind [] = refl
 nothing_written kind (e ∷ es) = some (entries_bytes kind (e ∷ es)) (is_some kind e es)
 
 -- what is written begins with its first entry
-pub written_begins : (kind : PackKind) (buffer : List ℕ) (e : Packed) (es : List Packed) → IsEntry kind e (is_nothing es) → buffer ≡ entries_bytes kind (e ∷ es) → Begins kind buffer e (entries_bytes kind es)
+pub written_begins : (kind : PackKind) (buffer : List ℕ) (e : Packed) (es : List Packed) → IsEntry kind e (is_nothing es) → buffer ≡ entries_bytes kind (e ∷ es) → BeginsWithEntry kind buffer e (entries_bytes kind es)
 written_begins kind buffer e es is written = record {
   is_entry = rw (nothing_written kind es) is;
   spelled = rw (nothing_written kind es) written;
@@ -100,7 +100,7 @@ as_head : Packed → ℕ → Head
 as_head e next = record { next = next; index = 0; attributes_size = 0; reserved = 0; len = length e.name; numbers = e.numbers }
 
 -- a buffer begins with one entry
-pub begins_once : (kind : PackKind) (buffer : List ℕ) (e f : Packed) (r s : List ℕ) → Begins kind buffer e r → Begins kind buffer f s → Same e f r s
+pub begins_once : (kind : PackKind) (buffer : List ℕ) (e f : Packed) (r s : List ℕ) → BeginsWithEntry kind buffer e r → BeginsWithEntry kind buffer f s → Same e f r s
 unfolding as_head
 begins_once kind buffer e f r s b c =
     let next = next_of kind (size_of kind e) (is_nothing r) in
@@ -133,15 +133,15 @@ rest_at buffer place front rest e =
 
 -- what holds of a walk as it was looked at holds of it
 pub again_at : (result : Result (Option PackedEntry) Malformed) (new v old : WalkState) → v ≡ old
-    → ((e : Packed) (es : List Packed) → AreEntries v.kind (e ∷ es) → left_of v ≡ entries_bytes v.kind (e ∷ es) → Gives e result × (left_of new ≡ entries_bytes v.kind es))
-    → ((e : Packed) (es : List Packed) → AreEntries old.kind (e ∷ es) → left_of old ≡ entries_bytes old.kind (e ∷ es) → Gives e result × (left_of new ≡ entries_bytes old.kind es))
-again_at result new v old same holds = subst (λ (w : WalkState). (e : Packed) (es : List Packed) → AreEntries w.kind (e ∷ es) → left_of w ≡ entries_bytes w.kind (e ∷ es) → Gives e result × (left_of new ≡ entries_bytes w.kind es)) same holds
+    → ((e : Packed) (es : List Packed) → AreEntries v.kind (e ∷ es) → left_of v ≡ entries_bytes v.kind (e ∷ es) → GivesEntry e result × (left_of new ≡ entries_bytes v.kind es))
+    → ((e : Packed) (es : List Packed) → AreEntries old.kind (e ∷ es) → left_of old ≡ entries_bytes old.kind (e ∷ es) → GivesEntry e result × (left_of new ≡ entries_bytes old.kind es))
+again_at result new v old same holds = subst (λ (w : WalkState). (e : Packed) (es : List Packed) → AreEntries w.kind (e ∷ es) → left_of w ≡ entries_bytes w.kind (e ∷ es) → GivesEntry e result × (left_of new ≡ entries_bytes w.kind es)) same holds
 
-pub steps_at : (result : Result (Option PackedEntry) Malformed) (new v old : WalkState) → v ≡ old → Steps v new result → Steps old new result
-steps_at result new v old same holds = subst (λ (w : WalkState). Steps w new result) same holds
+pub steps_at : (result : Result (Option PackedEntry) Malformed) (new v old : WalkState) → v ≡ old → StepsToEntry v new result → StepsToEntry old new result
+steps_at result new v old same holds = subst (λ (w : WalkState). StepsToEntry w new result) same holds
 
 -- an entry takes at least a byte
-pub begins_longer : (kind : PackKind) (buffer : List ℕ) (e : Packed) (rest : List ℕ) → Begins kind buffer e rest → length rest < length buffer
+pub begins_longer : (kind : PackKind) (buffer : List ℕ) (e : Packed) (rest : List ℕ) → BeginsWithEntry kind buffer e rest → length rest < length buffer
 begins_longer kind buffer e rest b =
     let s = ap length (b.spelled ∙ entry_parts kind e (is_nothing rest) rest) in
     let h = length-head kind e.numbers (next_of kind (size_of kind e) (is_nothing rest)) (length e.name) in

@@ -34,14 +34,14 @@ padding_of kind size true = []
 padding_of kind size false = zeros (rounded kind size - size)
 
 -- the lengths of an entry fit their widths
-pub record CanWrite (kind : PackKind) (entry : Packed) (last : Bool) : Type 0 where
+pub record FitsWidths (kind : PackKind) (entry : Packed) (last : Bool) : Type 0 where
   pub now : size_of kind entry < 2 ^ 32
   pub next : last ≡ false → rounded kind (size_of kind entry) < 2 ^ 32
 
 -- those of all entries do
 abbrev pub AreWritable : PackKind → List Packed → Type 0
 AreWritable kind [] = Unit {0}
-AreWritable kind (entry ∷ entries) = CanWrite kind entry (is_nothing entries) × AreWritable kind entries
+AreWritable kind (entry ∷ entries) = FitsWidths kind entry (is_nothing entries) × AreWritable kind entries
 
 -- the field of a name is that of some units
 abbrev pub IsName : PackKind → List ℕ → Type 0
@@ -61,7 +61,7 @@ AreEntries kind [] = Unit {0}
 AreEntries kind (entry ∷ entries) = IsEntry kind entry (is_nothing entries) × AreEntries kind entries
 
 -- the buffer begins with this entry, and this is what follows; the last entry ends the buffer
-pub record Begins (kind : PackKind) (buffer : List ℕ) (entry : Packed) (rest : List ℕ) : Type 0 where
+pub record BeginsWithEntry (kind : PackKind) (buffer : List ℕ) (entry : Packed) (rest : List ℕ) : Type 0 where
   pub is_entry : IsEntry kind entry (is_nothing rest)
   pub spelled : buffer ≡ entry_bytes kind entry (is_nothing rest) ++ rest
 

@@ -5,7 +5,7 @@ use Rattle.pack_info.specs.declared.walk.PackedEntry.{PackedEntry}
 use Rattle.pack_info.specs.declared.walk.Malformed.{Malformed}
 use Rattle.pack_info.specs.declared.reading.Head.{Head}
 use Rattle.fsa_types.specs.Packing.{Packed}
-use Rattle.pack_info.specs.Entries.{Begins}
+use Rattle.pack_info.specs.Entries.{BeginsWithEntry}
 
 -- an entry without where its name lies
 abbrev pub seen : PackedEntry → Packed
@@ -29,13 +29,13 @@ left_of walk = drop walk.place walk.buffer
 
 -- one step: no entry is given only at the end; an entry that is given is the one that the rest
 -- began with; `Malformed` names the place where no entry begins. Only an entry moves the walk
-abbrev pub Steps : WalkState → WalkState → Result (Option PackedEntry) Malformed → Type 0
-Steps old new (Ok None) = (left_of old ≡ []) × (new ≡ old)
-Steps old new (Ok (Some entry)) = Begins old.kind (left_of old) (seen entry) (left_of new) × (new.kind ≡ old.kind) × (new.buffer ≡ old.buffer) × (new.place ≤ length new.buffer)
-Steps old new (Err malformed) = (malformed.place ≡ old.place) × (new ≡ old) × (0 < length (left_of old)) × ((e : Packed) (rest : List ℕ) → Begins old.kind (left_of old) e rest → ⊥)
+abbrev pub StepsToEntry : WalkState → WalkState → Result (Option PackedEntry) Malformed → Type 0
+StepsToEntry old new (Ok None) = (left_of old ≡ []) × (new ≡ old)
+StepsToEntry old new (Ok (Some entry)) = BeginsWithEntry old.kind (left_of old) (seen entry) (left_of new) × (new.kind ≡ old.kind) × (new.buffer ≡ old.buffer) × (new.place ≤ length new.buffer)
+StepsToEntry old new (Err malformed) = (malformed.place ≡ old.place) × (new ≡ old) × (0 < length (left_of old)) × ((e : Packed) (rest : List ℕ) → BeginsWithEntry old.kind (left_of old) e rest → ⊥)
 
 -- this entry was given
-abbrev pub Gives : Packed → Result (Option PackedEntry) Malformed → Type 0
-Gives e (Ok None) = ⊥
-Gives e (Ok (Some entry)) = seen entry ≡ e
-Gives e (Err malformed) = ⊥
+abbrev pub GivesEntry : Packed → Result (Option PackedEntry) Malformed → Type 0
+GivesEntry e (Ok None) = ⊥
+GivesEntry e (Ok (Some entry)) = seen entry ≡ e
+GivesEntry e (Err malformed) = ⊥

@@ -1,10 +1,10 @@
 //! Entries of a buffer, lent one after the other.
 
 ghost use Rattle.std.specs.Prelude.{◌≡◌, ◌<◌, ◌≤◌, ◌↔◌, IsTrue, ◌∷◌, List, ℕ, length, IfSome, IfNone, IfOk};
-ghost use Rattle.pack_info.specs.Entries.{AreEntries, Begins};
+ghost use Rattle.pack_info.specs.Entries.{AreEntries, BeginsWithEntry};
 ghost use Rattle.fsa_types.specs.Packing.{Packed, head_size, entries_bytes};
 ghost use Rattle.fsa_types.specs.PackedRows.{pack_kind};
-ghost use Rattle.pack_info.specs.Walks.{seen, HasConstants, WalkState, Steps, Gives, left_of};
+ghost use Rattle.pack_info.specs.Walks.{seen, HasConstants, WalkState, StepsToEntry, GivesEntry, left_of};
 
 use crate::layout::size_of_head;
 use crate::pack::pack_kind;
@@ -48,8 +48,8 @@ fn has_constants(head: &Head) -> bool
 
 // The first entry of a buffer, and what follows it.
 fn entry_at<'a>(kind: PackKind, bytes: &'a [u8]) -> Option<(PackedEntry<'a>, &'a [u8])>
-    ensures found { IfSome result (λ p. Begins kind bytes.now (seen p.0) p.1.now) }
-    ensures only { IfNone result ((e : Packed) (rest : List ℕ) → Begins kind bytes.now e rest → ⊥) }
+    ensures found { IfSome result (λ p. BeginsWithEntry kind bytes.now (seen p.0) p.1.now) }
+    ensures only { IfNone result ((e : Packed) (rest : List ℕ) → BeginsWithEntry kind bytes.now e rest → ⊥) }
 {
     if bytes.len() < size_of_head(kind) {
         return None;
@@ -115,9 +115,9 @@ impl<'a> Walk<'a> {
 
     // The next entry. `Malformed` leaves the walk as it was.
     fn next(&mut self) -> Result<Option<PackedEntry<'a>>, Malformed>
-        ensures step { Steps self.old self.new result }
+        ensures step { StepsToEntry self.old self.new result }
         ensures again { (e : Packed) (es : List Packed) → AreEntries self.old.kind (e ∷ es) → left_of self.old ≡ entries_bytes self.old.kind (e ∷ es)
-            → Gives e result × (left_of self.new ≡ entries_bytes self.old.kind es) }
+            → GivesEntry e result × (left_of self.new ≡ entries_bytes self.old.kind es) }
     {
         if self.place == self.buffer.len() {
             return Ok(None);
@@ -157,9 +157,9 @@ impl<'a> NotifyEntries<'a> {
 
     /// The next entry. `Malformed` leaves the walk as it was.
     pub fn next(&mut self) -> Result<Option<PackedEntry<'a>>, Malformed>
-        ensures step { Steps self.old self.new result }
+        ensures step { StepsToEntry self.old self.new result }
         ensures again { (e : Packed) (es : List Packed) → AreEntries self.old.kind (e ∷ es) → left_of self.old ≡ entries_bytes self.old.kind (e ∷ es)
-            → Gives e result × (left_of self.new ≡ entries_bytes self.old.kind es) }
+            → GivesEntry e result × (left_of self.new ≡ entries_bytes self.old.kind es) }
     {
         self.walk.next()
     }
@@ -191,9 +191,9 @@ impl<'a> StreamEntries<'a> {
 
     /// The next entry. `Malformed` leaves the walk as it was.
     pub fn next(&mut self) -> Result<Option<PackedEntry<'a>>, Malformed>
-        ensures step { Steps self.old self.new result }
+        ensures step { StepsToEntry self.old self.new result }
         ensures again { (e : Packed) (es : List Packed) → AreEntries self.old.kind (e ∷ es) → left_of self.old ≡ entries_bytes self.old.kind (e ∷ es)
-            → Gives e result × (left_of self.new ≡ entries_bytes self.old.kind es) }
+            → GivesEntry e result × (left_of self.new ≡ entries_bytes self.old.kind es) }
     {
         self.walk.next()
     }
@@ -225,9 +225,9 @@ impl<'a> DirEntries<'a> {
 
     /// The next entry. `Malformed` leaves the walk as it was.
     pub fn next(&mut self) -> Result<Option<PackedEntry<'a>>, Malformed>
-        ensures step { Steps self.old self.new result }
+        ensures step { StepsToEntry self.old self.new result }
         ensures again { (e : Packed) (es : List Packed) → AreEntries self.old.kind (e ∷ es) → left_of self.old ≡ entries_bytes self.old.kind (e ∷ es)
-            → Gives e result × (left_of self.new ≡ entries_bytes self.old.kind es) }
+            → GivesEntry e result × (left_of self.new ≡ entries_bytes self.old.kind es) }
     {
         self.walk.next()
     }

@@ -10,7 +10,7 @@ use Rattle.fsa_model.specs.Fault.{BadSyntax}
 use Rattle.fsa_model.specs.Words.{same, word_of, field_at, number_at, is_name, is_name_byte, most_id}
 use Rattle.fsa_model.specs.FieldText.{number_text, mask_text}
 use Rattle.fsa_model.specs.Verbs.{verb}
-use Rattle.fsa_model.specs.Spelling.{fields_text, is_built, sids_text, line_text, is_line}
+use Rattle.fsa_model.specs.Spelling.{fields_text, can_be_spelled, sids_text, line_text, is_line}
 use Rattle.fsa_model.specs.Lines.{Line, Version, DefaultTable, PairTable, Pair, ClientLine, RequestLine, pair_at, sids_at, client_at, request_of, line_of}
 use Rattle.fsa_model.specs.Spelled.{Spells, SpellsFields}
 use Rattle.script_read.proofs.SpellLemmas.{both, at_most, same-eq, unless, NoSpace, EndsWord, word_of-again, after_word-again, field_at-again, number_at-again, mask_at-again, mask_at-last}
@@ -42,7 +42,7 @@ NoSpace-name name fits =
 
 -- ---- requests
 
-request_of-again : (name : List ℕ) (number : ℕ) (what : What) → is_name name ≡ true → number ≤ most_id → is_built what ≡ true
+request_of-again : (name : List ℕ) (number : ℕ) (what : What) → is_name name ≡ true → number ≤ most_id → can_be_spelled what ≡ true
     → request_of (line_text (RequestLine name number what)) ≡ Ok (RequestLine name number what)
 unfolding request_of
 request_of-again name number what fits small built =
@@ -154,12 +154,12 @@ line_of-again (ClientLine name sids) fits =
     let inner = both (is_name name) (nat_le 1 (length sids)) middle.0 in
     client_at-again name sids inner.0 (at_most 1 (length sids) inner.1) (at_most (length sids) 16 middle.1) outer.1
 line_of-again (RequestLine name number what) fits =
-    let outer = both (is_name name && nat_le number most_id) (is_built what) fits in
+    let outer = both (is_name name && nat_le number most_id) (can_be_spelled what) fits in
     let inner = both (is_name name) (nat_le number most_id) outer.0 in
     line_of-request (line_text (RequestLine name number what)) (RequestLine name number what)
     (request_of-again name number what inner.0 (at_most number most_id inner.1) outer.1)
 
-request_of-spelled : (name : List ℕ) (number : ℕ) (what : What) (fields : List ℕ) → is_name name ≡ true → number ≤ most_id → is_built what ≡ true → SpellsFields what fields
+request_of-spelled : (name : List ℕ) (number : ℕ) (what : What) (fields : List ℕ) → is_name name ≡ true → number ≤ most_id → can_be_spelled what ≡ true → SpellsFields what fields
     → request_of (name ++ (number_text number ++ (32 ∷ (verb what ++ fields)))) ≡ Ok (RequestLine name number what)
 unfolding request_of
 request_of-spelled name number what fields fits small built spells =
@@ -183,7 +183,7 @@ line_of-spelled bytes PairTable fits is = rw is (line_of-again PairTable fits)
 line_of-spelled bytes (Pair source target) fits is = rw is (line_of-again (Pair source target) fits)
 line_of-spelled bytes (ClientLine name sids) fits is = rw is (line_of-again (ClientLine name sids) fits)
 line_of-spelled bytes (RequestLine name number what) fits spells =
-    let outer = both (is_name name && nat_le number most_id) (is_built what) fits in
+    let outer = both (is_name name && nat_le number most_id) (can_be_spelled what) fits in
     let inner = both (is_name name) (nat_le number most_id) outer.0 in
     rw spells.2
     (line_of-request (name ++ (number_text number ++ (32 ∷ (verb what ++ spells.0)))) (RequestLine name number what)

@@ -8,7 +8,7 @@ use Rattle.fsa_types.specs.declared.request.Request.TheVariants.{Create, Close, 
 use Rattle.fsa_model.specs.Words.{most_id}
 use Rattle.fsa_model.specs.Verbs.{verb}
 use Rattle.fsa_model.specs.Requests.{what_of}
-use Rattle.fsa_model.specs.Spelling.{fields_text, is_built}
+use Rattle.fsa_model.specs.Spelling.{fields_text, can_be_spelled}
 use Rattle.fsa_model.specs.Spelled.{SpellsFields}
 use Rattle.script_read.proofs.SpellLemmas.{at_most, NoSpace, EndsWord}
 use Rattle.script_read.proofs.OpenLineLemmas.{create_fields-again, create_fields-spelled, close_fields-again}
@@ -22,7 +22,7 @@ use Rattle.script_read.proofs.ControlLineLemmas.{set_reparse_fields-again, get_r
 use Rattle.script_read.proofs.ClockLineLemmas.{tick_fields-again}
 use Rattle.script_read.proofs.WaitLineLemmas.{cancel_fields-again, wait_fields-again}
 
-pub what_of-again : (what : What) → is_built what ≡ true → what_of (verb what) (fields_text what) ≡ Ok what
+pub what_of-again : (what : What) → can_be_spelled what ≡ true → what_of (verb what) (fields_text what) ≡ Ok what
 unfolding what_of
 what_of-again (Ask (Create path wanted share disposition options attributes key)) built = create_fields-again path wanted share disposition options attributes key built
 what_of-again (Ask (Close handle)) built = close_fields-again handle (at_most handle most_id built)
@@ -53,7 +53,7 @@ what_of-again (WaitFor number) built = wait_fields-again number (at_most number 
 what_of-again _ built = cc
 
 -- so it is with other bytes that write the fields
-pub what_of-spelled : (what : What) (fields : List ℕ) → SpellsFields what fields → is_built what ≡ true → what_of (verb what) fields ≡ Ok what
+pub what_of-spelled : (what : What) (fields : List ℕ) → SpellsFields what fields → can_be_spelled what ≡ true → what_of (verb what) fields ≡ Ok what
 unfolding what_of
 what_of-spelled (Ask (Create path wanted share disposition options attributes key)) fields spells built =
     rw spells.2 (create_fields-spelled path spells.0 wanted share disposition options attributes key spells.1 built)
@@ -84,7 +84,7 @@ what_of-spelled (Tick ticks) fields is built = rw is (tick_fields-again ticks (a
 what_of-spelled (WaitFor number) fields is built = rw is (wait_fields-again number (at_most number most_id built))
 what_of-spelled _ fields is built = cc
 
-pub NoSpace-verb : (what : What) → is_built what ≡ true → NoSpace (verb what)
+pub NoSpace-verb : (what : What) → can_be_spelled what ≡ true → NoSpace (verb what)
 NoSpace-verb (Ask (Create path wanted share disposition options attributes key)) built = (refl, (refl, (refl, (refl, (refl, (refl, tt))))))
 NoSpace-verb (Ask (Close handle)) built = (refl, (refl, (refl, (refl, (refl, tt)))))
 NoSpace-verb (Ask (Read handle place count)) built = (refl, (refl, (refl, (refl, tt))))
@@ -113,7 +113,7 @@ NoSpace-verb (WaitFor number) built = (refl, (refl, (refl, (refl, tt))))
 NoSpace-verb (Tick ticks) built = (refl, (refl, (refl, (refl, tt))))
 NoSpace-verb _ built = cc
 
-pub EndsWord-fields : (what : What) → is_built what ≡ true → EndsWord (fields_text what)
+pub EndsWord-fields : (what : What) → can_be_spelled what ≡ true → EndsWord (fields_text what)
 EndsWord-fields (Ask (Create path wanted share disposition options attributes key)) built = refl
 EndsWord-fields (Ask (Close handle)) built = refl
 EndsWord-fields (Ask (Read handle place count)) built = refl
@@ -142,7 +142,7 @@ EndsWord-fields (Tick ticks) built = refl
 EndsWord-fields (WaitFor number) built = refl
 EndsWord-fields _ built = tt
 
-pub EndsWord-spelled : (what : What) (fields : List ℕ) → SpellsFields what fields → is_built what ≡ true → EndsWord fields
+pub EndsWord-spelled : (what : What) (fields : List ℕ) → SpellsFields what fields → can_be_spelled what ≡ true → EndsWord fields
 EndsWord-spelled (Ask (Create path wanted share disposition options attributes key)) fields spells built = rw spells.2 refl
 EndsWord-spelled (Ask (Close handle)) fields is built = rw is refl
 EndsWord-spelled (Ask (Read handle place count)) fields is built = rw is refl

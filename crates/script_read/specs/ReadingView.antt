@@ -35,13 +35,13 @@ pub record TakesRoom (old new : ReadReading) : Type 0 where
   pub calls : length new.calls.items ≤ length old.calls.items + 1
 
 -- there is room for one client and one call
-pub record HasRoom (r : ReadReading) : Type 0 where
+pub record HasLineRoom (r : ReadReading) : Type 0 where
   pub clients : length r.clients.items < r.clients.room
   pub calls : length r.calls.items < r.calls.room
   pub small : r.clients.room < 2 ^ 32
 
 -- a line was taken as the definition takes it
-pub record Takes (old new : ReadReading) (result : Result (Unit {0}) LineFault) (defined : Result Reading Kind) : Type 0 where
+pub record TakesLine (old new : ReadReading) (result : Result (Unit {0}) LineFault) (defined : Result Reading Kind) : Type 0 where
   pub gives : ReadsAs (λ _. reading_of new) result defined
   pub kept : OnOk result (IsKept new)
   pub room : OnOk result (TakesRoom old new)

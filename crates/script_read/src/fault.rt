@@ -16,7 +16,7 @@ pub enum ScriptKind {
     Number,
 }
 
-/// The least faulty line of a script, and its first kind.
+/// The first faulty line of a script, and its first kind.
 #[derive(Clone, Copy, Debug, PartialEq, Eq)]
 pub struct ScriptFault {
     /// The line, counted from 1.

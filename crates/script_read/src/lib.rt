@@ -1,5 +1,5 @@
 //! Reads scripts: the case table and the clients that a volume begins with, and the calls that the
-//! clients make, a line each. A script is one or it is refused with its least faulty line.
+//! clients make, a line each. A script is one or it is refused with its first faulty line.
 //!
 //! ```text
 //! fsa 1
@@ -12,7 +12,7 @@
 //! ```
 //!
 //! `read_script(alloc, bytes)` gives the [`Script`] of such bytes: its `clients`, its `table` and
-//! its `lines`. Of bytes that are no script it answers [`ReadFault::Bad`] with the least faulty
+//! its `lines`. Of bytes that are no script it answers [`ReadFault::Bad`] with the first faulty
 //! line, counted from 1, and the first kind of its fault: `Cut`, `Syntax`, `Client`, `Number`.
 //! `fsa 1\nclient a 7\na 1 flush 01\n` is refused so at line 3, with `Syntax`.
 //!

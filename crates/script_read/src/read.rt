@@ -4,7 +4,7 @@ ghost use Rattle.std.specs.Prelude.{◌≡◌, ◌==◌, ◌+◌, ◌-◌, ◌^�
 ghost use Rattle.fsa_model.specs.Fault.{Kind};
 ghost use Rattle.fsa_model.specs.Script.{Reading as ReadingModel, nothing_read, line_after, end_after, lines_from, pieces, script_of};
 ghost use Rattle.script_read.specs.ReadsAs.{Fails, FailsScript};
-ghost use Rattle.script_read.specs.ReadingView.{reading_of, IsKept, HasRoom, Takes};
+ghost use Rattle.script_read.specs.ReadingView.{reading_of, IsKept, HasLineRoom, TakesLine};
 ghost use Rattle.script_read.specs.ScriptView.{GivesScript, GivesSpelled, FailsLine};
 
 use crate::fault::{LineFault, ReadFault, ScriptFault, ScriptKind};
@@ -64,8 +64,8 @@ impl Reading {
     #[tactic(auto, unfolding(fsa_model::specs::Script::line_after))]
     fn take_text(&mut self, alloc: Global, text: &[u8]) -> Result<(), LineFault>
         requires kept { IsKept self.old }
-        requires room { HasRoom self.old }
-        ensures { Takes self.old self.new result (line_after (reading_of self.old) text.now) }
+        requires room { HasLineRoom self.old }
+        ensures { TakesLine self.old self.new result (line_after (reading_of self.old) text.now) }
     {
         let line = line_of(alloc, text)?;
         self.take_line(alloc, line)
@@ -135,7 +135,7 @@ fn read_lines(alloc: Global, lines: u32, bytes: &[u8]) -> Result<Script, ReadFau
 
 /// Reads a script: all of the bytes, which no line may follow.
 ///
-/// `Bad` names the least faulty line and its first kind; `NoMemory` comes where there is no memory
+/// `Bad` names the first faulty line and its first kind; `NoMemory` comes where there is no memory
 /// for what the script says, or where it has 2 ^ 32 - 1 bytes or more. It takes time linear in the
 /// bytes.
 #[tactic(auto, unfolding(fsa_model::specs::Script::script_of))]

@@ -4,7 +4,7 @@ ghost use Rattle.std.specs.Prelude.{◌≡◌, ◌<◌, ◌≤◌, [], IfOk, Som
 ghost use Rattle.fsa_model.specs.Script.{nothing_read, take_line, take_client, take_call, take_request};
 ghost use Rattle.fsa_model.specs.Lines.{Version, DefaultTable, PairTable, Pair};
 ghost use Rattle.script_read.specs.LineView.{line_view};
-ghost use Rattle.script_read.specs.ReadingView.{reading_of, IsKept, HasRoom, Takes};
+ghost use Rattle.script_read.specs.ReadingView.{reading_of, IsKept, HasLineRoom, TakesLine};
 
 use crate::fault::{LineFault, SYNTAX, ScriptKind};
 use crate::line::Line;
@@ -38,7 +38,7 @@ impl Reading {
     #[tactic(auto, unfolding(fsa_model::specs::Script::take_line))]
     fn take_version(&mut self) -> Result<(), LineFault>
         requires { IsKept self.old }
-        ensures { Takes self.old self.new result (take_line (reading_of self.old) Version) }
+        ensures { TakesLine self.old self.new result (take_line (reading_of self.old) Version) }
     {
         if !self.stage.takes_version() {
             return Err(SYNTAX);
@@ -51,7 +51,7 @@ impl Reading {
     #[tactic(auto, unfolding(fsa_model::specs::Script::take_line))]
     fn take_default_table(&mut self) -> Result<(), LineFault>
         requires { IsKept self.old }
-        ensures { Takes self.old self.new result (take_line (reading_of self.old) DefaultTable) }
+        ensures { TakesLine self.old self.new result (take_line (reading_of self.old) DefaultTable) }
     {
         if !self.stage.takes_table() {
             return Err(SYNTAX);
@@ -65,7 +65,7 @@ impl Reading {
     #[tactic(auto, unfolding(fsa_model::specs::Script::take_line))]
     fn take_pair_table(&mut self, alloc: Global) -> Result<(), LineFault>
         requires { IsKept self.old }
-        ensures { Takes self.old self.new result (take_line (reading_of self.old) PairTable) }
+        ensures { TakesLine self.old self.new result (take_line (reading_of self.old) PairTable) }
     {
         if !self.stage.takes_table() {
             return Err(SYNTAX);
@@ -80,7 +80,7 @@ impl Reading {
     #[tactic(auto, unfolding(fsa_model::specs::Script::take_line))]
     fn take_pair(&mut self, source: u32, target: u32) -> Result<(), LineFault>
         requires { IsKept self.old }
-        ensures { Takes self.old self.new result (take_line (reading_of self.old) (Pair source target)) }
+        ensures { TakesLine self.old self.new result (take_line (reading_of self.old) (Pair source target)) }
     {
         if !self.stage.takes_pairs() || source > 65_535 || target > 65_535 {
             return Err(SYNTAX);
@@ -97,8 +97,8 @@ impl Reading {
     #[tactic(auto, unfolding(fsa_model::specs::Script::take_client))]
     fn take_client(&mut self, alloc: Global, name: &[u8], sids: SidList) -> Result<(), LineFault>
         requires kept { IsKept self.old }
-        requires room { HasRoom self.old }
-        ensures { Takes self.old self.new result (take_client (reading_of self.old) name.now sids.items) }
+        requires room { HasLineRoom self.old }
+        ensures { TakesLine self.old self.new result (take_client (reading_of self.old) name.now sids.items) }
     {
         if !self.stage.takes_clients() {
             return Err(SYNTAX);
@@ -118,9 +118,9 @@ impl Reading {
     #[tactic(auto, unfolding(fsa_model::specs::Script::take_call))]
     fn take_call(&mut self, place: usize, number: u32, what: What) -> Result<(), LineFault>
         requires kept { IsKept self.old }
-        requires room { HasRoom self.old }
+        requires room { HasLineRoom self.old }
         requires place { place < length self.old.clients.items }
-        ensures { Takes self.old self.new result (take_call (reading_of self.old) place number what) }
+        ensures { TakesLine self.old self.new result (take_call (reading_of self.old) place number what) }
     {
         if number == 0 || number - 1 != self.last_numbers[place] {
             return Err(LineFault::Bad(ScriptKind::Number));
@@ -140,8 +140,8 @@ impl Reading {
     #[tactic(auto, unfolding(fsa_model::specs::Script::take_request))]
     fn take_request(&mut self, name: &[u8], number: u32, what: What) -> Result<(), LineFault>
         requires kept { IsKept self.old }
-        requires room { HasRoom self.old }
-        ensures { Takes self.old self.new result (take_request (reading_of self.old) name.now number what) }
+        requires room { HasLineRoom self.old }
+        ensures { TakesLine self.old self.new result (take_request (reading_of self.old) name.now number what) }
     {
         if !self.stage.takes_requests() {
             return Err(SYNTAX);
@@ -156,8 +156,8 @@ impl Reading {
     #[tactic(auto, unfolding(fsa_model::specs::Script::take_line))]
     pub fn take_line(&mut self, alloc: Global, line: Line<'_>) -> Result<(), LineFault>
         requires kept { IsKept self.old }
-        requires room { HasRoom self.old }
-        ensures { Takes self.old self.new result (take_line (reading_of self.old) (line_view line.entry)) }
+        requires room { HasLineRoom self.old }
+        ensures { TakesLine self.old self.new result (take_line (reading_of self.old) (line_view line.entry)) }
     {
         match line {
             Line::Version => self.take_version(),

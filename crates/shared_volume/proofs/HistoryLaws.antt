@@ -17,9 +17,9 @@ use Rattle.fsa_model.specs.Setup.{Setup}
 use Rattle.fsa_model.proofs.CountLaws.{how_many-append, how_many-none}
 use Rattle.fsa_model.proofs.ScheduleLaws.{calls_of-push}
 use Rattle.fsa_machine.specs.Serves.{most_entries}
-use Rattle.fsa_machine.specs.Stands.{CallsNumbered, GaveOut, Seen, calls_in, is_full}
+use Rattle.fsa_machine.specs.MachineView.{CallsNumbered, GaveOut, MachineView, calls_in, is_full}
 use Rattle.history_lock.specs.History.{calls_by}
-use Rattle.shared_volume.specs.Histories.{IsHistory}
+use Rattle.shared_volume.specs.Histories.{IsMachineHistory}
 
 -- how many calls of the client there are
 pub length-mine : (client : ℕ) (entries : List HistoryEntry) → length (calls_by (λ (e : HistoryEntry). e.call) (λ (c : Call). c.client) client entries) ≡ calls_of client (calls_in entries)
@@ -87,8 +87,8 @@ next-numbered entries entry numbered next client number =
     ])
 
 -- a history with one turn more is one
-pub history-grows : (setup : Setup) (entries longer : List HistoryEntry) (entry : HistoryEntry) (out : TurnOut) → IsHistory setup entries → longer ≡ entries ++ entry ∷ []
-    → entry.call.number ≡ calls_of entry.call.client (calls_in entries) + 1 → GaveOut setup longer out → length entries ≢ most_entries → IsHistory setup longer
+pub history-grows : (setup : Setup) (entries longer : List HistoryEntry) (entry : HistoryEntry) (out : TurnOut) → IsMachineHistory setup entries → longer ≡ entries ++ entry ∷ []
+    → entry.call.number ≡ calls_of entry.call.client (calls_in entries) + 1 → GaveOut setup longer out → length entries ≢ most_entries → IsMachineHistory setup longer
 history-grows setup entries longer entry out history is next gave room = record {
   runs = subst (λ (o : Option Run). IsSome o) (sym gave.runs) refl;
   numbered = subst CallsNumbered (sym is) (next-numbered entries entry history.numbered next);
@@ -99,18 +99,18 @@ history-grows setup entries longer entry out history is next gave room = record 
     below few room size = omega arith
 
 -- and so is what a turn leaves that was made, since it wasn't refused for a full history
-pub history-made : (setup same : Setup) (entries longer : List HistoryEntry) (entry : HistoryEntry) (out : TurnOut) → IsHistory setup entries → same ≡ setup → longer ≡ entries ++ entry ∷ []
-    → entry.call.number ≡ calls_of entry.call.client (calls_in entries) + 1 → GaveOut same longer out → false ≡ (length entries == most_entries) → IsHistory same longer
+pub history-made : (setup same : Setup) (entries longer : List HistoryEntry) (entry : HistoryEntry) (out : TurnOut) → IsMachineHistory setup entries → same ≡ setup → longer ≡ entries ++ entry ∷ []
+    → entry.call.number ≡ calls_of entry.call.client (calls_in entries) + 1 → GaveOut same longer out → false ≡ (length entries == most_entries) → IsMachineHistory same longer
 history-made setup same entries longer entry out history is grown next gave room =
-    subst (λ (s : Setup). IsHistory s longer) (sym is) (history-grows setup entries longer entry out history grown next (subst (λ (s : Setup). GaveOut s longer out) is gave) (not_full room))
+    subst (λ (s : Setup). IsMachineHistory s longer) (sym is) (history-grows setup entries longer entry out history grown next (subst (λ (s : Setup). GaveOut s longer out) is gave) (not_full room))
   where
     not_full : false ≡ (length entries == most_entries) → length entries ≢ most_entries
     not_full room full = absurd (let f : false ≡ true = room ∙ eq-eqb (length entries) most_entries full in cc)
 
 -- so a machine whose entries are a history has one after a call of a turn, whatever that answers
-pub turn-history : (old new : Seen) (call : Call) (result : Result Out (Call × Why)) → IsHistory old.setup old.entries → call.number ≡ calls_of call.client (calls_in old.entries) + 1 → new.setup ≡ old.setup
+pub turn-history : (old new : MachineView) (call : Call) (result : Result Out (Call × Why)) → IsMachineHistory old.setup old.entries → call.number ≡ calls_of call.client (calls_in old.entries) + 1 → new.setup ≡ old.setup
     → IfOk result (λ out. new.entries ≡ old.entries ++ record { call = call; starved = out.starved.items } ∷ []) → IfOk result (λ out. GaveOut new.setup new.entries (out_of out))
-    → is_full result ≡ (length old.entries == most_entries) → IfErr result (λ back. (new ≡ old) × (back.0 ≡ call)) → IsHistory new.setup new.entries
+    → is_full result ≡ (length old.entries == most_entries) → IfErr result (λ back. (new ≡ old) × (back.0 ≡ call)) → IsMachineHistory new.setup new.entries
 turn-history old new call (Ok out) history next same grown gave room kept =
     history-made old.setup new.setup old.entries new.entries (record { call = call; starved = out.starved.items }) (out_of out) history same grown next gave room
-turn-history old new call (Err back) history next same grown gave room kept = subst (λ (s : Seen). IsHistory s.setup s.entries) (sym kept.0) history
+turn-history old new call (Err back) history next same grown gave room kept = subst (λ (s : MachineView). IsMachineHistory s.setup s.entries) (sym kept.0) history

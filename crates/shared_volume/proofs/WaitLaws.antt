@@ -20,12 +20,12 @@ use Rattle.fsa_model.specs.Waiting.{is_wait}
 use Rattle.fsa_model.proofs.CountLaws.{and_left, and_right}
 use Rattle.fsa_model.proofs.RowLaws.{any-weaker, find-any, option_cases}
 use Rattle.fsa_model.proofs.WaitLaws.{find-passes}
-use Rattle.fsa_machine.specs.Stands.{CallsNumbered, calls_in, ended_with_list, holds_list, reply_in}
+use Rattle.fsa_machine.specs.MachineView.{CallsNumbered, calls_in, ended_with_list, holds_list, reply_in}
 use Rattle.history_laws.specs.CallAnswers.{HasEnded}
 use Rattle.history_laws.specs.WaitEnds.{cancels_in, ends_otherwise, is_nothing, is_wait_end, leaves_in, wait_may_end}
 use Rattle.history_laws.proofs.WaitRuns.{waits-end}
 use Rattle.history_lock.specs.History.{calls_by}
-use Rattle.shared_volume.specs.Histories.{IsHistory}
+use Rattle.shared_volume.specs.Histories.{IsMachineHistory}
 use Rattle.shared_volume.proofs.HistoryLaws.{numbered-differ}
 use Rattle.shared_volume.specs.Shared.{EndedWithList, EndsInWait, IsStatusOfWait, Known, OnlySees, call_of, client_of, has_leaving}
 
@@ -94,7 +94,7 @@ leaving-push (one ∷ calls) call stays = ap (λ (b : Bool). is_leave one.what |
 -- ---- how it ends
 
 -- what is known of a wait that is its client's last call: it has ended in no other way
-pub waits-so : (setup : Setup) (seen : List HistoryEntry) (mine : List Call) (client number : ℕ) (r : Run) → IsHistory setup seen → mine ≡ mine_in client seen → EndsInWait mine client number → run setup seen ≡ Some r
+pub waits-so : (setup : Setup) (seen : List HistoryEntry) (mine : List Call) (client number : ℕ) (r : Run) → IsMachineHistory setup seen → mine ≡ mine_in client seen → EndsInWait mine client number → run setup seen ≡ Some r
     → ends_otherwise (is_wait_end (has_leaving mine) false) client number r.volume ≡ false
 waits-so setup seen mine client number r history own last runs =
     let call : Call = record { client = client; number = number; what = WaitFor last.earlier } in
@@ -106,13 +106,13 @@ waits-so setup seen mine client number r history own last runs =
     let law_here : ends_otherwise (is_wait_end (leaves_in client at.front) (cancels_in client number at.later)) client number r.volume ≡ false = rw (by, no) at law in
     rw (left, no_cancel_by client number at.later at.none) at law_here
 
-some_run : (setup : Setup) (seen : List HistoryEntry) → IsHistory setup seen → (r : Run) × (run setup seen ≡ Some r)
+some_run : (setup : Setup) (seen : List HistoryEntry) → IsMachineHistory setup seen → (r : Run) × (run setup seen ≡ Some r)
 some_run setup seen history = elim (option_cases (run setup seen)) [
   | inl none ↦ absurd (let never : IsSome {T = Run} None = subst (λ (o : Option Run). IsSome o) none history.runs in cc)
   | inr some ↦ some
 ]
 
-pub status-of_wait : (setup : Setup) (seen : List HistoryEntry) (mine : List Call) (client number : ℕ) (reply : Reply) → IsHistory setup seen → mine ≡ mine_in client seen → EndsInWait mine client number → HasEnded setup seen client number reply
+pub status-of_wait : (setup : Setup) (seen : List HistoryEntry) (mine : List Call) (client number : ℕ) (reply : Reply) → IsMachineHistory setup seen → mine ≡ mine_in client seen → EndsInWait mine client number → HasEnded setup seen client number reply
     → IsStatusOfWait mine reply.status
 status-of_wait setup seen mine client number reply history own last ended =
     let r = some_run setup seen history in
@@ -130,7 +130,7 @@ status-of_wait setup seen mine client number reply history own last ended =
           ])
     ]
 
-pub no-list_of_wait : (setup : Setup) (seen : List HistoryEntry) (mine : List Call) (client number : ℕ) → IsHistory setup seen → mine ≡ mine_in client seen → EndsInWait mine client number → EndedWithList setup seen client number → ⊥
+pub no-list_of_wait : (setup : Setup) (seen : List HistoryEntry) (mine : List Call) (client number : ℕ) → IsMachineHistory setup seen → mine ≡ mine_in client seen → EndsInWait mine client number → EndedWithList setup seen client number → ⊥
 no-list_of_wait setup seen mine client number history own last list =
     let r = some_run setup seen history in
     let law = waits-so setup seen mine client number r.0 history own last r.1 in
@@ -156,13 +156,13 @@ later-wait v w number sees last =
     let mine : w.own.mine ≡ v.own.mine = ap (λ (z : Known). z.own.mine) sees.view in
     record { before = last.before; earlier = last.earlier; is = rw (client, mine) last.is }
 
-pub status-later : (setup : Setup) (v w : Known) (number : ℕ) (reply : Reply) → OnlySees v w → IsHistory setup w.own.seen → w.own.mine ≡ mine_in w.own.client w.own.seen → EndsInWait v.own.mine v.own.client number
+pub status-later : (setup : Setup) (v w : Known) (number : ℕ) (reply : Reply) → OnlySees v w → IsMachineHistory setup w.own.seen → w.own.mine ≡ mine_in w.own.client w.own.seen → EndsInWait v.own.mine v.own.client number
     → HasEnded setup w.own.seen w.own.client number reply → IsStatusOfWait v.own.mine reply.status
 status-later setup v w number reply sees history own last ended =
     let mine : w.own.mine ≡ v.own.mine = ap (λ (z : Known). z.own.mine) sees.view in
     let few : IsStatusOfWait w.own.mine reply.status = status-of_wait setup w.own.seen w.own.mine w.own.client number reply history own (later-wait v w number sees last) ended in
     subst (λ (calls : List Call). IsStatusOfWait calls reply.status) mine few
 
-pub no-list-later : (setup : Setup) (v w : Known) (number : ℕ) → OnlySees v w → IsHistory setup w.own.seen → w.own.mine ≡ mine_in w.own.client w.own.seen → EndsInWait v.own.mine v.own.client number
+pub no-list-later : (setup : Setup) (v w : Known) (number : ℕ) → OnlySees v w → IsMachineHistory setup w.own.seen → w.own.mine ≡ mine_in w.own.client w.own.seen → EndsInWait v.own.mine v.own.client number
     → EndedWithList setup w.own.seen w.own.client number → ⊥
 no-list-later setup v w number sees history own last list = no-list_of_wait setup w.own.seen w.own.mine w.own.client number history own (later-wait v w number sees last) list

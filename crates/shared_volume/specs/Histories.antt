@@ -12,10 +12,10 @@ use Rattle.fsa_model.specs.LineCalls.{IsLineCall}
 use Rattle.fsa_model.specs.Setup.{Setup}
 use Rattle.fsa_model.specs.Waiting.{is_pending}
 use Rattle.fsa_machine.specs.Serves.{most_entries}
-use Rattle.fsa_machine.specs.Stands.{CallsNumbered, ended_with_list, reply_in}
+use Rattle.fsa_machine.specs.MachineView.{CallsNumbered, ended_with_list, reply_in}
 
 -- the turns of these entries can be made, the calls of each client are numbered from 1, each once, and there are no more than 1,000,000
-pub record IsHistory (setup : Setup) (entries : List HistoryEntry) : Type 0 where
+pub record IsMachineHistory (setup : Setup) (entries : List HistoryEntry) : Type 0 where
   pub runs : IsSome (run setup entries)
   pub numbered : CallsNumbered entries
   pub few : length entries ≤ most_entries

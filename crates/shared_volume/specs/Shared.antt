@@ -16,7 +16,7 @@ use Rattle.fsa_model.specs.Outcome.{TurnOut}
 use Rattle.fsa_model.specs.Setup.{Setup}
 use Rattle.history_laws.specs.CallAnswers.{HasEnded}
 use Rattle.history_laws.specs.WaitEnds.{wait_may_end}
-use Rattle.fsa_machine.specs.Stands.{GaveOut, ended_with_list}
+use Rattle.fsa_machine.specs.MachineView.{GaveOut, ended_with_list}
 use Rattle.history_lock.specs.declared.machine.Machine.{Ghosts}
 use Rattle.history_lock.specs.declared.pass.Pass.{Pass}
 use Rattle.history_lock.specs.declared.view.View.{View}
@@ -26,7 +26,7 @@ use Rattle.history_lock.specs.Passes.{Makes}
 use Rattle.shared_volume.specs.declared.engine.Engine.{Engine}
 use Rattle.shared_volume.specs.declared.shared.SharedVolume.{SharedVolume}
 use Rattle.shared_volume.specs.Engines.{setup_in_engine}
-use Rattle.shared_volume.specs.Histories.{IsHistory}
+use Rattle.shared_volume.specs.Histories.{IsMachineHistory}
 
 -- the setup with which the volume was made
 abbrev pub setup_at : SharedVolume → Setup
@@ -38,7 +38,7 @@ Known = View Setup HistoryEntry Call
 
 -- it is a pass of this volume, for one of its clients, and has seen a history
 abbrev pub IsPass : {machine : Ghosts Engine Setup HistoryEntry Call Out Why CallId (Option Reply)} → SharedVolume → Pass Engine Setup HistoryEntry Call Out Why CallId (Option Reply) machine → Type 0
-IsPass volume pass = IsPassOf setup_in_engine IsHistory volume.lock pass
+IsPass volume pass = IsPassOf setup_in_engine IsMachineHistory volume.lock pass
 
 abbrev pub call_of : HistoryEntry → Call
 call_of entry = entry.call
@@ -47,7 +47,7 @@ abbrev pub client_of : Call → ℕ
 client_of call = call.client
 
 -- the turn that the last entry stands for answered its own call so
-pub record Answers (setup : Setup) (seen : List HistoryEntry) (answer : Answer) : Type 0 where
+pub record LastTurnAnswered (setup : Setup) (seen : List HistoryEntry) (answer : Answer) : Type 0 where
   pub out : TurnOut
   pub gave : GaveOut setup seen out
   pub is : out.answer ≡ answer
@@ -56,7 +56,7 @@ pub record Answers (setup : Setup) (seen : List HistoryEntry) (answer : Answer) 
 pub record Submits (setup : Setup) (what : What) (number : ℕ) (answer : Answer) (v w : Known) : Type 0 where
   pub makes : Makes call_of (record { client = v.own.client; number = number; what = what }) v w
   pub count : number ≡ length w.own.mine
-  pub answers : Answers setup w.own.seen answer
+  pub answers : LastTurnAnswered setup w.own.seen answer
 
 -- the client's call of this number has ended in this history with a body that holds a list
 abbrev pub EndedWithList : Setup → List HistoryEntry → ℕ → ℕ → Type 0

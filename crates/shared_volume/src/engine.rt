@@ -1,6 +1,6 @@
 //! The volume's machine as one of which many threads make turns.
 
-ghost use Rattle.shared_volume.specs.Histories.{IsHistory};
+ghost use Rattle.shared_volume.specs.Histories.{IsMachineHistory};
 
 use crate::views::{EntryView, SetupView};
 use fsa_machine::VolumeMachine;
@@ -13,13 +13,13 @@ use std::alloc::Global;
 pub struct Engine {
     /// The machine.
     pub machine: VolumeMachine,
-    pub ghost history: { IsHistory machine.setup machine.entries },
+    pub ghost history: { IsMachineHistory machine.setup machine.entries },
 }
 
 impl Machine for Engine {
     ghost use Rattle.shared_volume.specs.Histories.{AllowsAsk, AllowsCall, MayRefuse, TakesMemory, Shows};
     ghost use Rattle.shared_volume.specs.Later.{asked_later};
-    ghost use Rattle.fsa_machine.specs.Stands.{GaveOut};
+    ghost use Rattle.fsa_machine.specs.MachineView.{GaveOut};
     ghost use Rattle.fsa_model.specs.Outcome.{out_of};
 
     type Base = SetupView;
@@ -40,7 +40,7 @@ impl Machine for Engine {
 
     ghost list = { λ engine. engine.machine.entries };
 
-    ghost stands = { IsHistory };
+    ghost stands = { IsMachineHistory };
 
     ghost call_of = { λ entry. entry.call };
 

@@ -8,7 +8,7 @@ ghost use Rattle.history_lock.specs.Lock.{known};
 ghost use Rattle.history_lock.specs.Passes.{Refreshed, Waited};
 ghost use Rattle.history_lock.specs.Turns.{Sees, beaten};
 ghost use Rattle.history_laws.specs.CallAnswers.{CanAsk, HasEnded, IfBusy, IfDid, IfDone, IfRefused, OnBusy, OnNoMemory, OnPending, Pends};
-ghost use Rattle.shared_volume.specs.Histories.{IsHistory, MayRefuse};
+ghost use Rattle.shared_volume.specs.Histories.{IsMachineHistory, MayRefuse};
 ghost use Rattle.shared_volume.specs.Shared.{EndedWithList, EndsInWait, IsPass, IsStatusOfWait, OnlySees, Submits, WaitsFor, call_of, client_of, setup_at};
 
 use crate::engine::Engine;
@@ -214,7 +214,7 @@ impl SharedVolume {
         requires one_each { vec_len passes ≡ length (setup_at self).clients }
         requires passes { (i : ℕ) (p : _) → slice_get passes.items i ≡ Some p → IsPass self p × ((known p).own.client ≡ i) }
         ensures setup { result.setup ≡ setup_at self }
-        ensures history { IsHistory result.setup result.entries }
+        ensures history { IsMachineHistory result.setup result.entries }
         ensures each { (i : ℕ) (p : _) → slice_get passes.items i ≡ Some p → Sees call_of client_of result.entries (known p).own }
         ensures no_others { All (λ entry. entry.call.client < length (setup_at self).clients) result.entries }
         ensures caching_is_coherent { CachingIsCoherent result.setup result.entries }

@@ -9,7 +9,7 @@ use Rattle.std.proofs.lemmas.List.{get_or-take, get_or-drop, get_or_append_left,
 use Rattle.std.proofs.lemmas.Nat.{div-add-mod', mod_below}
 use Rattle.fsa_types.proofs.RowLemmas.{AreRising, row_of-at}
 use Rattle.fsa_types.specs.Rows.{row_of}
-use Rattle.stream_pages.specs.Pages.{IsAtPlace, StandsAt, IsThere, KeepsPages, byte_at, is_within, over, below}
+use Rattle.stream_pages.specs.Pages.{IsAtPlace, StandsAt, HasPage, KeepsPages, byte_at, is_within, over, below}
 use Rattle.stream_pages.proofs.PageLaws.{Rows, row_of-set_own, row_of-set_other, row_of-insert_own, row_of-insert_other, row_of-missing}
 
 -- ---- tests of a place
@@ -70,7 +70,7 @@ module _ (page : List ℕ) (blank : (k : ℕ) → get_or page k 0 ≡ 0) (xs : R
     | inr apart ↦ rw (row_of-insert_other xs number i page other stands (ne_eqb other number apart)) there
   ]
 
-  pub there-insert : IsThere (insert xs i (number, page)) number
+  pub there-insert : HasPage (insert xs i (number, page)) number
   there-insert = rw (row_of-insert_own xs number i page stands) refl
 
   -- .. or not, where there was no memory
@@ -202,7 +202,7 @@ byte_at-dropped old new number rows place =
           rw (here, rows (place / 4096), high) refl)
     ]
 
-pub keeps-dropped : (old new : Rows) (number : ℕ) → ((other : ℕ) → row_of new other ≡ (if nat_lt other number then row_of old other else None)) → (other : ℕ) → other < number → IsThere old other → IsThere new other
+pub keeps-dropped : (old new : Rows) (number : ℕ) → ((other : ℕ) → row_of new other ≡ (if nat_lt other number then row_of old other else None)) → (other : ℕ) → other < number → HasPage old other → HasPage new other
 keeps-dropped old new number rows other less there = let low : nat_lt other number ≡ true = lt-ltb other number less in rw (rows other, low) there
 
 -- zeros to the end of a page, and no page behind it
@@ -228,5 +228,5 @@ below-cleared byte number at place within = go (lies (number * 4096 + at) (4096 
 
 -- ---- what a place tells
 
-pub there-at : (xs : Rows) (number i : ℕ) → AreRising xs → IsAtPlace xs number i → IsThere xs number
+pub there-at : (xs : Rows) (number i : ℕ) → AreRising xs → IsAtPlace xs number i → HasPage xs number
 there-at xs number i rising at = rw (row_of-at xs i (number, []) number rising at.within (at.here (number, []))) refl

@@ -26,16 +26,16 @@ abbrev pub below : (ℕ → ℕ) → ℕ → ℕ → ℕ
 below byte end place = if nat_lt place end then byte place else 0
 
 -- the page of this number is there
-abbrev pub IsThere : List (ℕ × List ℕ) → ℕ → Type 0
-IsThere pages number = IsSome (row_of pages number)
+abbrev pub HasPage : List (ℕ × List ℕ) → ℕ → Type 0
+HasPage pages number = IsSome (row_of pages number)
 
 -- each page that has a byte from `from` up to `to` is there
-abbrev pub AreThere : List (ℕ × List ℕ) → ℕ → ℕ → Type 0
-AreThere pages from to = (number : ℕ) → from < to → number * 4096 < to → from < number * 4096 + 4096 → IsThere pages number
+abbrev pub HasPages : List (ℕ × List ℕ) → ℕ → ℕ → Type 0
+HasPages pages from to = (number : ℕ) → from < to → number * 4096 < to → from < number * 4096 + 4096 → HasPage pages number
 
 -- no page went
 abbrev pub KeepsPages : List (ℕ × List ℕ) → List (ℕ × List ℕ) → Type 0
-KeepsPages old new = (number : ℕ) → IsThere old number → IsThere new number
+KeepsPages old new = (number : ℕ) → HasPage old number → HasPage new number
 
 -- the page of this number is at this place among the pages
 pub record IsAtPlace (pages : List (ℕ × List ℕ)) (number place : ℕ) : Type 0 where

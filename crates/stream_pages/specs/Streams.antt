@@ -1,6 +1,6 @@
 -- A stream of bytes over pages, beside the room for which memory was taken, and its parts.
 use Rattle.std.specs.Prelude.{◌≡◌, ℕ, ◌+◌, ◌-◌, ◌%◌, ◌≤◌, ◌^◌, zero, suc, nat_lt, List, [], ◌∷◌, min, if◌then◌else◌}
-use Rattle.stream_pages.specs.Pages.{byte_at, bytes_from, AreThere}
+use Rattle.stream_pages.specs.Pages.{byte_at, bytes_from, HasPages}
 
 -- what lies from `from` up to `to`, in bytes, can be written without taking memory
 pub record Reserved : Type 0 where
@@ -8,7 +8,7 @@ pub record Reserved : Type 0 where
   pub to : ℕ
 
 -- the bytes, beside that room
-pub record Kept : Type 0 where
+pub record StreamView : Type 0 where
   pub bytes : List ℕ
   pub room : Reserved
 
@@ -18,10 +18,10 @@ IsReserved room at count = (room.from ≤ at) × (at + count ≤ room.to)
 
 -- behind the last byte there are only zeros; there are at most 2^26 bytes; and the pages of the
 -- room are there
-pub record IsSound (pages : List (ℕ × List ℕ)) (len from to : ℕ) : Type 0 where
+pub record AreSoundPages (pages : List (ℕ × List ℕ)) (len from to : ℕ) : Type 0 where
   pub blank : (at : ℕ) → len ≤ at → byte_at pages at ≡ 0
   pub fits : len ≤ 2 ^ 26
-  pub there : AreThere pages from to
+  pub there : HasPages pages from to
 
 -- how many bytes up to `end` the page of this place has from there on
 abbrev pub part_len : ℕ → ℕ → ℕ

@@ -2,7 +2,7 @@
 
 ghost use Rattle.std.specs.Prelude.{ℕ, AllPairs, ◌≡◌, ◌≤◌, ◌<◌, ◌+◌, ◌-◌, ◌*◌, ◌^◌, [], None, replicate, IfOk, IfErr, IfSome, OnOk, length, option_map, if◌then◌else◌, nat_lt};
 ghost use Rattle.fsa_types.specs.Rows.{row_of};
-ghost use Rattle.stream_pages.specs.Pages.{IsAtPlace, IsThere, KeepsPages, Splits, StandsAt, below, byte_at, over};
+ghost use Rattle.stream_pages.specs.Pages.{IsAtPlace, HasPage, KeepsPages, Splits, StandsAt, below, byte_at, over};
 
 use crate::page::{PAGE, Page, zeros};
 use fsa_types::NoMemory;
@@ -50,7 +50,7 @@ impl Pages {
     /// Adds the page of this number, of zeros, where it isn't there. `NoMemory` changes nothing.
     pub(crate) fn add(&mut self, number: u64) -> Result<(), NoMemory>
         ensures bytes { (at : ℕ) → byte_at self.new at ≡ byte_at self.old at }
-        ensures there { OnOk result (IsThere self.new number) }
+        ensures there { OnOk result (HasPage self.new number) }
         ensures kept { KeepsPages self.old self.new }
     {
         match place_of(&self.pages, number) {
@@ -63,7 +63,7 @@ impl Pages {
     fn insert(&mut self, number: u64, place: usize) -> Result<(), NoMemory>
         requires { StandsAt self.old number place }
         ensures bytes { (at : ℕ) → byte_at self.new at ≡ byte_at self.old at }
-        ensures there { OnOk result (IsThere self.new number) }
+        ensures there { OnOk result (HasPage self.new number) }
         ensures kept { KeepsPages self.old self.new }
     {
         let page = Page::blank(*self.pages.allocator())?;
@@ -75,7 +75,7 @@ impl Pages {
 
     /// Puts a piece over a page that is there, from this place in it on.
     pub(crate) fn put(&mut self, number: u64, at: usize, piece: &[u8])
-        requires there { IsThere self.old number }
+        requires there { HasPage self.old number }
         requires within { at + length piece.now ≤ 4096 }
         ensures bytes { (place : ℕ) → byte_at self.new place ≡ over (byte_at self.old) (number * 4096 + at) piece.now place }
         ensures kept { KeepsPages self.old self.new }
@@ -102,7 +102,7 @@ impl Pages {
     pub(crate) fn cut(&mut self, end: u64)
         requires { end ≤ 2 ^ 26 }
         ensures bytes { (place : ℕ) → byte_at self.new place ≡ below (byte_at self.old) end place }
-        ensures kept { (number : ℕ) → number * 4096 < end → IsThere self.old number → IsThere self.new number }
+        ensures kept { (number : ℕ) → number * 4096 < end → HasPage self.old number → HasPage self.new number }
     {
         let number = end / PAGE as u64;
         let at = (end % PAGE as u64) as usize;

@@ -3,7 +3,7 @@
 ghost use Rattle.std.specs.Prelude.{ℕ, ◌≡◌, ◌≤◌, ◌<◌, ◌+◌, ◌-◌, ◌*◌, ◌^◌, ◌==◌, [], length, take, min, ◌↔◌, IsTrue, IsOk, OnOk, OnErr};
 ghost use Rattle.std.specs.List.{concat};
 ghost use Rattle.fsa_types.specs.StreamBytes.{cut, put, slice};
-ghost use Rattle.stream_pages.specs.Pages.{AreThere, KeepsPages, IsThere, byte_at, over};
+ghost use Rattle.stream_pages.specs.Pages.{HasPages, KeepsPages, HasPage, byte_at, over};
 ghost use Rattle.stream_pages.specs.Streams.{IsReserved};
 
 use crate::page::PAGE;
@@ -27,13 +27,13 @@ pub struct Stream {
 
 impl Model for Stream {
     ghost use Rattle.stream_pages.specs.Pages.{byte_at, bytes_from};
-    ghost use Rattle.stream_pages.specs.Streams.{IsSound, Kept};
+    ghost use Rattle.stream_pages.specs.Streams.{AreSoundPages, StreamView};
 
-    ghost Value = { Kept };
+    ghost Value = { StreamView };
 
     ghost view = { λ s. record { bytes = bytes_from (byte_at s.pages) 0 s.len; room = record { from = s.from; to = s.to } } };
 
-    ghost invariant = { λ s. IsSound s.pages s.len s.from s.to };
+    ghost invariant = { λ s. AreSoundPages s.pages s.len s.from s.to };
 }
 
 impl Stream {
@@ -155,7 +155,7 @@ impl Stream {
 fn add_for(pages: &mut Pages, at: u64, count: u64) -> Result<(), NoMemory>
     requires { at + count ≤ 2 ^ 26 }
     ensures bytes { (place : ℕ) → byte_at pages.new place ≡ byte_at pages.old place }
-    ensures there { OnOk result (AreThere pages.new at (at + count)) }
+    ensures there { OnOk result (HasPages pages.new at (at + count)) }
     ensures kept { KeepsPages pages.old pages.new }
 {
     if count == 0 {
@@ -168,7 +168,7 @@ fn add_for(pages: &mut Pages, at: u64, count: u64) -> Result<(), NoMemory>
 // Adds the pages from one number up to another, that one not among them.
 fn add_pages(pages: &mut Pages, first: u64, last: u64) -> Result<(), NoMemory>
     ensures bytes { (at : ℕ) → byte_at pages.new at ≡ byte_at pages.old at }
-    ensures there { OnOk result ((number : ℕ) → first ≤ number → number < last → IsThere pages.new number) }
+    ensures there { OnOk result ((number : ℕ) → first ≤ number → number < last → HasPage pages.new number) }
     ensures kept { KeepsPages pages.old pages.new }
 {
     for number in first..last {
@@ -180,7 +180,7 @@ fn add_pages(pages: &mut Pages, first: u64, last: u64) -> Result<(), NoMemory>
 // Puts a piece over pages that are there.
 fn put_over(pages: &mut Pages, at: u64, piece: &[u8])
     requires fits { at + length piece.now ≤ 2 ^ 26 }
-    requires there { AreThere pages.old at (at + length piece.now) }
+    requires there { HasPages pages.old at (at + length piece.now) }
     ensures bytes { (place : ℕ) → byte_at pages.new place ≡ over (byte_at pages.old) at piece.now place }
     ensures kept { KeepsPages pages.old pages.new }
 {

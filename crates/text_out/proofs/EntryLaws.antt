@@ -6,15 +6,15 @@ use Rattle.fsa_types.specs.declared.reply.PackKind.{PackKind}
 use Rattle.fsa_model.specs.PackedText.{packed_text, read_entry, StartsWith}
 use Rattle.fsa_model.proofs.PackedLaws.{StartsWith-longer, StartsWith-read, packed_text-none, packed_text-step, read-StartsWith}
 use Rattle.fsa_model.proofs.RowLaws.{option_cases}
-use Rattle.pack_info.specs.Entries.{Begins, next_of}
-use Rattle.pack_info.specs.Walks.{Steps, WalkState, left_of, seen}
+use Rattle.pack_info.specs.Entries.{BeginsWithEntry, next_of}
+use Rattle.pack_info.specs.Walks.{StepsToEntry, WalkState, left_of, seen}
 use Rattle.pack_info.specs.declared.walk.Malformed.{Malformed}
 use Rattle.pack_info.specs.declared.walk.PackedEntry.{PackedEntry}
 use Rattle.text_out.specs.EntrySteps.{Finds, FindsNone}
 
 -- ---- what a buffer begins with, as a walk says it and as the text does
 
-starts : (kind : PackKind) (buffer : List ℕ) (e : Packed) (rest : List ℕ) → Begins kind buffer e rest → StartsWith kind buffer e rest
+starts : (kind : PackKind) (buffer : List ℕ) (e : Packed) (rest : List ℕ) → BeginsWithEntry kind buffer e rest → StartsWith kind buffer e rest
 starts kind buffer e rest b = record {
   is_packed = record {
     numbers = record {
@@ -40,7 +40,7 @@ next-fits : (kind : PackKind) (size : ℕ) (last : Bool) → (last ≡ false →
 next-fits kind size true fits = omega arith
 next-fits kind size false fits = fits refl
 
-begins : (kind : PackKind) (buffer : List ℕ) (e : Packed) (rest : List ℕ) → StartsWith kind buffer e rest → Begins kind buffer e rest
+begins : (kind : PackKind) (buffer : List ℕ) (e : Packed) (rest : List ℕ) → StartsWith kind buffer e rest → BeginsWithEntry kind buffer e rest
 begins kind buffer e rest s = record {
   is_entry = record {
     numbers = record {
@@ -64,7 +64,7 @@ begins kind buffer e rest s = record {
 
 -- ---- a step
 
-step-found : (old new : WalkState) (entry : PackedEntry) → Steps old new (Ok (Some entry)) → Finds old new (seen entry)
+step-found : (old new : WalkState) (entry : PackedEntry) → StepsToEntry old new (Ok (Some entry)) → Finds old new (seen entry)
 step-found old new entry steps =
     let here : StartsWith old.kind (left_of old) (seen entry) (left_of new) = starts old.kind (left_of old) (seen entry) (left_of new) steps.0 in
     record {
@@ -73,15 +73,15 @@ step-found old new entry steps =
       shorter = StartsWith-longer old.kind (left_of old) (seen entry) (left_of new) here;
     }
 
-pub found_of : (old new : WalkState) (next : Option PackedEntry) → Steps old new (Ok next) → IfSome next (λ entry. Finds old new (seen entry))
+pub found_of : (old new : WalkState) (next : Option PackedEntry) → StepsToEntry old new (Ok next) → IfSome next (λ entry. Finds old new (seen entry))
 found_of old new None steps = tt
 found_of old new (Some entry) steps = step-found old new entry steps
 
-pub none_of : (old new : WalkState) (next : Option PackedEntry) → Steps old new (Ok next) → IfNone next (FindsNone old)
+pub none_of : (old new : WalkState) (next : Option PackedEntry) → StepsToEntry old new (Ok next) → IfNone next (FindsNone old)
 none_of old new None steps = ap (packed_text old.kind) steps.0
 none_of old new (Some entry) steps = tt
 
-pub fault_of : (old new : WalkState) (malformed : Malformed) → Steps old new (Err malformed) → FindsNone old
+pub fault_of : (old new : WalkState) (malformed : Malformed) → StepsToEntry old new (Err malformed) → FindsNone old
 fault_of old new malformed steps = elim (option_cases (read_entry old.kind (left_of old))) [
   | inl none ↦ packed_text-none old.kind (left_of old) none
   | inr some ↦ absurd (steps.3 some.0.0 some.0.1 (begins old.kind (left_of old) some.0.0 some.0.1 (read-StartsWith old.kind (left_of old) some.0.0 some.0.1 some.1)))

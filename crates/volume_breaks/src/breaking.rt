@@ -2,7 +2,7 @@
 
 ghost use Rattle.std.specs.Prelude.{ℕ, ◌≡◌, ◌≤◌, ◌<◌, ◌+◌, ◌++◌, ◌∷◌, ◌^◌, ◌&&◌, [], not, true, length, filter, fold, is_some, option_map, option_and_then, All, if◌then◌else◌};
 ghost use Rattle.std.specs.Option.{option_map_or};
-ghost use Rattle.fsa_types.specs.OplockLists.{effect_on, told_among, IsCopy, IsOplock};
+ghost use Rattle.fsa_types.specs.OplockLists.{effect_on, told_among, IsCopy, IsSoundOplock};
 ghost use Rattle.fsa_types.specs.Rows.{row_of};
 ghost use Rattle.fsa_types.specs.declared.reply.Body.TheVariants.{Broken};
 ghost use Rattle.fsa_types.specs.declared.status.Status.TheVariants.{Success};
@@ -137,7 +137,7 @@ pub fn break_chosen(
 )
     requires room { length (told_among class oplocks.old.chosen) ≤ ended.old.room }
     requires numbers { oplocks.old.last + length oplocks.old.chosen < 2 ^ 64 }
-    requires sound { All IsOplock oplocks.old.chosen }
+    requires sound { All IsSoundOplock oplocks.old.chosen }
     requires copies { All (IsCopy oplocks.old.rows) oplocks.old.chosen }
     ensures done { (v : Volume) → with_held v oplocks.new.rows oplocks.new.last pending.new.items ended.new.items ≡ fold (λ w oplock. with_effect w oplock (effect_on class oplock)) (with_held v oplocks.old.rows oplocks.old.last pending.old.items ended.old.items) oplocks.old.chosen }
     ensures others { oplocks.new ≡ record oplocks.old { rows = oplocks.new.rows; last = oplocks.new.last; told = oplocks.new.told } }

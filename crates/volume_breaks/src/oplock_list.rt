@@ -3,7 +3,7 @@
 ghost use Rattle.std.specs.Prelude.{ℕ, ◌≡◌, ◌≤◌, ◌<◌, ◌+◌, ◌++◌, ◌∷◌, ◌^◌, ◌==◌, ◌-◌, not, true, false, All, [], List, Some, None, length, map, filter, OnOk, if◌then◌else◌, max, slice_index_or};
 ghost use Rattle.fsa_types.specs.Sorting.{in_order};
 ghost use Rattle.fsa_types.specs.OplockGrants.{after_answer, as_answered, as_granted, is_of_key, switched_among};
-ghost use Rattle.fsa_types.specs.OplockLists.{awaited_among, begun, lowered, without_oplock_of, CanBegin, CanGoOn, IsCopy, IsOplock};
+ghost use Rattle.fsa_types.specs.OplockLists.{awaited_among, begun, lowered, without_oplock_of, CanBegin, CanGoOn, IsCopy, IsSoundOplock};
 ghost use Rattle.fsa_model.specs.Breaks.{is_broken_before, is_chosen};
 ghost use Rattle.fsa_model.specs.Grant.{is_oplock_on};
 ghost use Rattle.fsa_model.specs.Volume.{Oplock};
@@ -165,7 +165,7 @@ impl Oplocks {
     pub fn choose_marked(&mut self, marked: &[u64], acting: Option<u64>, key: u64)
         ensures chosen { self.new ≡ record self.old { chosen = in_order is_opened_before (filter (is_marked marked.now acting key) self.old.rows) } }
         ensures few { length self.new.chosen ≤ length self.old.rows }
-        ensures sound { All IsOplock self.new.chosen }
+        ensures sound { All IsSoundOplock self.new.chosen }
         ensures copies { All (IsCopy self.old.rows) self.new.chosen }
     {
         choose_marked(marked, acting, key, &self.rows, &mut self.chosen);

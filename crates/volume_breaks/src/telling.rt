@@ -2,7 +2,7 @@
 //! an Oplock Break'.
 
 ghost use Rattle.std.specs.Prelude.{◌≡◌, ◌≤◌, ◌<◌, ◌+◌, ◌++◌, ◌^◌, [], All, length};
-ghost use Rattle.fsa_types.specs.OplockLists.{CanHave, IsCopy, IsOplock, after_breaks, after_effect, effect_on};
+ghost use Rattle.fsa_types.specs.OplockLists.{CanHave, IsCopy, IsSoundOplock, after_breaks, after_effect, effect_on};
 ghost use Rattle.volume_breaks.specs.Oplocks.{state_of};
 ghost use Rattle.volume_breaks.specs.Told.{told_all, told_by_effect, told_of};
 ghost use Rattle.volume_rows.specs.Effects.{effect_of};
@@ -64,7 +64,7 @@ fn apply(oplocks: &mut Oplocks, oplock: OplockRow, done: BreakEffect)
 fn break_one(oplocks: &mut Oplocks, class: Class, oplock: OplockRow)
     requires room { length oplocks.old.told < length oplocks.old.chosen }
     requires numbers { oplocks.old.last + 1 < 2 ^ 64 }
-    requires sound { IsOplock oplock }
+    requires sound { IsSoundOplock oplock }
     requires copy { IsCopy oplocks.old.rows oplock }
     ensures oplocks { state_of oplocks.new ≡ after_effect (effect_on class oplock) oplock.handle (state_of oplocks.old) }
     ensures others { oplocks.new ≡ record oplocks.old { rows = oplocks.new.rows; last = oplocks.new.last; told = oplocks.new.told } }
@@ -80,7 +80,7 @@ fn break_one(oplocks: &mut Oplocks, class: Class, oplock: OplockRow)
 /// is told. They have to be copies of those that are there.
 pub fn break_oplocks(oplocks: &mut Oplocks, class: Class)
     requires numbers { oplocks.old.last + length oplocks.old.chosen < 2 ^ 64 }
-    requires sound { All IsOplock oplocks.old.chosen }
+    requires sound { All IsSoundOplock oplocks.old.chosen }
     requires copies { All (IsCopy oplocks.old.rows) oplocks.old.chosen }
     ensures oplocks { state_of oplocks.new ≡ after_breaks class (state_of oplocks.old) oplocks.old.chosen }
     ensures others { oplocks.new ≡ record oplocks.old { rows = oplocks.new.rows; last = oplocks.new.last; told = oplocks.new.told } }

@@ -8,18 +8,18 @@ pub record Reserved : Type 0 where
   pub from : ℕ
   pub to : ℕ
 
-pub record Kept : Type 0 where
+pub record StreamRowView : Type 0 where
   pub stream : Stream
   pub room : Reserved
 
 -- the streams themselves, without their room
-abbrev pub streams_in : List (ℕ × Kept) → List (ℕ × Stream)
+abbrev pub streams_in : List (ℕ × StreamRowView) → List (ℕ × Stream)
 streams_in rows = map (λ entry. (entry.0, entry.1.stream)) rows
 
 -- one stream has this change, and perhaps other room
-abbrev pub ChangesStream : List (ℕ × Kept) → List (ℕ × Kept) → ℕ → (Stream → Stream) → Type 0
+abbrev pub ChangesStream : List (ℕ × StreamRowView) → List (ℕ × StreamRowView) → ℕ → (Stream → Stream) → Type 0
 ChangesStream old new stream change = streams_in new ≡ with_row_changed change (streams_in old) stream
 
 -- no stream has changed
-abbrev pub KeepsStreams : List (ℕ × Kept) → List (ℕ × Kept) → Type 0
+abbrev pub KeepsStreams : List (ℕ × StreamRowView) → List (ℕ × StreamRowView) → Type 0
 KeepsStreams old new = streams_in new ≡ streams_in old

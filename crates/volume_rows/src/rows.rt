@@ -178,9 +178,9 @@ pub struct StreamRow {
 impl Model for StreamRow {
     ghost use Rattle.std.specs.Prelude.{◌≡◌};
     ghost use Rattle.std.specs.Vec.{vec_capacity, vec_len};
-    ghost use Rattle.volume_rows.specs.Streams.{Kept};
+    ghost use Rattle.volume_rows.specs.Streams.{StreamRowView};
 
-    ghost Value = { Kept };
+    ghost Value = { StreamRowView };
 
     ghost view = { λ r. record {
       stream = record { file = r.info.file; name = r.info.name; bytes = r.bytes.items; deleted = r.info.deleted };
@@ -258,7 +258,7 @@ impl Need {
 
 impl StreamRow {
     ghost use Rattle.volume_rows.specs.Infos.{info_of};
-    ghost use Rattle.volume_rows.specs.Streams.{Kept};
+    ghost use Rattle.volume_rows.specs.Streams.{StreamRowView};
 
     /// All but the bytes.
     pub fn info(&self) -> &StreamInfo

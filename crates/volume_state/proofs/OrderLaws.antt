@@ -22,7 +22,7 @@ use Rattle.fsa_model.specs.Shown.{default_stream}
 use Rattle.fsa_model.specs.Sound.{IsSound}
 use Rattle.fsa_model.specs.Volume.{Stream, Volume}
 use Rattle.fsa_model.proofs.RowLaws.{find-all, row_of-here}
-use Rattle.volume_rows.specs.Streams.{Kept, streams_in}
+use Rattle.volume_rows.specs.Streams.{StreamRowView, streams_in}
 use Rattle.volume_state.specs.InOrder.{first_of, is_kept_before, is_stream_after, stream_after, streams_after}
 
 -- ---- filters
@@ -301,17 +301,17 @@ streams_of-first v file sound =
 
 -- ---- what is looked up
 
-seen-first : (o : Option (ℕ × Kept)) → option_map (λ (entry : ℕ × Stream). entry.0) (option_map (λ (entry : ℕ × Kept). (entry.0, entry.1.stream)) o) ≡ option_map (λ (entry : ℕ × Kept). entry.0) o
+seen-first : (o : Option (ℕ × StreamRowView)) → option_map (λ (entry : ℕ × Stream). entry.0) (option_map (λ (entry : ℕ × StreamRowView). (entry.0, entry.1.stream)) o) ≡ option_map (λ (entry : ℕ × StreamRowView). entry.0) o
 seen-first None = refl
 seen-first (Some entry) = refl
 
 -- the first of the streams beside their room is that of the streams
-pub stream_after-kept : (table : List (ℕ × ℕ)) (file : ℕ) (units : List ℕ) (rows : List (ℕ × Kept))
+pub stream_after-kept : (table : List (ℕ × ℕ)) (file : ℕ) (units : List ℕ) (rows : List (ℕ × StreamRowView))
     → option_map (λ (entry : ℕ × Stream). entry.0) (slice_get (in_order (is_stream_before table) (filter (λ (entry : ℕ × Stream). is_stream_after table file units entry.1) (streams_in rows))) 0)
-    ≡ option_map (λ (entry : ℕ × Kept). entry.0) (slice_get (in_order (is_kept_before table) (filter (λ (entry : ℕ × Kept). is_stream_after table file units entry.1.stream) rows)) 0)
+    ≡ option_map (λ (entry : ℕ × StreamRowView). entry.0) (slice_get (in_order (is_kept_before table) (filter (λ (entry : ℕ × StreamRowView). is_stream_after table file units entry.1.stream) rows)) 0)
 stream_after-kept table file units rows =
-    let seen : ℕ × Kept → ℕ × Stream = λ entry. (entry.0, entry.1.stream) in
-    let kept : List (ℕ × Kept) = filter (λ entry. is_stream_after table file units entry.1.stream) rows in
+    let seen : ℕ × StreamRowView → ℕ × Stream = λ entry. (entry.0, entry.1.stream) in
+    let kept : List (ℕ × StreamRowView) = filter (λ entry. is_stream_after table file units entry.1.stream) rows in
     let moved : in_order (is_stream_before table) (filter (λ (entry : ℕ × Stream). is_stream_after table file units entry.1) (map seen rows)) ≡ map seen (in_order (is_kept_before table) kept)
     = ap (in_order (is_stream_before table)) (filter-map (λ entry. is_stream_after table file units entry.1) seen rows) ∙ in_order-map (is_stream_before table) seen kept in
     ap (λ (l : List (ℕ × Stream)). option_map (λ (entry : ℕ × Stream). entry.0) (slice_get l 0)) moved

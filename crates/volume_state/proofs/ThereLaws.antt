@@ -7,7 +7,7 @@ use Rattle.std.proofs.lemmas.Bool.{cases_Bool, eqb-true, eq-eqb, ne_eqb, and_par
 use Rattle.std.proofs.lemmas.List.Elements.{All-filter}
 use Rattle.std.proofs.lemmas.List.Folds.{list_any-append, list_any_none}
 use Rattle.fsa_types.proofs.OplockLemmas.{AreOplocks-filter}
-use Rattle.fsa_types.specs.OplockLists.{AreOplocks, IsOplock}
+use Rattle.fsa_types.specs.OplockLists.{AreOplocks, IsSoundOplock}
 use Rattle.fsa_types.specs.Pending.{is_held, is_let_go, next_let_go}
 use Rattle.fsa_types.specs.Rows.{lives, row_of, without_row, IsNumbered}
 use Rattle.fsa_types.specs.Sorting.{in_order}
@@ -230,7 +230,7 @@ held-with_breaks v on kind acting key calls are given held =
     same (LockOf number) low = refl
 
 -- an oplock that is granted has no break in progress
-given_up-same : (oplocks : List Oplock) (turn number : ℕ) → All IsOplock oplocks
+given_up-same : (oplocks : List Oplock) (turn number : ℕ) → All IsSoundOplock oplocks
     → list_any (is_breaking number) oplocks ≡ list_any (is_breaking number) (filter (λ oplock. not (is_granted_under turn oplock)) oplocks)
 given_up-same [] turn number each = refl
 given_up-same (oplock ∷ oplocks) turn number each =
@@ -248,7 +248,7 @@ given_up-same (oplock ∷ oplocks) turn number each =
         none false is = refl
     unbroken None granted is = cc
 
-pub held-given_up : (oplocks : List Oplock) (locks : List (ℕ × Lock)) (calls : Calls) (turn : ℕ) → All IsOplock oplocks → AreHeld (is_there oplocks locks) calls
+pub held-given_up : (oplocks : List Oplock) (locks : List (ℕ × Lock)) (calls : Calls) (turn : ℕ) → All IsSoundOplock oplocks → AreHeld (is_there oplocks locks) calls
     → AreHeld (is_there (filter (λ oplock. not (is_granted_under turn oplock)) oplocks) locks) calls
 held-given_up oplocks locks calls turn each held =
     held-equal (is_there oplocks locks) (is_there (filter (λ oplock. not (is_granted_under turn oplock)) oplocks) locks) calls same held

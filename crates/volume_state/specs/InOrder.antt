@@ -5,7 +5,7 @@ use Rattle.fsa_types.specs.CaseTable.{cmp_name}
 use Rattle.fsa_types.specs.Sorting.{in_order}
 use Rattle.fsa_model.specs.QueryInfo.{is_stream_before}
 use Rattle.fsa_model.specs.Volume.{Stream, Volume}
-use Rattle.volume_rows.specs.Streams.{Kept}
+use Rattle.volume_rows.specs.Streams.{StreamRowView}
 
 -- a stream of this file whose name comes after this one
 abbrev pub is_stream_after : List (ℕ × ℕ) → ℕ → List ℕ → Stream → Bool
@@ -20,7 +20,7 @@ abbrev pub stream_after : Volume → ℕ → List ℕ → Option ℕ
 stream_after v file units = option_map (λ entry. entry.0) (slice_get (streams_after v file units) 0)
 
 -- one stream's name comes before another's, each beside its room
-abbrev pub is_kept_before : List (ℕ × ℕ) → ℕ × Kept → ℕ × Kept → Bool
+abbrev pub is_kept_before : List (ℕ × ℕ) → ℕ × StreamRowView → ℕ × StreamRowView → Bool
 is_kept_before table one other = is_lt (cmp_name table one.1.stream.name other.1.stream.name)
 
 -- the first in an order of the items that pass, where this one was the first of some, and `item` is one more

@@ -2,7 +2,7 @@
 use Rattle.std.specs.Prelude.{◌≡◌, ℕ, ◌+◌, ◌≤◌, Option, Some, length}
 use Rattle.fsa_model.specs.Volume.{Volume}
 use Rattle.volume_rows.specs.declared.rows.Need.{Need}
-use Rattle.volume_state.specs.Seen.{Seen, Spare, room_for, CanWrite}
+use Rattle.volume_state.specs.VolumeView.{VolumeView, Spare, room_for, CanWrite}
 use Rattle.volume_tables.specs.HandleTable as table
 
 -- the stream of a handle, where it has one
@@ -47,5 +47,5 @@ pub record IsNoLess (old new : Spare) : Type 0 where
   pub bytes : (stream at count : ℕ) → CanWrite old stream at count → CanWrite new stream at count
 
 -- no room for ends or pending calls is used but what calls that ended took
-abbrev pub KeepsEnds : Seen → Seen → Type 0
+abbrev pub KeepsEnds : VolumeView → VolumeView → Type 0
 KeepsEnds old new = (old.spare.ends + length old.content.ended ≤ new.spare.ends + length new.content.ended) × (old.spare.pending ≤ new.spare.pending)

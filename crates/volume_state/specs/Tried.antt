@@ -2,7 +2,7 @@
 use Rattle.std.specs.Prelude.{◌≡◌, ◌≤◌, length}
 use Rattle.fsa_model.specs.Volume.{Volume}
 use Rattle.fsa_model.specs.Outcome.{Outcome, Done, Stay, Hold}
-use Rattle.volume_state.specs.Seen.{Spare}
+use Rattle.volume_state.specs.VolumeView.{Spare}
 use Rattle.volume_state.specs.declared.tried.Tried.{Tried}
 use Rattle.volume_state.specs.declared.tried.Tried.TheVariants as tried
 

@@ -6,7 +6,7 @@ ghost use Rattle.fsa_types.specs.Rows.{row_of, lives, with_row_changed};
 ghost use Rattle.fsa_model.specs.Edits.{with_file, with_basic, with_owner, with_dacl};
 ghost use Rattle.fsa_model.specs.Lookups.{has_row, is_directory, stream_of};
 ghost use Rattle.fsa_model.specs.Sound.{LeadsUp, PointFits};
-ghost use Rattle.volume_state.specs.Seen.{room_for};
+ghost use Rattle.volume_state.specs.VolumeView.{room_for};
 
 use crate::growth::{hand_over, part_of_file};
 use crate::volume::Volume;

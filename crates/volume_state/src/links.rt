@@ -10,7 +10,7 @@ ghost use Rattle.fsa_model.specs.Lookups.{child_of, dir_link, has_child, has_row
 ghost use Rattle.fsa_model.specs.Sound.{LeadsUp, is_link_of_directory};
 ghost use Rattle.volume_state.specs.Living.{StaysWithout, is_link_to};
 ghost use Rattle.volume_state.specs.Paths.{units_in, dirs_in};
-ghost use Rattle.volume_state.specs.Seen.{room_for};
+ghost use Rattle.volume_state.specs.VolumeView.{room_for};
 
 use crate::growth::{part_of_file, resize};
 use crate::streams::drop_streams_of;

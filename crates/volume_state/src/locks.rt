@@ -7,7 +7,7 @@ ghost use Rattle.fsa_model.specs.Edits.{is_lock_on, with_lock, without_lock};
 ghost use Rattle.fsa_model.specs.Lookups.{number_of};
 ghost use Rattle.volume_state.specs.Locks.{ranges_on};
 ghost use Rattle.volume_state.specs.Room.{stream_of_handle};
-ghost use Rattle.volume_state.specs.Seen.{room_for};
+ghost use Rattle.volume_state.specs.VolumeView.{room_for};
 
 use crate::volume::Volume;
 use fsa_types::Blocker;

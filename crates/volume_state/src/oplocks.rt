@@ -3,7 +3,7 @@
 ghost use Rattle.std.specs.Prelude.{ℕ, ◌≡◌, ◌≤◌, ◌<◌, ◌+◌, ◌-◌, ◌^◌, ◌++◌, ◌==◌, All, fold, length, map, [], false, Some, IsSome, option_map};
 ghost use Rattle.std.specs.Option.{option_map_or, ForSome};
 ghost use Rattle.fsa_types.specs.OplockGrants.{after_answer, target_among};
-ghost use Rattle.fsa_types.specs.OplockLists.{effect_on, told_among, IsCopy, IsOplock};
+ghost use Rattle.fsa_types.specs.OplockLists.{effect_on, told_among, IsCopy, IsSoundOplock};
 ghost use Rattle.fsa_types.specs.Oplocks.{in_both};
 ghost use Rattle.fsa_types.specs.declared.reply.Blocker.{Blocker};
 ghost use Rattle.fsa_types.specs.declared.reply.Blocker.TheVariants.{Break};
@@ -21,7 +21,7 @@ ghost use Rattle.volume_breaks.specs.Breaks.{with_held};
 ghost use Rattle.volume_breaks.specs.Calls.{StayHeld};
 ghost use Rattle.volume_state.specs.Oplocks.{Grants, key_of_handle};
 ghost use Rattle.volume_state.specs.Room.{KeepsEnds, stream_of_handle};
-ghost use Rattle.volume_state.specs.Seen.{room_for};
+ghost use Rattle.volume_state.specs.VolumeView.{room_for};
 
 use crate::volume::Volume;
 use fsa_types::{BlockerList, Class, EndOf, HandleSet, Level};
@@ -242,7 +242,7 @@ fn break_chosen(
 )
     requires room { length (told_among class oplocks.old.chosen) ≤ ended.old.room }
     requires numbers { oplocks.old.last + length oplocks.old.chosen < 2 ^ 64 }
-    requires sound { All IsOplock oplocks.old.chosen }
+    requires sound { All IsSoundOplock oplocks.old.chosen }
     requires copies { All (IsCopy oplocks.old.rows) oplocks.old.chosen }
     requires there { AreThere oplocks.old.rows oplocks.old.chosen }
     requires sorted { AreSorted handles.now.rows oplocks.old.rows oplocks.old.tables }

@@ -10,7 +10,7 @@ ghost use Rattle.fsa_model.specs.Lookups.{stream_of, bytes_of, has_row, is_direc
 ghost use Rattle.fsa_model.specs.Sound.{is_stream_of_link};
 ghost use Rattle.volume_rows.specs.Infos.{info_of};
 ghost use Rattle.volume_state.specs.Living.{is_link_to};
-ghost use Rattle.volume_state.specs.Seen.{CanWrite, CanReach};
+ghost use Rattle.volume_state.specs.VolumeView.{CanWrite, CanReach};
 ghost use Rattle.volume_rows.specs.Streams.{KeepsStreams, ChangesStream};
 ghost use Rattle.fsa_types.specs.StreamBytes.{put, cut};
 

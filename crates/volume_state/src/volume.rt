@@ -46,15 +46,15 @@ pub struct Volume {
 }
 
 impl Model for Volume {
-    ghost use Rattle.volume_state.specs.Seen.{Seen};
+    ghost use Rattle.volume_state.specs.VolumeView.{VolumeView};
     ghost use Rattle.fsa_model.specs.Sound.{IsSound};
 
-    ghost Value = { Seen };
+    ghost Value = { VolumeView };
 
     ghost use Rattle.oplock_state.specs.Tables.{AreSorted};
     ghost use Rattle.volume_breaks.specs.Calls.{AreHeld};
     ghost use Rattle.volume_state.specs.Held.{is_there};
-    ghost use Rattle.volume_state.specs.Inside.{content_of, beside_of, spare_of};
+    ghost use Rattle.volume_state.specs.Content.{content_of, beside_of, spare_of};
     ghost use Rattle.volume_state.specs.Tallied.{AreTallied};
 
     ghost view = { λ v. record { content = content_of v; beside = beside_of v; spare = spare_of v } };

@@ -1,5 +1,5 @@
 use Rattle.std.proofs.Common.{◌≡◌, ◌+◌, length, ◌∙◌, arith}
-use Rattle.client_race.specs.Tasks.{Gives}
+use Rattle.client_race.specs.Tasks.{GivesRunner}
 use Rattle.client_race.proofs.Facing.{leads_less, faces_more}
 use Rattle.client_race.proofs.drive.join_all.Goals as goal
 
@@ -9,5 +9,5 @@ loop-task-preserved g c = let i = c.loop-task.invariant in let is = c.in-Some.en
       left = leads_less c.loop-task.tasks.items c.pop.new.self.items c.args.tasks.items c.in-Some.task is i.left;
       count = (let e = c.in-Some.ensures.len in let f = c.push_reserved.ensures.len in omega arith);
       room = c.push_reserved.ensures.capacity ∙ i.room;
-      gives = faces_more Gives c.args.tasks.items c.loop-task.tasks.items c.pop.new.self.items c.in-Some.task c.loop-task.runners.items c.push_reserved.new.self.items c.join_one.result is i.left c.push_reserved.ensures.items count i.gives c.join_one.ensures;
+      gives = faces_more GivesRunner c.args.tasks.items c.loop-task.tasks.items c.pop.new.self.items c.in-Some.task c.loop-task.runners.items c.push_reserved.new.self.items c.join_one.result is i.left c.push_reserved.ensures.items count i.gives c.join_one.ensures;
     }

@@ -1,6 +1,6 @@
 use Rattle.std.proofs.Common.{◌≡◌, ◌+◌, length, ◌∙◌, arith}
 use Rattle.history_lock.proofs.Places.{each_given}
-use Rattle.client_race.specs.Tasks.{Stands}
+use Rattle.client_race.specs.Tasks.{IsTaskOf}
 use Rattle.client_race.proofs.Facing.{leads_less, leads_last, faces_more}
 use Rattle.client_race.proofs.drive.start_all.Goals as goal
 
@@ -13,6 +13,6 @@ loop-runner-preserved g c = let i = c.loop-runner.invariant in let is = c.in-Som
       left = leads_less c.loop-runner.runners.items c.pop.new.self.items c.args.runners.items c.in-Some.runner is i.left;
       count = (let e = c.in-Some.ensures.len in let f = c.push_reserved.ensures.len in omega arith);
       room = c.push_reserved.ensures.capacity ∙ i.room;
-      stands = faces_more (Stands c.args.volume.now) c.args.runners.items c.loop-runner.runners.items c.pop.new.self.items c.in-Some.runner c.loop-runner.tasks.items c.push_reserved.new.self.items c.start.result is i.left c.push_reserved.ensures.items count i.stands c.start.ensures.stands;
+      stands = faces_more (IsTaskOf c.args.volume.now) c.args.runners.items c.loop-runner.runners.items c.pop.new.self.items c.in-Some.runner c.loop-runner.tasks.items c.push_reserved.new.self.items c.start.result is i.left c.push_reserved.ensures.items count i.stands c.start.ensures.stands;
       fit = each_given _ _ _ _ c.push_reserved.ensures.items i.fit c.start.ensures.fit;
     }

@@ -1,5 +1,5 @@
 use Rattle.std.proofs.Common.{◌≡◌, vec_len}
-use Rattle.client_race.specs.Lists.{Beside, Each}
+use Rattle.client_race.specs.Lists.{Pointwise, Each}
 use Rattle.client_race.specs.Tasks.{IsFit, Moves}
 use Rattle.client_race.proofs.drive.step_each.Given as goal
 
@@ -7,5 +7,5 @@ abbrev pub invariant-loop-i : goal.invariant-loop-i
 invariant-loop-i g l = record {
   one_each : vec_len l.tasks ≡ vec_len l.fn.tasks;
   fit : Each (IsFit l.volume) l.tasks.items;
-  moves : Beside (Moves l.volume) l.fn.tasks.items l.tasks.items;
+  moves : Pointwise (Moves l.volume) l.fn.tasks.items l.tasks.items;
 }

@@ -2,7 +2,7 @@ use Rattle.std.proofs.Common.{List, length, map, ap, sym, ◌∙◌}
 use Rattle.std.proofs.lemmas.List.{length-map}
 use Rattle.fsa_machine.specs.Kept.{entry_of, out_kept}
 use Rattle.fsa_machine.specs.declared.kept.KeptTurn.{KeptTurn}
-use Rattle.fsa_machine.proofs.StandLaws.{asks-turn, is-shorter, Stands-next}
+use Rattle.fsa_machine.proofs.StandLaws.{asks-turn, is-shorter, RunsTo-next}
 use Rattle.fsa_machine.proofs.machine.turn_of.Goals as goal
 
 pub keep_turn-requires-clause-may_try : goal.keep_turn-requires-clause-may_try
@@ -16,5 +16,5 @@ keep_turn-requires-clause-new g c = (let asks = asks-turn _ _ _ _ c.args.call c.
 
 pub returns-in-Ok-clause-stands : goal.returns-in-Ok-clause-stands
 returns-in-Ok-clause-stands g c =
-    Stands-next (map entry_of c.args.kept.now.items) (map entry_of c.keep_turn.new.kept.items) (map out_kept c.args.kept.now.items) (map out_kept c.keep_turn.new.kept.items) (g.S.Store.content c.args.store.now) (g.S.Store.content c.keep_turn.new.store) c.args.call c.in-Ok.out.starved.items _
+    RunsTo-next (map entry_of c.args.kept.now.items) (map entry_of c.keep_turn.new.kept.items) (map out_kept c.args.kept.now.items) (map out_kept c.keep_turn.new.kept.items) (g.S.Store.content c.args.store.now) (g.S.Store.content c.keep_turn.new.store) c.args.call c.in-Ok.out.starved.items _
     c.requires.stands (is-shorter (length c.as_slice.result.now) (map entry_of c.args.kept.now.items) c.requires.stands.few (length-map c.args.kept.now.items entry_of ∙ sym (ap (λ (items : List KeptTurn). length items) c.as_slice.ensures.value)) c.if-as_slice-eq-MOST_ENTRIES.false) c.requires.number c.in-Ok.ensures.serves c.in-Ok.ensures.turn c.in-Ok.ensures.entries c.in-Ok.ensures.outs

@@ -1,13 +1,13 @@
 use Rattle.std.proofs.Common.{◌≡◌}
 use Rattle.script_read.specs.ScriptView.{contents}
 use Rattle.history_laws.specs.Whole.{how_many_left}
-use Rattle.fsa_top.specs.Progress.{Shows, Progress}
+use Rattle.fsa_top.specs.Progress.{WroteTurns, Progress}
 use Rattle.fsa_top.proofs.run.run_calls.Given as goal
 
 abbrev pub invariant-turns : goal.invariant-turns
 invariant-turns g l = record {
   stands : Progress (contents l.script) l.machine l.order;
-  shows : Shows (contents l.script) l.machine.entries (g.K.Sink.written l.fn.sink) (g.K.Sink.written l.sink);
+  shows : WroteTurns (contents l.script) l.machine.entries (g.K.Sink.written l.fn.sink) (g.K.Sink.written l.sink);
   unfailed : g.K.Sink.faults l.sink ≡ g.K.Sink.faults l.fn.sink;
 }
 

@@ -4,7 +4,7 @@ use Rattle.fsa_model.specs.Schedule.{all_calls}
 use Rattle.script_read.specs.ScriptView.{contents}
 use Rattle.fsa_top.specs.declared.run.RunFault.{RunFault}
 use Rattle.fsa_top.proofs.OrderLaws.{same_call}
-use Rattle.fsa_top.proofs.RunLaws.{MakesTurn-part, OnErr-any, Shows-turn, Progress-room, Progress-turn, left-turn, next-asked}
+use Rattle.fsa_top.proofs.RunLaws.{MakesTurn-part, OnErr-any, WroteTurns-turn, Progress-room, Progress-turn, left-turn, next-asked}
 use Rattle.fsa_top.proofs.run.take_turn.Goals as goal
 
 pub make_turn_at-requires-clause-asked : goal.make_turn_at-requires-clause-asked
@@ -35,7 +35,7 @@ returns-clause-fewer g c =
 pub returns-clause-shows : goal.returns-clause-shows
 returns-clause-shows g c = λ first shows.
     let made = c.in_ok-make_turn_at.ensures.made c.requires.next.call c.requires.next.at in
-    Shows-turn (contents c.args.script.now) c.args.machine.now c.make_turn_at.new.machine c.requires.next.call made.0 first (g.K.Sink.written c.args.sink.now) (g.K.Sink.written c.make_turn_at.new.sink)
+    WroteTurns-turn (contents c.args.script.now) c.args.machine.now c.make_turn_at.new.machine c.requires.next.call made.0 first (g.K.Sink.written c.args.sink.now) (g.K.Sink.written c.make_turn_at.new.sink)
     c.requires.stands.setup c.requires.next.is made.1 made.2 shows
 
 pub make_turn_at-requires-clause-few : goal.make_turn_at-requires-clause-few

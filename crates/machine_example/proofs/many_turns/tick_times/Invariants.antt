@@ -1,6 +1,6 @@
 use Rattle.std.proofs.Common.{◌≡◌, length}
 use Rattle.fsa_model.specs.Schedule.{calls_of}
-use Rattle.fsa_machine.specs.Stands.{calls_in}
+use Rattle.fsa_machine.specs.MachineView.{calls_in}
 use Rattle.machine_example.proofs.many_turns.tick_times.Given as goal
 
 -- so many turns were made, all of them the client's

@@ -1,5 +1,5 @@
 use Rattle.std.proofs.Common.{arith}
-use Rattle.fsa_machine.specs.Stands.{calls_in}
+use Rattle.fsa_machine.specs.MachineView.{calls_in}
 use Rattle.machine_example.proofs.CountLaws.{counts-on}
 use Rattle.machine_example.proofs.session.next_number.Goals as goal
 

@@ -1,6 +1,6 @@
 use Rattle.std.proofs.Common.{◌≡◌, ◌≤◌, ◌+◌, drop}
 use Rattle.fsa_model.specs.Schedule.{calls_of}
-use Rattle.fsa_machine.specs.Stands.{calls_in}
+use Rattle.fsa_machine.specs.MachineView.{calls_in}
 use Rattle.machine_example.proofs.session.next_number.Given as goal
 
 -- the calls from this turn on are still to be counted

@@ -1,5 +1,5 @@
 use Rattle.std.proofs.Common.{sym, ap, ◌∙◌, arith}
-use Rattle.volume_state.specs.Seen.{Spare}
+use Rattle.volume_state.specs.VolumeView.{Spare}
 use Rattle.op_delete.proofs.EndLaws.{IsEnding-first, IsEnding-last, IsEnding-turn}
 use Rattle.op_delete.proofs.ends.end_calls.Goals as goal
 

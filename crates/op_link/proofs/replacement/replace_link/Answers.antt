@@ -2,7 +2,7 @@ use Rattle.std.proofs.Common.{◌≡◌, true, length, ap, arith}
 use Rattle.fsa_model.specs.Lookups.{is_directory}
 use Rattle.fsa_model.specs.Volume.{Volume}
 use Rattle.volume_state.specs.Paths.{units_in, dirs_in}
-use Rattle.volume_state.specs.Seen.{Spare, room_for}
+use Rattle.volume_state.specs.VolumeView.{Spare, room_for}
 use Rattle.op_link.proofs.replacement.replace_link.Goals as goal
 
 pub returns-clause-room : goal.returns-clause-room

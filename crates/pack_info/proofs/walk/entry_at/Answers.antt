@@ -2,7 +2,7 @@ use Rattle.std.proofs.Common.{arith, rules, false, sym, subst}
 use Rattle.std.specs.Prelude.{IsTrue}
 use Rattle.pack_info.proofs.WalkLaws.{read_as, tail_of, too_few, begins_with}
 use Rattle.pack_info.specs.declared.reading.Head.{Head}
-use Rattle.pack_info.specs.Entries.{Begins, IsTail}
+use Rattle.pack_info.specs.Entries.{BeginsWithEntry, IsTail}
 use Rattle.pack_info.specs.Reading.{HeadFits}
 use Rattle.pack_info.proofs.walk.entry_at.Goals as goal
 
@@ -29,5 +29,5 @@ returns-clause-found c =
     let z = c.if-not-has_constants.ensures.0 (search rules) in
     let t : IsTail c.args.kind c.head_at-head.result.0.next c.head_at-head.result.0.len c.head_at-head.result.1.now c.in-Some.name.now c.in-Some.rest.now
     = subst (λ (h : Head). IsTail c.args.kind h.next h.len c.head_at-head.result.1.now c.in-Some.name.now c.in-Some.rest.now) c.head.view_is c.in-Some.ensures.found in
-    subst (λ (h : Head). Begins c.args.kind c.args.bytes.now (record { numbers = h.numbers; name = c.in-Some.name.now }) c.in-Some.rest.now) (sym c.head.view_is)
+    subst (λ (h : Head). BeginsWithEntry c.args.kind c.args.bytes.now (record { numbers = h.numbers; name = c.in-Some.name.now }) c.in-Some.rest.now) (sym c.head.view_is)
     (begins_with c.args.kind c.head_at-head.result.0 c.args.bytes.now c.head_at-head.result.1.now c.in-Some.name.now c.in-Some.rest.now c.head_at-head.ensures.plain fits z.0 z.1 z.2 c.head_at-head.ensures.read t)

@@ -2,7 +2,7 @@ use Rattle.std.proofs.Common.{◌≡◌, List, ◌∙◌, ◌+◌, ◌++◌, ◌
 use Rattle.std.specs.Prelude.{fold}
 use Rattle.std.proofs.lemmas.List.{append-nil, drop_all}
 use Rattle.fsa_types.proofs.OplockLemmas.{IsCopy-effect}
-use Rattle.fsa_types.specs.OplockLists.{OplockState, IsCopy, IsOplock, after_effect, effect_on}
+use Rattle.fsa_types.specs.OplockLists.{OplockState, IsCopy, IsSoundOplock, after_effect, effect_on}
 use Rattle.fsa_types.specs.Oplocks.{Oplock}
 use Rattle.volume_breaks.proofs.BreakLemmas.{fold-more, fold-all}
 use Rattle.volume_breaks.proofs.ToldLemmas.{told-more}
@@ -25,7 +25,7 @@ break_one-requires-clause-sound c =
     let quiet = ap (λ (held : Held). length held.chosen) c.tell_nobody.ensures in
     let count = c.chosen_len-place-end.ensures in
     let read : c.chosen_at-oplock.result ≡ get_or chosen c.loop-place.place c.chosen_at-oplock.result = rw same at c.chosen_at-oplock.ensures in
-    subst IsOplock (sym read) (c.requires.sound c.loop-place.place c.chosen_at-oplock.result (omega arith))
+    subst IsSoundOplock (sym read) (c.requires.sound c.loop-place.place c.chosen_at-oplock.result (omega arith))
 
 pub break_one-requires-clause-copy : goal.break_one-requires-clause-copy
 break_one-requires-clause-copy c =

@@ -1,5 +1,5 @@
 use Rattle.std.proofs.Common.{subst, sym, ◌∙◌, inl}
-use Rattle.client_run.specs.Serving.{Serves, holding}
+use Rattle.client_run.specs.Serving.{FitsDesk, holding}
 use Rattle.client_run.proofs.ServeLaws.{made_next, made_plan, next_can, serves_did, serves_on}
 use Rattle.client_run.proofs.run.ClientRun.ask.Goals as goal
 
@@ -30,10 +30,10 @@ returns-in-Did-clause-steps g c =
 
 pub returns-in-Busy-clause-serves : goal.returns-in-Busy-clause-serves
 returns-in-Busy-clause-serves g c = let back = c.in-Busy.ensures.busy in
-    subst (λ what. Serves (g.D.Desk.view c.ask.new.self) (holding (record c.args.call { what = what }) c.args.self.now)) (sym back.0)
+    subst (λ what. FitsDesk (g.D.Desk.view c.ask.new.self) (holding (record c.args.call { what = what }) c.args.self.now)) (sym back.0)
     (serves_on (g.D.Desk.view c.args.desk.now) (g.D.Desk.view c.ask.new.self) (holding c.args.call c.args.self.now) c.requires.serves back.1 c.ask.ensures.history)
 
 pub returns-clause-serves : goal.returns-clause-serves
 returns-clause-serves g c = let back = c.in-Refused.ensures.refused in
-    subst (λ what. Serves (g.D.Desk.view c.ask.new.self) (holding (record c.args.call { what = what }) c.args.self.now)) (sym back.0)
+    subst (λ what. FitsDesk (g.D.Desk.view c.ask.new.self) (holding (record c.args.call { what = what }) c.args.self.now)) (sym back.0)
     (serves_on (g.D.Desk.view c.args.desk.now) (g.D.Desk.view c.ask.new.self) (holding c.args.call c.args.self.now) c.requires.serves back.1 c.ask.ensures.history)

@@ -1,13 +1,13 @@
 use Rattle.fsa_model.proofs.CoherenceRuns.{run-coherent}
 use Rattle.fsa_model.proofs.NoticeEnds.{run-watches_report}
-use Rattle.fsa_machine.proofs.StandLaws.{Stands-none_ready, Stands-ends_once, released-turn}
+use Rattle.fsa_machine.proofs.StandLaws.{RunsTo-none_ready, RunsTo-ends_once, released-turn}
 use Rattle.fsa_machine.proofs.machine.Machine.turn.Goals as goal
 
 pub returns-clause-none_is_ready : goal.returns-clause-none_is_ready
-returns-clause-none_is_ready g c = λ r runs. Stands-none_ready _ _ _ _ r c.turn_of.ensures.stands runs
+returns-clause-none_is_ready g c = λ r runs. RunsTo-none_ready _ _ _ _ r c.turn_of.ensures.stands runs
 
 pub returns-clause-each_call_ends_once : goal.returns-clause-each_call_ends_once
-returns-clause-each_call_ends_once g c = λ r runs. Stands-ends_once _ _ _ _ r c.turn_of.ensures.stands runs
+returns-clause-each_call_ends_once g c = λ r runs. RunsTo-ends_once _ _ _ _ r c.turn_of.ensures.stands runs
 
 pub returns-clause-a_held_call_is_tried_in_the_turn_that_lets_it_go : goal.returns-clause-a_held_call_is_tried_in_the_turn_that_lets_it_go
 returns-clause-a_held_call_is_tried_in_the_turn_that_lets_it_go g c =

@@ -1,12 +1,12 @@
 use Rattle.std.proofs.Common.{◌∙◌, ap, sym}
 use Rattle.std.proofs.lemmas.Bool.{false≢true}
 use Rattle.std.specs.Option.{is_some}
-use Rattle.stream_pages.specs.Pages.{IsThere, StandsAt}
+use Rattle.stream_pages.specs.Pages.{HasPage, StandsAt}
 use Rattle.stream_pages.proofs.PageLaws.{row_of-missing}
 use Rattle.stream_pages.proofs.pages.Pages.put.Goals as goal
 
 pub unreachable-requires : goal.unreachable-requires
 unreachable-requires c =
     let at : StandsAt c.self.inside.pages.items c.args.number c.in-Err.field-0 = rw c.deref.ensures.value at c.in-Err.ensures.missing in
-    let there : IsThere c.self.inside.pages.items c.args.number = rw (← c.self.view_is) at c.requires.there in
+    let there : HasPage c.self.inside.pages.items c.args.number = rw (← c.self.view_is) at c.requires.there in
     false≢true (sym (ap is_some (row_of-missing c.self.inside.pages.items c.args.number c.in-Err.field-0 at)) ∙ there)

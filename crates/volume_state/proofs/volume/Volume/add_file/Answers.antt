@@ -1,5 +1,5 @@
 use Rattle.fsa_model.proofs.SoundLaws.{IsSound-with_file}
-use Rattle.volume_state.specs.Inside.{content_of}
+use Rattle.volume_state.specs.Content.{content_of}
 use Rattle.std.proofs.Common.{◌+◌, ap, subst}
 use Rattle.std.proofs.lemmas.Bool.{and_left}
 use Rattle.fsa_model.specs.Lookups.{is_stream_named}

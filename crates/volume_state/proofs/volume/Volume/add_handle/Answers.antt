@@ -1,6 +1,6 @@
 use Rattle.std.proofs.Common.{◌+◌, ◌∷◌, []}
 use Rattle.fsa_model.proofs.SoundLaws.{IsSound-with_handle}
-use Rattle.volume_state.specs.Inside.{content_of}
+use Rattle.volume_state.specs.Content.{content_of}
 use Rattle.volume_state.proofs.SortedLaws.{sorted-added}
 use Rattle.volume_state.proofs.volume.Volume.add_handle.Goals as goal
 

@@ -1,5 +1,5 @@
 use Rattle.fsa_model.proofs.SoundLaws.{IsSound-with_link}
-use Rattle.volume_state.specs.Inside.{content_of}
+use Rattle.volume_state.specs.Content.{content_of}
 use Rattle.volume_state.proofs.OpenLaws.{row_of-push, units_noted-new, dirs_noted-new}
 use Rattle.std.proofs.Common.{ℕ, ◌+◌, ◌==◌, ◌&&◌, refl}
 use Rattle.std.proofs.lemmas.Bool.{and_from, eq-eqb}

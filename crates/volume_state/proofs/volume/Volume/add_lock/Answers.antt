@@ -1,7 +1,7 @@
 use Rattle.std.proofs.Common.{◌≡◌, true}
 use Rattle.fsa_types.specs.Rows.{lives}
 use Rattle.volume_tables.proofs.LockLemmas.{lives-some}
-use Rattle.volume_state.specs.Inside.{content_of}
+use Rattle.volume_state.specs.Content.{content_of}
 use Rattle.fsa_model.proofs.SoundWaits.{IsSound-with_lock}
 use Rattle.volume_state.proofs.ThereLaws.{held-with_lock}
 use Rattle.volume_state.proofs.volume.Volume.add_lock.Goals as goal

@@ -1,6 +1,6 @@
 use Rattle.std.proofs.lemmas.List.{map-append}
 use Rattle.fsa_model.proofs.SoundLaws.{IsSound-with_stream}
-use Rattle.volume_state.specs.Inside.{content_of}
+use Rattle.volume_state.specs.Content.{content_of}
 use Rattle.fsa_model.specs.Lookups.{is_stream_named}
 use Rattle.volume_state.proofs.OpenLaws.{number_of-push, units_noted-stream, dirs_noted-stream}
 use Rattle.volume_state.proofs.StreamLemmas.{row_of-before, rooms-same}

@@ -1,4 +1,4 @@
-use Rattle.volume_state.specs.Inside.{content_of}
+use Rattle.volume_state.specs.Content.{content_of}
 use Rattle.volume_state.proofs.GrantLaws.{IsSound-with_answer, held-answered}
 use Rattle.volume_state.proofs.volume.Volume.answer_break.Goals as goal
 

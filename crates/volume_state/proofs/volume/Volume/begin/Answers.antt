@@ -7,10 +7,10 @@ use Rattle.fsa_model.specs.Volume.{Oplock, Volume}
 use Rattle.fsa_model.proofs.BreakLaws.{IsSound-with_breaks, chosen-few, with_breaks-few, with_breaks-numbers}
 use Rattle.volume_breaks.specs.Breaks.{with_held}
 use Rattle.volume_state.specs.Held.{is_there}
-use Rattle.volume_state.specs.Inside.{content_of}
+use Rattle.volume_state.specs.Content.{content_of}
 use Rattle.oplock_state.specs.Tables.{Tabled}
 use Rattle.oplock_state.proofs.SortLemmas.{chosen-there}
-use Rattle.volume_state.specs.Seen.{Seen}
+use Rattle.volume_state.specs.VolumeView.{VolumeView}
 use Rattle.volume_state.proofs.ThereLaws.{held-with_breaks}
 use Rattle.volume_state.proofs.volume.Volume.begin.Goals as goal
 
@@ -113,4 +113,4 @@ returns-clause-count c =
     = ap (λ (held : Tabled). held.waited) c.await_breaks.ensures.waited
     ∙ ap (λ (w : Volume). awaited_among c.args.class c.break_chosen.new.oplocks.chosen w.oplocks) broken
     ∙ ap (λ (oplocks : List Oplock). awaited_among c.args.class oplocks (with_breaks v c.args.handles c.args.class c.args.handle c.args.key).oplocks) picked in
-    c.await_breaks.ensures.count ∙ ap (λ (numbers : List ℕ). length numbers) waited ∙ ap (λ (seen : Seen). length (awaited seen.content c.args.handles c.args.class c.args.handle c.args.key)) c.self.view_is
+    c.await_breaks.ensures.count ∙ ap (λ (numbers : List ℕ). length numbers) waited ∙ ap (λ (seen : VolumeView). length (awaited seen.content c.args.handles c.args.class c.args.handle c.args.key)) c.self.view_is

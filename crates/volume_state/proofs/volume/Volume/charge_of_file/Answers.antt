@@ -1,8 +1,8 @@
 use Rattle.std.proofs.Common.{ℕ, ◌*◌, ◌==◌, ap, arith, length, ◌∙◌, sym}
 use Rattle.std.specs.Prelude.{filter}
 use Rattle.fsa_model.specs.Charge.{clusters_for}
-use Rattle.volume_rows.specs.Streams.{Kept}
-use Rattle.volume_state.specs.Inside.{content_of}
+use Rattle.volume_rows.specs.Streams.{StreamRowView}
+use Rattle.volume_state.specs.Content.{content_of}
 use Rattle.volume_state.proofs.GrowthLemmas.{clusters-fit, sum-streams}
 use Rattle.volume_state.proofs.SumLemmas.{sum-scaled}
 use Rattle.volume_state.proofs.TallyLaws.{clusters_of_file-few}
@@ -28,4 +28,4 @@ returns c =
       sum-streams (λ stream. 4096 * clusters_for (length stream.bytes)) (λ stream. stream.file == c.args.file) c.self.inside.streams.rows,
       ← c.as_slice.ensures.rows,
     )
-    (ap (λ n. 4096 * n) c.clusters_of_file.ensures ∙ sym (sum-scaled 4096 (λ (entry : ℕ × Kept). clusters_for (length entry.1.stream.bytes)) (filter (λ entry. entry.1.stream.file == c.args.file) c.as_slice.result.now)))
+    (ap (λ n. 4096 * n) c.clusters_of_file.ensures ∙ sym (sum-scaled 4096 (λ (entry : ℕ × StreamRowView). clusters_for (length entry.1.stream.bytes)) (filter (λ entry. entry.1.stream.file == c.args.file) c.as_slice.result.now)))

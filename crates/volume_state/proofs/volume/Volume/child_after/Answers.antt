@@ -1,7 +1,7 @@
 use Rattle.std.proofs.Common.{Some, ◌∙◌, ap}
 use Rattle.std.specs.Prelude.{filter}
 use Rattle.volume_state.specs.Children.{is_unmarked}
-use Rattle.volume_state.specs.Inside.{content_of}
+use Rattle.volume_state.specs.Content.{content_of}
 use Rattle.volume_state.proofs.ChildLaws.{children-all, children-listed, children-lives}
 use Rattle.volume_state.proofs.volume.Volume.child_after.Goals as goal
 

@@ -1,7 +1,7 @@
 use Rattle.std.specs.Prelude.{[]}
 use Rattle.fsa_model.specs.Lookups.{is_stream_named}
 use Rattle.fsa_model.proofs.RowLaws.{number_of-map}
-use Rattle.volume_state.specs.Inside.{content_of}
+use Rattle.volume_state.specs.Content.{content_of}
 use Rattle.volume_state.proofs.OpenLaws.{number-lives}
 use Rattle.volume_state.proofs.OrderLaws.{default-first, default-none}
 use Rattle.volume_state.proofs.volume.Volume.default_stream.Goals as goal

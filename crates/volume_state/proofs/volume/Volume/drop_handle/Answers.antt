@@ -1,5 +1,5 @@
 use Rattle.fsa_model.proofs.SoundLaws.{IsSound-without_handle}
-use Rattle.volume_state.specs.Inside.{content_of}
+use Rattle.volume_state.specs.Content.{content_of}
 use Rattle.volume_state.proofs.ThereLaws.{held-without_handle}
 use Rattle.volume_state.proofs.SortedLaws.{sorted-removed}
 use Rattle.volume_state.proofs.volume.Volume.drop_handle.Goals as goal

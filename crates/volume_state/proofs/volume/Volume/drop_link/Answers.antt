@@ -6,8 +6,8 @@ use Rattle.fsa_model.specs.Sound.{IsSound}
 use Rattle.fsa_model.specs.Volume.{Link}
 use Rattle.fsa_model.proofs.RowLaws.{found-all, without_row-none}
 use Rattle.fsa_model.proofs.SoundLaws.{IsSound-without_link, without_link-last, without_link-other}
-use Rattle.volume_state.specs.Inside.{content_of}
-use Rattle.volume_state.specs.Seen.{Seen}
+use Rattle.volume_state.specs.Content.{content_of}
+use Rattle.volume_state.specs.VolumeView.{VolumeView}
 use Rattle.volume_state.proofs.DropLaws.{StaysWithout-without_link, units_noted-without_link, dirs_noted-without_link}
 use Rattle.std.proofs.Common.{◌≡◌}
 use Rattle.fsa_types.proofs.RowLemmas.{lives-map}
@@ -126,37 +126,37 @@ returns-then-not-has_link-clause-bytes_kept c =
 -- what a note takes
 pub returns-in_default-clause-units : goal.returns-in_default-clause-units
 returns-in_default-clause-units c =
-    units_noted-without_link c.args.self.now.content c.args.link (subst (λ (s : Seen). IsSound s.content) c.self.view_is c.self.invariant.0) _ (returns-in_default-clause-content c)
+    units_noted-without_link c.args.self.now.content c.args.link (subst (λ (s : VolumeView). IsSound s.content) c.self.view_is c.self.invariant.0) _ (returns-in_default-clause-content c)
 
 pub returns-in_default-clause-dirs : goal.returns-in_default-clause-dirs
 returns-in_default-clause-dirs c =
-    dirs_noted-without_link c.args.self.now.content c.args.link (subst (λ (s : Seen). IsSound s.content) c.self.view_is c.self.invariant.0) _ (returns-in_default-clause-content c)
+    dirs_noted-without_link c.args.self.now.content c.args.link (subst (λ (s : VolumeView). IsSound s.content) c.self.view_is c.self.invariant.0) _ (returns-in_default-clause-content c)
 
 pub returns-then-not-has_link-clause-units : goal.returns-then-not-has_link-clause-units
 returns-then-not-has_link-clause-units c =
-    units_noted-without_link c.args.self.now.content c.args.link (subst (λ (s : Seen). IsSound s.content) c.self.view_is c.self.invariant.0) _ (returns-then-not-has_link-clause-content c)
+    units_noted-without_link c.args.self.now.content c.args.link (subst (λ (s : VolumeView). IsSound s.content) c.self.view_is c.self.invariant.0) _ (returns-then-not-has_link-clause-content c)
 
 pub returns-then-not-has_link-clause-dirs : goal.returns-then-not-has_link-clause-dirs
 returns-then-not-has_link-clause-dirs c =
-    dirs_noted-without_link c.args.self.now.content c.args.link (subst (λ (s : Seen). IsSound s.content) c.self.view_is c.self.invariant.0) _ (returns-then-not-has_link-clause-content c)
+    dirs_noted-without_link c.args.self.now.content c.args.link (subst (λ (s : VolumeView). IsSound s.content) c.self.view_is c.self.invariant.0) _ (returns-then-not-has_link-clause-content c)
 
 pub returns-clause-units : goal.returns-clause-units
 returns-clause-units c =
-    units_noted-without_link c.args.self.now.content c.args.link (subst (λ (s : Seen). IsSound s.content) c.self.view_is c.self.invariant.0) _ (returns-clause-content c)
+    units_noted-without_link c.args.self.now.content c.args.link (subst (λ (s : VolumeView). IsSound s.content) c.self.view_is c.self.invariant.0) _ (returns-clause-content c)
 
 pub returns-clause-dirs : goal.returns-clause-dirs
 returns-clause-dirs c =
-    dirs_noted-without_link c.args.self.now.content c.args.link (subst (λ (s : Seen). IsSound s.content) c.self.view_is c.self.invariant.0) _ (returns-clause-content c)
+    dirs_noted-without_link c.args.self.now.content c.args.link (subst (λ (s : VolumeView). IsSound s.content) c.self.view_is c.self.invariant.0) _ (returns-clause-content c)
 
 -- what stays
 pub returns-in_default-clause-stays : goal.returns-in_default-clause-stays
 returns-in_default-clause-stays c =
-    StaysWithout-without_link c.args.self.now.content c.args.link (subst (λ (s : Seen). IsSound s.content) c.self.view_is c.self.invariant.0) c.requires.empty _ (returns-in_default-clause-content c)
+    StaysWithout-without_link c.args.self.now.content c.args.link (subst (λ (s : VolumeView). IsSound s.content) c.self.view_is c.self.invariant.0) c.requires.empty _ (returns-in_default-clause-content c)
 
 pub returns-then-not-has_link-clause-stays : goal.returns-then-not-has_link-clause-stays
 returns-then-not-has_link-clause-stays c =
-    StaysWithout-without_link c.args.self.now.content c.args.link (subst (λ (s : Seen). IsSound s.content) c.self.view_is c.self.invariant.0) c.requires.empty _ (returns-then-not-has_link-clause-content c)
+    StaysWithout-without_link c.args.self.now.content c.args.link (subst (λ (s : VolumeView). IsSound s.content) c.self.view_is c.self.invariant.0) c.requires.empty _ (returns-then-not-has_link-clause-content c)
 
 pub returns-clause-stays : goal.returns-clause-stays
 returns-clause-stays c =
-    StaysWithout-without_link c.args.self.now.content c.args.link (subst (λ (s : Seen). IsSound s.content) c.self.view_is c.self.invariant.0) c.requires.empty _ (returns-clause-content c)
+    StaysWithout-without_link c.args.self.now.content c.args.link (subst (λ (s : VolumeView). IsSound s.content) c.self.view_is c.self.invariant.0) c.requires.empty _ (returns-clause-content c)

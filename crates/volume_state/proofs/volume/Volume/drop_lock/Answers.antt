@@ -2,7 +2,7 @@ use Rattle.std.proofs.Common.{◌≡◌, Some, sym, ◌∙◌}
 use Rattle.fsa_model.specs.Edits.{is_lock_on}
 use Rattle.fsa_model.specs.Lookups.{number_of}
 use Rattle.fsa_model.proofs.SoundWaits.{IsSound-without_lock}
-use Rattle.volume_state.specs.Inside.{content_of}
+use Rattle.volume_state.specs.Content.{content_of}
 use Rattle.volume_state.proofs.ThereLaws.{held-without_lock}
 use Rattle.volume_state.proofs.volume.Volume.drop_lock.Goals as goal
 

@@ -1,5 +1,5 @@
 use Rattle.fsa_model.proofs.SoundWaits.{IsSound-without_oplock}
-use Rattle.volume_state.specs.Inside.{content_of}
+use Rattle.volume_state.specs.Content.{content_of}
 use Rattle.volume_state.proofs.GrantLaws.{held-without_oplock}
 use Rattle.volume_state.proofs.volume.Volume.drop_oplock.Goals as goal
 

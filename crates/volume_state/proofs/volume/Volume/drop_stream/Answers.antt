@@ -2,8 +2,8 @@ use Rattle.fsa_types.proofs.RowLemmas.{map-filter_seen}
 use Rattle.std.proofs.Common.{not, subst, ◌==◌, arith}
 use Rattle.fsa_model.proofs.SoundLaws.{IsSound-without_stream}
 use Rattle.fsa_model.specs.Sound.{IsSound}
-use Rattle.volume_state.specs.Inside.{content_of}
-use Rattle.volume_state.specs.Seen.{Seen}
+use Rattle.volume_state.specs.Content.{content_of}
+use Rattle.volume_state.specs.VolumeView.{VolumeView}
 use Rattle.volume_state.proofs.DropLaws.{units_noted-without_stream, dirs_noted-without_stream}
 use Rattle.volume_state.proofs.StreamLemmas.{rooms-same}
 use Rattle.volume_tables.proofs.PlaceLemmas.{row_of-without}
@@ -38,8 +38,8 @@ returns-clause-bytes c =
 
 pub returns-clause-units : goal.returns-clause-units
 returns-clause-units c =
-    units_noted-without_stream c.args.self.now.content c.args.stream (subst (λ (s : Seen). IsSound s.content) c.self.view_is c.self.invariant.0) _ (returns-clause-content c)
+    units_noted-without_stream c.args.self.now.content c.args.stream (subst (λ (s : VolumeView). IsSound s.content) c.self.view_is c.self.invariant.0) _ (returns-clause-content c)
 
 pub returns-clause-dirs : goal.returns-clause-dirs
 returns-clause-dirs c =
-    dirs_noted-without_stream c.args.self.now.content c.args.stream (subst (λ (s : Seen). IsSound s.content) c.self.view_is c.self.invariant.0) _ (returns-clause-content c)
+    dirs_noted-without_stream c.args.self.now.content c.args.stream (subst (λ (s : VolumeView). IsSound s.content) c.self.view_is c.self.invariant.0) _ (returns-clause-content c)

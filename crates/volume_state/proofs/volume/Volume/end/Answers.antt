@@ -1,6 +1,6 @@
 use Rattle.fsa_model.proofs.BreakLaws.{IsSound-with_end}
 use Rattle.volume_state.specs.Held.{is_there}
-use Rattle.volume_state.specs.Inside.{content_of}
+use Rattle.volume_state.specs.Content.{content_of}
 use Rattle.volume_state.proofs.volume.Volume.end.Goals as goal
 
 pub invariant_of-self : goal.invariant_of-self

@@ -1,7 +1,7 @@
 use Rattle.std.proofs.Common.{None, ◌∙◌, ap}
 use Rattle.std.specs.Prelude.{filter}
 use Rattle.volume_state.specs.Children.{is_unmarked}
-use Rattle.volume_state.specs.Inside.{content_of}
+use Rattle.volume_state.specs.Content.{content_of}
 use Rattle.volume_state.proofs.ChildLaws.{children-all, children-listed_all, children-lives}
 use Rattle.volume_state.proofs.volume.Volume.first_child.Goals as goal
 

@@ -1,4 +1,4 @@
-use Rattle.volume_state.specs.Inside.{content_of}
+use Rattle.volume_state.specs.Content.{content_of}
 use Rattle.volume_state.proofs.ThereLaws.{IsSound-given_up, held-given_up}
 use Rattle.volume_state.proofs.volume.Volume.give_up.Goals as goal
 

@@ -9,7 +9,7 @@ use Rattle.oplock_state.specs.declared.stream_oplocks.Grant.TheVariants as grant
 use Rattle.oplock_state.specs.declared.stream_tables.Asked.{Asked}
 use Rattle.volume_breaks.specs.Breaks.{with_calls, with_switch_told}
 use Rattle.volume_state.specs.Held.{is_there}
-use Rattle.volume_state.specs.Inside.{content_of}
+use Rattle.volume_state.specs.Content.{content_of}
 use Rattle.volume_state.specs.Room.{stream_of_handle}
 use Rattle.volume_state.proofs.GrantLaws.{IsSound-with_granted, granted-content, held-granted, none-breaking}
 use Rattle.volume_state.proofs.volume.Volume.grant_to.Goals as goal

@@ -4,7 +4,7 @@ use Rattle.fsa_model.specs.Lookups.{linked_file}
 use Rattle.fsa_model.specs.Sound.{is_of_living}
 use Rattle.fsa_model.specs.Volume.{Handle}
 use Rattle.fsa_model.proofs.RowLaws.{found-all, lent-row}
-use Rattle.volume_state.specs.Inside.{content_of}
+use Rattle.volume_state.specs.Content.{content_of}
 use Rattle.volume_state.specs.Living.{CanBeLinked}
 use Rattle.volume_state.proofs.HandleLaws.{linkable}
 use Rattle.volume_state.proofs.OpenLaws.{lent-lives}

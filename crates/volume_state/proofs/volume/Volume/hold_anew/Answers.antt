@@ -1,6 +1,6 @@
 use Rattle.fsa_model.proofs.SoundWaits.{IsSound-with_blockers}
 use Rattle.volume_state.specs.Held.{is_there}
-use Rattle.volume_state.specs.Inside.{content_of}
+use Rattle.volume_state.specs.Content.{content_of}
 use Rattle.volume_state.proofs.ThereLaws.{all-given, all-there, found-held, queue-held}
 use Rattle.volume_state.proofs.volume.Volume.hold_anew.Goals as goal
 

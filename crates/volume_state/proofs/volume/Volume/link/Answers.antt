@@ -5,7 +5,7 @@ use Rattle.fsa_model.specs.Sound.{LeadsUp}
 use Rattle.fsa_model.specs.Volume.{Link}
 use Rattle.fsa_model.proofs.RowLaws.{found-all, lent-row}
 use Rattle.fsa_model.proofs.SoundLaws.{LeadsUp-file}
-use Rattle.volume_state.specs.Inside.{content_of}
+use Rattle.volume_state.specs.Content.{content_of}
 use Rattle.volume_state.specs.Living.{is_link_to}
 use Rattle.volume_state.proofs.OpenLaws.{lent-lives, linked, one-mark}
 use Rattle.fsa_model.specs.Lookups.{has_child}

@@ -1,5 +1,5 @@
 use Rattle.fsa_model.proofs.SoundLaws.{IsSound-with_link_marked}
-use Rattle.volume_state.specs.Inside.{content_of}
+use Rattle.volume_state.specs.Content.{content_of}
 use Rattle.volume_state.proofs.MarkLaws.{units_noted-link_marked, dirs_noted-link_marked}
 use Rattle.volume_state.proofs.volume.Volume.mark_link.Goals as goal
 

@@ -1,5 +1,5 @@
 use Rattle.fsa_model.proofs.MoveLaws.{IsSound-moved, free-named}
-use Rattle.volume_state.specs.Inside.{content_of}
+use Rattle.volume_state.specs.Content.{content_of}
 use Rattle.volume_state.proofs.MovedLaws.{units_noted-moved, dirs_noted-moved}
 use Rattle.volume_state.proofs.volume.Volume.move_link.Goals as goal
 

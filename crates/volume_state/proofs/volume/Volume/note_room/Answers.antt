@@ -3,7 +3,7 @@ use Rattle.fsa_types.specs.Rows.{row_of}
 use Rattle.fsa_types.proofs.RowLemmas.{length-numbered}
 use Rattle.fsa_model.specs.Changes.{units_noted, dirs_noted}
 use Rattle.fsa_model.specs.Volume.{Link}
-use Rattle.volume_state.specs.Inside.{content_of}
+use Rattle.volume_state.specs.Content.{content_of}
 use Rattle.volume_state.specs.Paths.{units_above, dirs_above}
 use Rattle.volume_state.specs.declared.room.NoteRoom.{NoteRoom}
 use Rattle.volume_state.proofs.OpenLaws.{IfSome-map, IfNone-map, units_noted-found, dirs_noted-found}

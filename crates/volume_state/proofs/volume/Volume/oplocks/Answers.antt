@@ -1,5 +1,5 @@
 use Rattle.fsa_model.proofs.BreakLaws.{told-few, awaited-few}
-use Rattle.volume_state.specs.Inside.{content_of}
+use Rattle.volume_state.specs.Content.{content_of}
 use Rattle.volume_state.proofs.GrantLaws.{switched-few}
 use Rattle.volume_state.proofs.volume.Volume.oplocks.Goals as goal
 

@@ -1,7 +1,7 @@
 use Rattle.fsa_model.proofs.RowLaws.{none-all}
 use Rattle.fsa_model.proofs.SoundWaits.{IsSound-with_pending}
 use Rattle.volume_state.specs.Held.{is_there}
-use Rattle.volume_state.specs.Inside.{content_of}
+use Rattle.volume_state.specs.Content.{content_of}
 use Rattle.volume_state.proofs.ThereLaws.{all-given, all-there}
 use Rattle.volume_state.proofs.volume.Volume.pend.Goals as goal
 

@@ -4,7 +4,7 @@ use Rattle.fsa_types.specs.Rows.{row_of}
 use Rattle.fsa_types.specs.declared.request.Call.{Call}
 use Rattle.fsa_model.specs.Volume.{Pending}
 use Rattle.fsa_model.proofs.RowLaws.{found-all, lent-row}
-use Rattle.volume_state.specs.Inside.{content_of}
+use Rattle.volume_state.specs.Content.{content_of}
 use Rattle.volume_state.proofs.PendingLaws.{IfSome-map, lent-living}
 use Rattle.volume_state.proofs.volume.Volume.pending.Goals as goal
 

@@ -3,8 +3,8 @@ use Rattle.fsa_types.specs.Rows.{row_of}
 use Rattle.fsa_types.specs.StreamBytes.{put}
 use Rattle.fsa_model.proofs.SoundLaws.{IsSound-stream_changed}
 use Rattle.fsa_model.specs.Volume.{Stream}
-use Rattle.volume_state.specs.Inside.{content_of}
-use Rattle.volume_rows.specs.Streams.{Kept}
+use Rattle.volume_state.specs.Content.{content_of}
+use Rattle.volume_rows.specs.Streams.{StreamRowView}
 use Rattle.volume_state.proofs.StreamLemmas.{room-down, IfSome-weaker, length-put_le}
 use Rattle.volume_state.proofs.StreamLemmas.{rooms-same}
 use Rattle.volume_state.proofs.TallyLaws.{clusters_at-few, may-resize_stream, tallied-changed}
@@ -12,7 +12,7 @@ use Rattle.volume_state.proofs.volume.Volume.put_bytes.Goals as goal
 
 pub put_in-requires : goal.put_in-requires
 put_in-requires c =
-    IfSome-weaker (λ (row : Kept). (row.room.from ≤ c.args.at) × (c.args.at + length c.args.bytes.now ≤ row.room.to)) (λ (row : Kept). c.args.at + length c.args.bytes.now ≤ row.room.to)
+    IfSome-weaker (λ (row : StreamRowView). (row.room.from ≤ c.args.at) × (c.args.at + length c.args.bytes.now ≤ row.room.to)) (λ (row : StreamRowView). c.args.at + length c.args.bytes.now ≤ row.room.to)
     (row_of c.self.inside.streams.rows c.args.stream) (λ row both. both.1)
     (room-down (λ room. (room.from ≤ c.args.at) × (c.args.at + length c.args.bytes.now ≤ room.to)) c.self.inside.streams.rows c.args.stream (rw (← c.self.view_is) at c.requires.room))
 

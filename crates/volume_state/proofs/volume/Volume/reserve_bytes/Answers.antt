@@ -1,6 +1,6 @@
 use Rattle.std.proofs.Common.{◌+◌, ◌≤◌, ◌≡◌, arith, sym, ◌∙◌}
 use Rattle.fsa_types.specs.Rows.{row_of}
-use Rattle.volume_rows.specs.Streams.{Kept}
+use Rattle.volume_rows.specs.Streams.{StreamRowView}
 use Rattle.fsa_types.proofs.RowLemmas.{lives-map}
 use Rattle.volume_state.proofs.StreamLemmas.{room-up, IfSome-weaker, OnOk-weaker}
 use Rattle.volume_state.proofs.StreamLemmas.{rooms-same}
@@ -21,7 +21,7 @@ pub returns-clause-room : goal.returns-clause-room
 returns-clause-room c =
     OnOk-weaker _ _ c.reserve_in.result
     (λ reserved. room-up (λ room. (room.from ≤ c.args.at) × (c.args.at + c.args.count ≤ room.to)) c.reserve_in.new.streams.rows c.args.stream
-    (IfSome-weaker (λ (row : Kept). (row.room.from ≡ 0) × (c.args.at + c.args.count ≤ row.room.to)) (λ (row : Kept). (row.room.from ≤ c.args.at) × (c.args.at + c.args.count ≤ row.room.to))
+    (IfSome-weaker (λ (row : StreamRowView). (row.room.from ≡ 0) × (c.args.at + c.args.count ≤ row.room.to)) (λ (row : StreamRowView). (row.room.from ≤ c.args.at) × (c.args.at + c.args.count ≤ row.room.to))
     (row_of c.reserve_in.new.streams.rows c.args.stream) (λ row both. let none = both.0 in (omega arith, both.1)) reserved))
     c.reserve_in.ensures.reserved
 
@@ -29,7 +29,7 @@ pub returns-clause-reach : goal.returns-clause-reach
 returns-clause-reach c =
     OnOk-weaker _ _ c.reserve_in.result
     (λ reserved. room-up (λ room. c.args.at + c.args.count ≤ room.to) c.reserve_in.new.streams.rows c.args.stream
-    (IfSome-weaker (λ (row : Kept). (row.room.from ≡ 0) × (c.args.at + c.args.count ≤ row.room.to)) (λ (row : Kept). c.args.at + c.args.count ≤ row.room.to)
+    (IfSome-weaker (λ (row : StreamRowView). (row.room.from ≡ 0) × (c.args.at + c.args.count ≤ row.room.to)) (λ (row : StreamRowView). c.args.at + c.args.count ≤ row.room.to)
     (row_of c.reserve_in.new.streams.rows c.args.stream) (λ row both. both.1) reserved))
     c.reserve_in.ensures.reserved
 

@@ -1,7 +1,7 @@
 use Rattle.std.proofs.Common.{refl}
 use Rattle.fsa_model.proofs.SoundWaits.{IsSound-with_cursor}
 use Rattle.volume_rows.specs.Cursors.{cursor_of}
-use Rattle.volume_state.specs.Inside.{content_of}
+use Rattle.volume_state.specs.Content.{content_of}
 use Rattle.volume_state.proofs.SortedLaws.{sorted-changed}
 use Rattle.volume_state.proofs.volume.Volume.set_cursor.Goals as goal
 

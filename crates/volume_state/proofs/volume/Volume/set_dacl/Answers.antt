@@ -1,7 +1,7 @@
 use Rattle.std.proofs.Common.{refl}
 use Rattle.std.specs.Prelude.{option_map}
 use Rattle.fsa_model.proofs.SoundLaws.{IsSound-file_changed}
-use Rattle.volume_state.specs.Inside.{content_of}
+use Rattle.volume_state.specs.Content.{content_of}
 use Rattle.volume_state.proofs.TallyLaws.{tallied-file_changed}
 use Rattle.volume_state.proofs.volume.Volume.set_dacl.Goals as goal
 

@@ -5,7 +5,7 @@ use Rattle.fsa_types.proofs.RowLemmas.{row_of-map}
 use Rattle.fsa_model.proofs.RowLaws.{option_cases}
 use Rattle.fsa_model.proofs.SoundLaws.{IsSound-stream_changed}
 use Rattle.fsa_model.specs.Volume.{Stream}
-use Rattle.volume_state.specs.Inside.{content_of}
+use Rattle.volume_state.specs.Content.{content_of}
 use Rattle.volume_state.proofs.StreamLemmas.{room-down, IfSome-weaker, length-cut}
 use Rattle.volume_state.proofs.StreamLemmas.{rooms-same}
 use Rattle.volume_state.proofs.TallyLaws.{clusters_at-few, may-resize_stream, tallied-changed}

@@ -1,5 +1,5 @@
 use Rattle.fsa_model.proofs.SoundWaits.{IsSound-with_limit}
-use Rattle.volume_state.specs.Inside.{content_of}
+use Rattle.volume_state.specs.Content.{content_of}
 use Rattle.volume_state.proofs.volume.Volume.set_limit.Goals as goal
 
 pub invariant_of-self : goal.invariant_of-self

@@ -1,6 +1,6 @@
 use Rattle.std.proofs.Common.{refl, arith}
 use Rattle.fsa_model.proofs.SoundLaws.{IsSound-file_changed}
-use Rattle.volume_state.specs.Inside.{content_of}
+use Rattle.volume_state.specs.Content.{content_of}
 use Rattle.volume_state.proofs.TallyLaws.{clusters-few, may-pass, may-resize_file, tallied-admitted, tallied-owner_changed}
 use Rattle.volume_state.proofs.volume.Volume.set_owner.Goals as goal
 

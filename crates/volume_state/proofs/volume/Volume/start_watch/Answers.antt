@@ -1,6 +1,6 @@
 use Rattle.std.specs.Prelude.{◌==◌}
 use Rattle.fsa_model.proofs.SoundWaits.{IsSound-with_watch}
-use Rattle.volume_state.specs.Inside.{content_of}
+use Rattle.volume_state.specs.Content.{content_of}
 use Rattle.volume_state.proofs.WatchLaws.{none-passes}
 use Rattle.volume_state.proofs.volume.Volume.start_watch.Goals as goal
 

@@ -1,4 +1,4 @@
-use Rattle.volume_state.specs.Inside.{content_of}
+use Rattle.volume_state.specs.Content.{content_of}
 use Rattle.volume_state.proofs.OrderLaws.{stream_after-kept, stream_after-lives, stream_after-none, stream_after-rest}
 use Rattle.volume_state.proofs.volume.Volume.stream_after.Goals as goal
 

@@ -1,6 +1,6 @@
 use Rattle.fsa_model.specs.Lookups.{is_stream_named}
 use Rattle.fsa_model.proofs.RowLaws.{number_of-map}
-use Rattle.volume_state.specs.Inside.{content_of}
+use Rattle.volume_state.specs.Content.{content_of}
 use Rattle.volume_state.proofs.OpenLaws.{number-lives, found-of_link}
 use Rattle.volume_state.proofs.volume.Volume.stream_of.Goals as goal
 

@@ -1,4 +1,4 @@
-use Rattle.volume_state.specs.Inside.{content_of}
+use Rattle.volume_state.specs.Content.{content_of}
 use Rattle.volume_state.proofs.WatchLaws.{IsSound-with_watch_seen}
 use Rattle.volume_state.proofs.volume.Volume.take_report.Goals as goal
 

@@ -19,7 +19,7 @@ use Rattle.fsa_model.specs.Volume.{Volume}
 use Rattle.fsa_machine.specs.Serves.{Serves, most_entries}
 
 -- what contracts see of a machine
-pub record Seen : Type 0 where
+pub record MachineView : Type 0 where
   pub setup : Setup
   pub entries : List HistoryEntry
   -- for how many turns to come there is room
@@ -38,7 +38,7 @@ abbrev pub CallsNumbered : List HistoryEntry → Type 0
 CallsNumbered entries = (client number : ℕ) → how_many (is_entry_of client number) entries ≡ cond (nat_lt 0 number && nat_le number (calls_of client (calls_in entries))) 1 0
 
 -- the volume is that of the run of these turns, which gave out this
-pub record Stands (setup : Setup) (entries : List HistoryEntry) (outs : List TurnOut) (v : Volume) : Type 0 where
+pub record RunsTo (setup : Setup) (entries : List HistoryEntry) (outs : List TurnOut) (v : Volume) : Type 0 where
   pub state : Run
   pub runs : run setup entries ≡ Some state
   pub is : state.volume ≡ v

@@ -49,7 +49,7 @@ CanWrite spare stream at count =
 abbrev pub CanReach : Spare → ℕ → ℕ → Type 0
 CanReach spare stream length = ForSome (row_of spare.bytes stream) (λ room. length ≤ room.to)
 
-pub record Seen : Type 0 where
+pub record VolumeView : Type 0 where
   pub content : Volume
   pub beside : Beside
   pub spare : Spare

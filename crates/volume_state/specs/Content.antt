@@ -2,7 +2,7 @@
 use Rattle.std.specs.Prelude.{map}
 use Rattle.fsa_model.specs.Setup.{client_of}
 use Rattle.fsa_model.specs.Volume.{Volume}
-use Rattle.volume_state.specs.Seen.{Beside, Spare}
+use Rattle.volume_state.specs.VolumeView.{Beside, Spare}
 use Rattle.volume_state.specs.declared.volume.Volume.TheInside.{Inside}
 
 abbrev pub content_of : Inside → Volume
