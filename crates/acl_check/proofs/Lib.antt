@@ -1,3 +1,4 @@
+mod AccessExamples
 pub mod BitLemmas
 pub mod FirstEntryLemmas
 pub mod GenericLemmas

@@ -2,14 +2,19 @@
 
 ghost use Rattle.std.specs.Prelude.{◌≡◌, ◌↔◌, IsSome, Some, List, ◌∷◌, ◌++◌};
 ghost use Rattle.std.specs.Option.{option_copied};
-ghost use Rattle.fsa_types.specs.Access.{asked_of_list, check, entries_for, entries_of, walk_denies, without};
+ghost use Rattle.fsa_types.specs.Access.{asked_of_list, check, entries_for, entries_of, owner_rights, walk_denies, without};
 ghost use Rattle.fsa_types.specs.declared.request.Ace.{Ace};
 ghost use Rattle.acl_check.specs.FirstEntry.{ListAllows, NameEach};
 
-use fsa_types::{Ace, Dacl};
+use bitflags::Flags;
+use fsa_types::{AccessMask, Ace, Dacl};
 
 // READ_CONTROL and WRITE_DAC, which an owner has without the list.
-const OWNER_RIGHTS: u32 = 0x2_0000 | 0x4_0000;
+fn owner_rights() -> u32
+    ensures { result ≡ owner_rights }
+{
+    AccessMask::READ_CONTROL.bits() | AccessMask::WRITE_DAC.bits()
+}
 
 /// Whether a client with these SIDs has all the rights that are `wanted` on a file of this owner
 /// and with this access list: `wanted`, or `None` exactly where some of them are denied, after
@@ -48,7 +53,7 @@ fn asked_of_list(owner: u32, sids: &[u32], wanted: u32) -> u32
     ensures { result ≡ asked_of_list owner sids.now wanted }
 {
     if sids.contains(&owner) {
-        without(wanted, OWNER_RIGHTS)
+        without(wanted, owner_rights())
     } else {
         wanted
     }

@@ -24,8 +24,6 @@
 
 mod access;
 mod generic;
-#[cfg(test)]
-mod tests;
 
 pub use access::check;
 pub use generic::map_generic;

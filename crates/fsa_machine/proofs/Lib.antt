@@ -1,10 +1,12 @@
 pub mod DueLaws
 pub mod LookLaws
 pub mod ReadyLaws
+pub mod ReleasedLaws
 pub mod ServeLaws
 pub mod SpareLaws
 pub mod StallLaws
 pub mod StandLaws
 pub mod StepLaws
 pub mod TellLaws
+pub mod TrimLaws
 pub mod WaitingLaws

@@ -1,4 +1,4 @@
--- What a machine is seen as: a setup, the history of its turns, and the room for turns to come.
+-- What a machine is seen as: a setup, the history of its turns, the room for turns to come, and where its log begins.
 use Rattle.std.specs.Prelude.{◌≡◌, ℕ, ◌≤◌, ◌&&◌, nat_le, nat_lt, cond, Bool, true, false, List, [], ◌∷◌, ◌++◌, length, map, Result, Ok, Err, Option, Some, find, option_map}
 use Rattle.std.specs.List.{list_any}
 use Rattle.fsa_types.specs.declared.reply.Body.{Body}
@@ -24,6 +24,8 @@ pub record MachineView : Type 0 where
   pub entries : List HistoryEntry
   -- for how many turns to come there is room
   pub spare_turns : ℕ
+  -- the place of the first change that is kept, of all that were noted
+  pub log_base : ℕ
 
 -- what no turn changes of the volume is its setup
 abbrev pub setup_in : Volume → Setup

@@ -2,11 +2,13 @@
 
 ghost use Rattle.std.specs.Prelude.{◌≡◌, ◌≤◌, ◌<◌, ◌+◌, ◌++◌, ◌∷◌, [], true, false, length, map, Some, IfErr, IfNone, IfOk, IfSome, IsOk, OnErr, OnOk, OnSome};
 ghost use Rattle.std.specs.Vec.{vec_capacity, vec_len};
+ghost use Rattle.fsa_model.specs.Engine.{own_tried};
 ghost use Rattle.fsa_model.specs.Once.{made, times};
 ghost use Rattle.fsa_model.specs.Outcome.{out_of};
 ghost use Rattle.fsa_model.specs.Settling.{MayTurn};
 ghost use Rattle.fsa_model.specs.Turn.{turn};
 ghost use Rattle.fsa_machine.specs.Kept.{entry_of, out_kept};
+ghost use Rattle.fsa_machine.specs.Released.{how_many_let_go};
 ghost use Rattle.fsa_machine.specs.Serves.{MayTry, Serves, ServesOn, most_entries};
 ghost use Rattle.fsa_machine.specs.Spare.{AreSpare, HasLists, is_ack_or_cancel};
 ghost use Rattle.fsa_machine.specs.Step.{HasReplyRoom};
@@ -14,10 +16,12 @@ ghost use Rattle.fsa_machine.specs.Step.{HasReplyRoom};
 use crate::kept::KeptTurn;
 use crate::machine::MOST_ENTRIES;
 use crate::spare::SpareRooms;
+use crate::steps::Steps;
 use crate::store::Store;
 use crate::turns::{TurnRoom, take_room, turn_in_room};
 use fsa_types::{Call, NoMemory, Out, Request, TryCopy, What};
 use std::alloc::Global;
+use std::sync::ledger::Ledger;
 
 // Takes what is kept of a turn before it: room for it, and a copy of its call.
 fn take_entry(alloc: Global, kept: &mut Vec<KeptTurn>, call: &Call) -> Result<Call, NoMemory>
@@ -53,13 +57,14 @@ fn short_copy(call: &Call) -> Option<Call>
 }
 
 // Makes a turn in its room, and keeps it beside the copy of its call, for which there is room.
-fn keep_in_room<S: Store>(
+fn keep_in_room<S: Store, L: Ledger>(
     alloc: Global,
     store: &mut S,
     kept: &mut Vec<KeptTurn>,
     call: Call,
     copy: Call,
     room: TurnRoom,
+    steps: &mut Steps<L>,
 ) -> Result<Out, (Call, NoMemory)>
     requires serves { Serves (S.content store.old) }
     requires may_try { MayTry (S.content store.old) call }
@@ -85,8 +90,10 @@ fn keep_in_room<S: Store>(
     ensures len_kept { OnErr result (vec_len kept.new ≡ vec_len kept.old) }
     ensures capacity { vec_capacity kept.old ≤ vec_capacity kept.new }
     ensures err { IfErr result (λ back. (S.content store.new ≡ S.content store.old) × (kept.new.items ≡ kept.old.items) × (back.0 ≡ call)) }
+    ensures tries { steps.new ≤ steps.old + (1 + how_many_let_go (own_tried (S.content store.old) call)) }
+    ensures rises { steps.old ≤ steps.new }
 {
-    let (given, out) = turn_in_room(alloc, store, call, room)?;
+    let (given, out) = turn_in_room(alloc, store, call, room, steps)?;
     let Ok(()) = kept.push(KeptTurn { call: copy, out }) else {
         unreachable!()
     };
@@ -94,11 +101,12 @@ fn keep_in_room<S: Store>(
 }
 
 // Makes a turn in new room, and keeps it.
-fn keep_new<S: Store>(
+fn keep_new<S: Store, L: Ledger>(
     alloc: Global,
     store: &mut S,
     kept: &mut Vec<KeptTurn>,
     call: Call,
+    steps: &mut Steps<L>,
 ) -> Result<Out, (Call, NoMemory)>
     requires serves { Serves (S.content store.old) }
     requires may_try { MayTry (S.content store.old) call }
@@ -118,6 +126,8 @@ fn keep_new<S: Store>(
     ensures len_kept { OnErr result (vec_len kept.new ≡ vec_len kept.old) }
     ensures capacity { vec_capacity kept.old ≤ vec_capacity kept.new }
     ensures err { IfErr result (λ back. (S.content store.new ≡ S.content store.old) × (kept.new.items ≡ kept.old.items) × (back.0 ≡ call)) }
+    ensures tries { steps.new ≤ steps.old + (1 + how_many_let_go (own_tried (S.content store.old) call)) }
+    ensures rises { steps.old ≤ steps.new }
 {
     let Ok(copy) = take_entry(alloc, kept, &call) else {
         return Err((call, NoMemory));
@@ -125,17 +135,18 @@ fn keep_new<S: Store>(
     let Ok(room) = take_room(alloc, store, &call) else {
         return Err((call, NoMemory));
     };
-    keep_in_room(alloc, store, kept, call, copy, room)
+    keep_in_room(alloc, store, kept, call, copy, room, steps)
 }
 
 // Makes a turn of an Ack or a Cancel in the room of a turn to come, and keeps it. It takes no memory.
-fn keep_spare<S: Store>(
+fn keep_spare<S: Store, L: Ledger>(
     alloc: Global,
     store: &mut S,
     kept: &mut Vec<KeptTurn>,
     call: Call,
     copy: Call,
     room: TurnRoom,
+    steps: &mut Steps<L>,
 ) -> Out
     requires serves { Serves (S.content store.old) }
     requires may_try { MayTry (S.content store.old) call }
@@ -158,8 +169,10 @@ fn keep_spare<S: Store>(
     ensures outs { map out_kept kept.new.items ≡ map out_kept kept.old.items ++ out_of result ∷ [] }
     ensures len { vec_len kept.new ≡ vec_len kept.old + 1 }
     ensures capacity { vec_capacity kept.old ≤ vec_capacity kept.new }
+    ensures tries { steps.new ≤ steps.old + (1 + how_many_let_go (own_tried (S.content store.old) call)) }
+    ensures rises { steps.old ≤ steps.new }
 {
-    let Ok(out) = keep_in_room(alloc, store, kept, call, copy, room) else {
+    let Ok(out) = keep_in_room(alloc, store, kept, call, copy, room, steps) else {
         unreachable!()
     };
     out
@@ -186,13 +199,15 @@ fn take_spare(spare: &mut SpareRooms, call: &Call) -> Option<(Call, TurnRoom)>
 }
 
 /// Makes a turn, and keeps it. An Ack or a Cancel is made in the room of a turn to come, where there is one, and
-/// takes no memory then. A turn that is made uses that of one turn at most, and one that is refused none.
-pub fn keep_turn<S: Store>(
+/// takes no memory then. A turn that is made uses that of one turn at most, and one that is refused none. Each try
+/// is one step.
+pub fn keep_turn<S: Store, L: Ledger>(
     alloc: Global,
     store: &mut S,
     kept: &mut Vec<KeptTurn>,
     spare: &mut SpareRooms,
     call: Call,
+    steps: &mut Steps<L>,
 ) -> Result<Out, (Call, NoMemory)>
     requires serves { Serves (S.content store.old) }
     requires may_try { MayTry (S.content store.old) call }
@@ -209,11 +224,13 @@ pub fn keep_turn<S: Store>(
     ensures spare_turns { spare.old.turns ≤ spare.new.turns + 1 }
     ensures memory { is_ack_or_cancel call.what ≡ true → 1 ≤ spare.old.turns → IsOk result }
     ensures err { IfErr result (λ back. (S.content store.new ≡ S.content store.old) × (kept.new.items ≡ kept.old.items) × (spare.new ≡ spare.old) × (back.0 ≡ call)) }
+    ensures tries { steps.new ≤ steps.old + (1 + how_many_let_go (own_tried (S.content store.old) call)) }
+    ensures rises { steps.old ≤ steps.new }
 {
     match take_spare(spare, &call) {
-        Some((copy, room)) => Ok(keep_spare(alloc, store, kept, call, copy, room)),
+        Some((copy, room)) => Ok(keep_spare(alloc, store, kept, call, copy, room, steps)),
         None => {
-            let out = keep_new(alloc, store, kept, call)?;
+            let out = keep_new(alloc, store, kept, call, steps)?;
             spare.drop_one();
             Ok(out)
         }
@@ -232,6 +249,7 @@ pub fn reserve_turns<S: Store>(
     requires few { length (S.content store.old).pending ≤ most_entries }
     requires spare { AreSpare (S.content store.old) (S.spare_ends store.old) (S.spare_pending store.old) (vec_len kept.old) (vec_capacity kept.old) spare.old }
     ensures content { S.content store.new ≡ S.content store.old }
+    ensures base { S.log_base store.new ≡ S.log_base store.old }
     ensures kept { kept.new.items ≡ kept.old.items }
     ensures spare { AreSpare (S.content store.new) (S.spare_ends store.new) (S.spare_pending store.new) (vec_len kept.new) (vec_capacity kept.new) spare.new }
     ensures turns { OnOk result (turns ≤ spare.new.turns) }

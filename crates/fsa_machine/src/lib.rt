@@ -9,9 +9,9 @@
 //! }
 //! ```
 //!
-//! A machine is seen as its setup, the list of its entries, and for how many turns to come it has room. Its
-//! volume is that of the run of its entries, and what it keeps of each turn is what that turn of the run gave
-//! out; no call goes over the history again.
+//! A machine is seen as its setup, the list of its entries, for how many turns to come it has room, and where its
+//! log of changes begins. Its volume is that of the run of its entries, and what it keeps of each turn is what that
+//! turn of the run gave out; no call goes over the history again.
 //!
 //! - A turn (`turns`) takes its room, tries its own call (`own`), and settles what is pending (`settle`). The
 //!   definitions are `Turn` and `Settle` of `fsa_model`. What a turn gives out it makes twice (`ends`,
@@ -24,13 +24,17 @@
 //! - `reserve` takes room for turns to come (`spare`): an entry, an end for each call that can be pending by
 //!   then, room for a pending call, and the lists of what a turn gives out. A turn of an Ack or a Cancel is made
 //!   in such room where there is any (`keeping`), and can't be refused for memory then.
+//! - `turn_counted` is a turn whose tries are counted by a `Steps`. A turn tries its own call, and each held call
+//!   that this lets go; no other.
+//! - After each turn, made or refused, the log of changes is trimmed (`trimming`): it keeps the changes from the least
+//!   place on from which a watch is due, and none where there is no watch.
 //! - What is true of the volume between tries is `Serves`; from it follows what each try asks (`MayTry`). It
 //!   says that each handle was opened by a call that has ended, that each pending call is one that a line
 //!   can ask and waits for no call that wasn't made, that few numbers were given, and that no more breaks
 //!   were begun, or can come of the oplocks that are there, than calls were made.
 //! - What a turn needs of a volume is the trait `Store`.
-//! - A turn costs its tries, a look at the pending calls for each call that is taken up, and a copy of what it
-//!   gives out. A look at how a call ended goes over the ends.
+//! - A turn costs its tries, a look at the pending calls for each call that is taken up, one at each watch, and a copy
+//!   of what it gives out. A look at how a call ended goes over the ends.
 #![tactic(auto)]
 
 mod ends;
@@ -43,13 +47,16 @@ mod replies;
 mod serving;
 mod settle;
 mod spare;
+mod steps;
 mod store;
 mod stored;
+mod trimming;
 mod turns;
 mod volume_machine;
 mod waiting;
 
 pub use machine::{MOST_ENTRIES, Machine};
 pub use serving::try_call;
+pub use steps::Steps;
 pub use store::{Ready, Report, Store};
 pub use volume_machine::VolumeMachine;

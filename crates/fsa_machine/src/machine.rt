@@ -13,18 +13,23 @@ ghost use Rattle.fsa_model.specs.Volume.{fresh};
 ghost use Rattle.fsa_model.specs.Waiting.{is_pending, waits};
 ghost use Rattle.fsa_model.specs.Watched.{WatchesReport};
 ghost use Rattle.fsa_machine.specs.Kept.{entry_of, out_kept};
+ghost use Rattle.fsa_machine.specs.Released.{how_many_released};
 ghost use Rattle.fsa_machine.specs.Serves.{most_entries};
 ghost use Rattle.fsa_machine.specs.Spare.{AreSpare, is_ack_or_cancel};
+ghost use Rattle.fsa_machine.specs.Trimmed.{trimmed_base};
 ghost use Rattle.fsa_machine.specs.MachineView.{GaveOut, RunsTo, calls_in, ended_with_list, is_full, reply_in, setup_in};
 
-use crate::keeping::{keep_turn, reserve_turns};
+use crate::keeping::reserve_turns;
 use crate::kept::KeptTurn;
 use crate::look::reply_from;
 use crate::spare::SpareRooms;
+use crate::steps::Steps;
 use crate::store::Store;
+use crate::trimming::keep_trimmed;
 use fsa_types::{Call, NoMemory, Out, Reply, Why};
 use std::alloc::Global;
-use std::marker::Model;
+use std::marker::{Brand, Model};
+use std::sync::ledger::{Blank, Ledger};
 
 /// The most entries of a history.
 pub const MOST_ENTRIES: usize = 1_000_000;
@@ -38,32 +43,36 @@ pub struct Machine<S: Store> {
 }
 
 impl<S: Store> Model for Machine<S> {
-    ghost use Rattle.std.specs.Prelude.{map};
+    ghost use Rattle.std.specs.Prelude.{◌≡◌, map};
     ghost use Rattle.fsa_machine.specs.Kept.{entry_of, out_kept};
     ghost use Rattle.std.specs.Vec.{vec_capacity, vec_len};
     ghost use Rattle.fsa_machine.specs.Spare.{AreSpare};
+    ghost use Rattle.fsa_machine.specs.Trimmed.{trimmed_base};
     ghost use Rattle.fsa_machine.specs.MachineView.{MachineView, RunsTo, setup_in};
 
     ghost Value = { MachineView };
 
-    ghost view = { λ m. record { setup = setup_in (S.content m.store); entries = map entry_of m.kept.items; spare_turns = m.spare.turns } };
+    ghost view = { λ m. record { setup = setup_in (S.content m.store); entries = map entry_of m.kept.items; spare_turns = m.spare.turns; log_base = S.log_base m.store } };
 
     ghost invariant = { λ m. RunsTo (setup_in (S.content m.store)) (map entry_of m.kept.items) (map out_kept m.kept.items) (S.content m.store)
-        × AreSpare (S.content m.store) (S.spare_ends m.store) (S.spare_pending m.store) (vec_len m.kept) (vec_capacity m.kept) m.spare };
+        × AreSpare (S.content m.store) (S.spare_ends m.store) (S.spare_pending m.store) (vec_len m.kept) (vec_capacity m.kept) m.spare
+        × (S.log_base m.store ≡ trimmed_base (S.content m.store)) };
 }
 
-// Makes a turn of the client's next call, and keeps it, unless the history is full.
-fn turn_of<S: Store>(
+// Makes a turn of the client's next call, and keeps it, unless the history is full. Each try is one step.
+fn turn_of<S: Store, L: Ledger>(
     alloc: Global,
     store: &mut S,
     kept: &mut Vec<KeptTurn>,
     spare: &mut SpareRooms,
     call: Call,
+    steps: &mut Steps<L>,
 ) -> Result<Out, (Call, Why)>
     requires stands { RunsTo (setup_in (S.content store.old)) (map entry_of kept.old.items) (map out_kept kept.old.items) (S.content store.old) }
     requires asked { IsLineCall (length (S.content store.old).clients) call }
     requires number { call.number ≡ calls_of call.client (calls_in (map entry_of kept.old.items)) + 1 }
     requires spare { AreSpare (S.content store.old) (S.spare_ends store.old) (S.spare_pending store.old) (vec_len kept.old) (vec_capacity kept.old) spare.old }
+    requires trimmed { S.log_base store.old ≡ trimmed_base (S.content store.old) }
     ensures stands { RunsTo (setup_in (S.content store.new)) (map entry_of kept.new.items) (map out_kept kept.new.items) (S.content store.new) }
     ensures setup { setup_in (S.content store.new) ≡ setup_in (S.content store.old) }
     ensures entries { IfOk result (λ out. map entry_of kept.new.items ≡ map entry_of kept.old.items ++ record { call = call; starved = out.starved.items } ∷ []) }
@@ -71,25 +80,61 @@ fn turn_of<S: Store>(
     ensures full { is_full result ≡ (length kept.old.items == most_entries) }
     ensures spare { AreSpare (S.content store.new) (S.spare_ends store.new) (S.spare_pending store.new) (vec_len kept.new) (vec_capacity kept.new) spare.new }
     ensures spare_turns { spare.old.turns ≤ spare.new.turns + 1 }
+    ensures trimmed { S.log_base store.new ≡ trimmed_base (S.content store.new) }
     ensures memory { is_ack_or_cancel call.what ≡ true → 1 ≤ spare.old.turns → OnErr result (is_full result ≡ true) }
-    ensures err { IfErr result (λ back. (S.content store.new ≡ S.content store.old) × (kept.new.items ≡ kept.old.items) × (spare.new ≡ spare.old) × (back.0 ≡ call)) }
+    ensures err { IfErr result (λ back. (S.content store.new ≡ S.content store.old) × (S.log_base store.new ≡ S.log_base store.old) × (kept.new.items ≡ kept.old.items) × (spare.new ≡ spare.old) × (back.0 ≡ call)) }
+    ensures tries { (r : Run) → run (setup_in (S.content store.old)) (map entry_of kept.old.items) ≡ Some r → steps.new ≤ steps.old + (1 + how_many_released r.volume call) }
+    ensures rises { steps.old ≤ steps.new }
 {
     if kept.as_slice().len() == MOST_ENTRIES {
         return Err((call, Why::HistoryFull));
     }
-    match keep_turn(alloc, store, kept, spare, call) {
+    match keep_trimmed(alloc, store, kept, spare, call, steps) {
         Ok(out) => Ok(out),
         Err((call, NoMemory)) => Err((call, Why::NoMemory)),
     }
 }
 
+// The same with a counter of its own, over the ledger that the blank opens.
+fn turn_uncounted<S: Store, L: Ledger>(
+    alloc: Global,
+    store: &mut S,
+    kept: &mut Vec<KeptTurn>,
+    spare: &mut SpareRooms,
+    call: Call,
+    blank: Blank,
+) -> Result<Out, (Call, Why)>
+    requires stands { RunsTo (setup_in (S.content store.old)) (map entry_of kept.old.items) (map out_kept kept.old.items) (S.content store.old) }
+    requires asked { IsLineCall (length (S.content store.old).clients) call }
+    requires number { call.number ≡ calls_of call.client (calls_in (map entry_of kept.old.items)) + 1 }
+    requires spare { AreSpare (S.content store.old) (S.spare_ends store.old) (S.spare_pending store.old) (vec_len kept.old) (vec_capacity kept.old) spare.old }
+    requires trimmed { S.log_base store.old ≡ trimmed_base (S.content store.old) }
+    requires name { blank.name ≡ L.name }
+    requires parts { blank.parts ≡ L.parts }
+    requires some { 0 < blank.parts }
+    ensures stands { RunsTo (setup_in (S.content store.new)) (map entry_of kept.new.items) (map out_kept kept.new.items) (S.content store.new) }
+    ensures setup { setup_in (S.content store.new) ≡ setup_in (S.content store.old) }
+    ensures entries { IfOk result (λ out. map entry_of kept.new.items ≡ map entry_of kept.old.items ++ record { call = call; starved = out.starved.items } ∷ []) }
+    ensures outs { IfOk result (λ out. map out_kept kept.new.items ≡ map out_kept kept.old.items ++ out_of out ∷ []) }
+    ensures full { is_full result ≡ (length kept.old.items == most_entries) }
+    ensures spare { AreSpare (S.content store.new) (S.spare_ends store.new) (S.spare_pending store.new) (vec_len kept.new) (vec_capacity kept.new) spare.new }
+    ensures spare_turns { spare.old.turns ≤ spare.new.turns + 1 }
+    ensures trimmed { S.log_base store.new ≡ trimmed_base (S.content store.new) }
+    ensures memory { is_ack_or_cancel call.what ≡ true → 1 ≤ spare.old.turns → OnErr result (is_full result ≡ true) }
+    ensures err { IfErr result (λ back. (S.content store.new ≡ S.content store.old) × (S.log_base store.new ≡ S.log_base store.old) × (kept.new.items ≡ kept.old.items) × (spare.new ≡ spare.old) × (back.0 ≡ call)) }
+{
+    let mut steps = Steps::<L>::new(blank);
+    turn_of(alloc, store, kept, spare, call, &mut steps)
+}
+
 impl<S: Store> Machine<S> {
     /// The machine with no history, over a new store.
-    pub fn over(alloc: Global, store: S) -> Machine<S>
+    pub fn over(alloc: Global, mut store: S) -> Machine<S>
         requires fresh { S.content store ≡ fresh (setup_in (S.content store)) }
         ensures setup { result.setup ≡ setup_in (S.content store) }
         ensures entries { result.entries ≡ [] }
     {
+        store.trim();
         let kept = Vec::new(alloc);
         let spare = SpareRooms::none(alloc);
         Machine { kept, spare, store }
@@ -106,7 +151,8 @@ impl<S: Store> Machine<S> {
     /// never for memory; pending calls that it lets go on may still find none.
     ///
     /// Over the whole history so far caching by oplocks is coherent, and each watch reports exactly the
-    /// matching changes since its last report.
+    /// matching changes since its last report. Of the changes that were noted those are kept from the least place on
+    /// from which a watch is due, and none where there is no watch.
     pub fn turn(&mut self, alloc: Global, call: Call) -> Result<Out, (Call, Why)>
         requires asked { IsLineCall (length self.old.setup.clients) call }
         requires number { call.number ≡ calls_of call.client (calls_in self.old.entries) + 1 }
@@ -120,8 +166,48 @@ impl<S: Store> Machine<S> {
         ensures watches_report_exactly { WatchesReport self.new.setup self.new.entries }
         ensures full { is_full result ≡ (length self.old.entries == most_entries) }
         ensures spare_turns { self.old.spare_turns ≤ self.new.spare_turns + 1 }
+        ensures trimmed { (r : Run) → run self.new.setup self.new.entries ≡ Some r → self.new.log_base ≡ trimmed_base r.volume }
         ensures memory { is_ack_or_cancel call.what ≡ true → 1 ≤ self.old.spare_turns → OnErr result (is_full result ≡ true) }
         ensures err { IfErr result (λ back. (self.new ≡ self.old) × (back.0 ≡ call)) }
+    {
+        turn_uncounted::<S, Brand>(
+            alloc,
+            &mut self.store,
+            &mut self.kept,
+            &mut self.spare,
+            call,
+            Blank::new(1),
+        )
+    }
+
+    /// `turn`, and each try of a call in it is one step, also one that finds no memory: that of the turn's own call,
+    /// and that of each held call that is taken up. Where there is no memory for what is taken before a try, none is
+    /// made and no step taken. A report of a watch and the end of a wait are none. The counter never falls, and it
+    /// rises by at most one more than the own try lets held calls go: those that it hasn't ended, and the last of
+    /// whose blockers ended in it.
+    pub fn turn_counted<L: Ledger>(
+        &mut self,
+        alloc: Global,
+        call: Call,
+        steps: &mut Steps<L>,
+    ) -> Result<Out, (Call, Why)>
+        requires asked { IsLineCall (length self.old.setup.clients) call }
+        requires number { call.number ≡ calls_of call.client (calls_in self.old.entries) + 1 }
+        ensures setup { self.new.setup ≡ self.old.setup }
+        ensures entries { IfOk result (λ out. self.new.entries ≡ self.old.entries ++ record { call = call; starved = out.starved.items } ∷ []) }
+        ensures out { IfOk result (λ out. GaveOut self.new.setup self.new.entries (out_of out)) }
+        ensures none_is_ready { (r : Run) → run self.new.setup self.new.entries ≡ Some r → NoneReady r.volume }
+        ensures each_call_ends_once { (r : Run) → run self.new.setup self.new.entries ≡ Some r → EndsOnce self.new.entries r }
+        ensures a_held_call_is_tried_in_the_turn_that_lets_it_go { IfOk result (λ out. (r : Run) → run self.old.setup self.old.entries ≡ Some r → TakesReleased r.volume call out.starved.items) }
+        ensures caching_is_coherent { CachingIsCoherent self.new.setup self.new.entries }
+        ensures watches_report_exactly { WatchesReport self.new.setup self.new.entries }
+        ensures full { is_full result ≡ (length self.old.entries == most_entries) }
+        ensures spare_turns { self.old.spare_turns ≤ self.new.spare_turns + 1 }
+        ensures trimmed { (r : Run) → run self.new.setup self.new.entries ≡ Some r → self.new.log_base ≡ trimmed_base r.volume }
+        ensures memory { is_ack_or_cancel call.what ≡ true → 1 ≤ self.old.spare_turns → OnErr result (is_full result ≡ true) }
+        ensures err { IfErr result (λ back. (self.new ≡ self.old) × (back.0 ≡ call)) }
+        ensures tries { (r : Run) → run self.old.setup self.old.entries ≡ Some r → steps.new ≤ steps.old + (1 + how_many_released r.volume call) }
+        ensures rises { steps.old ≤ steps.new }
     {
         turn_of(
             alloc,
@@ -129,6 +215,7 @@ impl<S: Store> Machine<S> {
             &mut self.kept,
             &mut self.spare,
             call,
+            steps,
         )
     }
 
@@ -139,6 +226,7 @@ impl<S: Store> Machine<S> {
     pub fn reserve(&mut self, alloc: Global, n: u32) -> Result<(), NoMemory>
         ensures setup { self.new.setup ≡ self.old.setup }
         ensures entries { self.new.entries ≡ self.old.entries }
+        ensures log_base { self.new.log_base ≡ self.old.log_base }
         ensures turns { OnOk result (n ≤ self.new.spare_turns) }
         ensures no_less { self.old.spare_turns ≤ self.new.spare_turns }
         ensures err { OnErr result (self.new ≡ self.old) }

@@ -12,9 +12,11 @@ ghost use Rattle.fsa_machine.specs.Step.{AreBare, HasReplyRoom};
 
 use crate::ends::{EndLists, tell};
 use crate::replies::{ReplyRooms, copy_twice};
+use crate::steps::Steps;
 use crate::store::Store;
 use fsa_types::{Answer, BlockerList, Call, Interim, NoMemory, Reply};
 use std::alloc::Global;
+use std::sync::ledger::Ledger;
 use volume_state::Tried;
 
 // The turn's own call has ended. The answer is given twice.
@@ -81,14 +83,16 @@ fn own_pends<S: Store>(
 
 /// Tries the turn's own call, which has ended or is pending then; the answer is given twice. The ends that
 /// the try brings are given out, but for the call's own. Where there is no memory nothing has changed, and
-/// the call is handed back; an Ack and a Cancel need none where the store has room for one pending call.
-pub fn answer_own<S: Store>(
+/// the call is handed back; an Ack and a Cancel need none where the store has room for one pending call. The try
+/// is one step.
+pub fn answer_own<S: Store, L: Ledger>(
     alloc: Global,
     store: &mut S,
     call: Call,
     rooms: ReplyRooms,
     none: BlockerList,
     ended: &mut EndLists,
+    steps: &mut Steps<L>,
 ) -> Result<(Answer, Answer), (Call, NoMemory)>
     requires serves { Serves (S.content store.old) }
     requires may_try { MayTry (S.content store.old) call }
@@ -109,9 +113,12 @@ pub fn answer_own<S: Store>(
     ensures told { OnOk result (ended.new.items ≡ ended.old.items ++ ends_between (S.content store.old) (volume_after (try (S.content store.old) call (turn_number (S.content store.old))))) }
     ensures told_room { ended.new.room ≡ ended.old.room }
     ensures err { IfErr result (λ back. (S.content store.new ≡ S.content store.old) × (back.0 ≡ call)) }
+    ensures tries { steps.new ≤ steps.old + 1 }
+    ensures rises { steps.old ≤ steps.new }
 {
     let from = store.ends();
     let turn = store.pending_calls() as u64 + from as u64 + 1;
+    steps.tick();
     match store.try_call(alloc, &call, turn) {
         Tried::NoMemory => Err((call, NoMemory)),
         Tried::Done(reply) => Ok(own_ends(alloc, store, &call, reply, rooms, from, ended)),

@@ -1,7 +1,7 @@
 //! The settlement of a turn: pending calls are taken up as long as one is ready, and then waits end where
 //! all clients wait.
 
-ghost use Rattle.std.specs.Prelude.{◌≡◌, ◌≤◌, ◌<◌, ◌+◌, ◌++◌, ◌∷◌, [], List, true, false, length, map, option_map, Some, None, IfSome};
+ghost use Rattle.std.specs.Prelude.{◌≡◌, ◌≤◌, ◌<◌, ◌+◌, ◌++◌, ◌∷◌, [], List, true, false, cond, length, map, option_map, Some, None, IfSome};
 ghost use Rattle.fsa_types.specs.declared.request.CallId.{CallId};
 ghost use Rattle.fsa_types.specs.declared.reply.Body.TheVariants.{Nothing};
 ghost use Rattle.fsa_types.specs.declared.status.Status.TheVariants.{Stalled};
@@ -13,14 +13,17 @@ ghost use Rattle.fsa_model.specs.Settling.{MayTakeUp, Reaches, TakesNext};
 ghost use Rattle.fsa_model.specs.Turn.{ends_between};
 ghost use Rattle.fsa_model.specs.Waiting.{next_ready, waits_in_order, with_stalled};
 ghost use Rattle.fsa_model.specs.Watching.{due_size, report, with_watch_seen};
+ghost use Rattle.fsa_machine.specs.Released.{how_many_let_go};
 ghost use Rattle.fsa_machine.specs.Serves.{Serves, ServesOn, most_entries};
 ghost use Rattle.fsa_machine.specs.Step.{HasReplyRoom, HasReportRoom, Starves, id_of, ready_of};
 
 use crate::ends::{EndLists, tell};
 use crate::replies::{ReplyRooms, copy_report, copy_twice, take_report_rooms, take_rooms};
+use crate::steps::Steps;
 use crate::store::{Ready, Report, Store};
 use fsa_types::{Body, Call, CallId, CallIdList, EndOf, NoMemory, Reply, Status, TryCopy};
 use std::alloc::Global;
+use std::sync::ledger::Ledger;
 use volume_state::Tried;
 
 // The end of a call with this status and no body.
@@ -71,15 +74,16 @@ fn held_call<S: Store>(alloc: Global, store: &S, ready: Ready) -> Option<(Call, 
     Some((call, rooms))
 }
 
-// A held call is tried again, with room for its reply; `false` where it finds no memory, and nothing has
-// changed then.
-fn retry<S: Store>(
+// A held call is tried again, with room for its reply, which is one step; `false` where it finds no memory, and
+// nothing has changed then.
+fn retry<S: Store, L: Ledger>(
     alloc: Global,
     store: &mut S,
     ready: Ready,
     call: &Call,
     rooms: ReplyRooms,
     ended: &mut EndLists,
+    steps: &mut Steps<L>,
 ) -> bool
     requires serves { Serves (S.content store.old) }
     requires may { MayTakeUp (S.content store.old) }
@@ -97,8 +101,11 @@ fn retry<S: Store>(
     ensures told { result ≡ true → ended.new.items ≡ ended.old.items ++ ends_between (S.content store.old) (S.content store.new) }
     ensures pending_kept { S.spare_pending store.old ≤ S.spare_pending store.new }
     ensures told_room { ended.new.room ≡ ended.old.room }
+    ensures tries { steps.new ≤ steps.old + 1 }
+    ensures rises { steps.old ≤ steps.new }
 {
     let from = store.ends();
+    steps.tick();
     match store.try_call(alloc, call, ready.turn) {
         Tried::NoMemory => false,
         Tried::Stay(_) => unreachable!(),
@@ -119,7 +126,13 @@ fn retry<S: Store>(
 }
 
 // A held call is tried again; `false` where it finds no memory, and nothing has changed then.
-fn try_held<S: Store>(alloc: Global, store: &mut S, ready: Ready, ended: &mut EndLists) -> bool
+fn try_held<S: Store, L: Ledger>(
+    alloc: Global,
+    store: &mut S,
+    ready: Ready,
+    ended: &mut EndLists,
+    steps: &mut Steps<L>,
+) -> bool
     requires serves { Serves (S.content store.old) }
     requires may { MayTakeUp (S.content store.old) }
     requires next { option_map (ready_of (S.content store.old)) (next_ready (S.content store.old)) ≡ Some ready }
@@ -135,11 +148,13 @@ fn try_held<S: Store>(alloc: Global, store: &mut S, ready: Ready, ended: &mut En
     ensures told { result ≡ true → ended.new.items ≡ ended.old.items ++ ends_between (S.content store.old) (S.content store.new) }
     ensures pending_kept { S.spare_pending store.old ≤ S.spare_pending store.new }
     ensures told_room { ended.new.room ≡ ended.old.room }
+    ensures tries { steps.new ≤ steps.old + 1 }
+    ensures rises { steps.old ≤ steps.new }
 {
     let Some((call, rooms)) = held_call(alloc, store, ready) else {
         return false;
     };
-    retry(alloc, store, ready, &call, rooms, ended)
+    retry(alloc, store, ready, &call, rooms, ended, steps)
 }
 
 // How many bytes a report takes.
@@ -291,8 +306,15 @@ fn end_wait<S: Store>(store: &mut S, ready: Ready, ended: &mut EndLists)
     end_so(store, client, number, Status::Success, ended);
 }
 
-// The ready call of the least turn is taken up; `false` where it finds no memory, and nothing has changed then.
-fn try_ready<S: Store>(alloc: Global, store: &mut S, ready: Ready, ended: &mut EndLists) -> bool
+// The ready call of the least turn is taken up; `false` where it finds no memory, and nothing has changed then. A
+// step is taken only where it is a held call.
+fn try_ready<S: Store, L: Ledger>(
+    alloc: Global,
+    store: &mut S,
+    ready: Ready,
+    ended: &mut EndLists,
+    steps: &mut Steps<L>,
+) -> bool
     requires serves { Serves (S.content store.old) }
     requires may { MayTakeUp (S.content store.old) }
     requires next { option_map (ready_of (S.content store.old)) (next_ready (S.content store.old)) ≡ Some ready }
@@ -307,9 +329,11 @@ fn try_ready<S: Store>(alloc: Global, store: &mut S, ready: Ready, ended: &mut E
     ensures told { result ≡ true → ended.new.items ≡ ended.old.items ++ ends_between (S.content store.old) (S.content store.new) }
     ensures pending_kept { S.spare_pending store.old ≤ S.spare_pending store.new }
     ensures told_room { ended.new.room ≡ ended.old.room }
+    ensures tries { steps.new ≤ steps.old + cond ready.held 1 0 }
+    ensures rises { steps.old ≤ steps.new }
 {
     if ready.held {
-        return try_held(alloc, store, ready, ended);
+        return try_held(alloc, store, ready, ended, steps);
     }
     let Some(asked) = ready.report else {
         end_wait(store, ready, ended);
@@ -319,12 +343,13 @@ fn try_ready<S: Store>(alloc: Global, store: &mut S, ready: Ready, ended: &mut E
 }
 
 // The ready call of the least turn is taken up; where it finds no memory it ends so, and is named.
-fn take_up<S: Store>(
+fn take_up<S: Store, L: Ledger>(
     alloc: Global,
     store: &mut S,
     ready: Ready,
     ended: &mut EndLists,
     starved: &mut CallIdList,
+    steps: &mut Steps<L>,
 )
     requires serves { Serves (S.content store.old) }
     requires may { MayTakeUp (S.content store.old) }
@@ -340,8 +365,10 @@ fn take_up<S: Store>(
     ensures pending_kept { S.spare_pending store.old ≤ S.spare_pending store.new }
     ensures told_room { ended.new.room ≡ ended.old.room }
     ensures named_room { starved.new.room ≡ starved.old.room }
+    ensures tries { steps.new + how_many_let_go (S.content store.new) ≤ steps.old + how_many_let_go (S.content store.old) }
+    ensures rises { steps.old ≤ steps.new }
 {
-    if try_ready(alloc, store, ready, ended) {
+    if try_ready(alloc, store, ready, ended, steps) {
         return;
     }
     let Ready { client, number, .. } = ready;
@@ -350,11 +377,12 @@ fn take_up<S: Store>(
 }
 
 // Calls are taken up until none is ready.
-fn take_up_all<S: Store>(
+fn take_up_all<S: Store, L: Ledger>(
     alloc: Global,
     store: &mut S,
     ended: &mut EndLists,
     starved: &mut CallIdList,
+    steps: &mut Steps<L>,
 )
     requires serves { Serves (S.content store.old) }
     requires may { MayTakeUp (S.content store.old) }
@@ -372,9 +400,11 @@ fn take_up_all<S: Store>(
     ensures told { ended.new.items ≡ ended.old.items ++ ends_between (S.content store.old) (S.content store.new) }
     ensures pending_kept { S.spare_pending store.old ≤ S.spare_pending store.new }
     ensures told_room { ended.new.room ≡ ended.old.room }
+    ensures tries { steps.new ≤ steps.old + how_many_let_go (S.content store.old) }
+    ensures rises { steps.old ≤ steps.new }
 {
     'turns: while let Some(ready) = store.next_ready() {
-        take_up(alloc, store, ready, ended, starved);
+        take_up(alloc, store, ready, ended, starved, steps);
     }
 }
 
@@ -413,13 +443,14 @@ fn stall<S: Store>(store: &mut S, waits: &mut CallIdList, ended: &mut EndLists)
 }
 
 /// Settles what is pending: takes up calls as long as one is ready, names those that found no memory, and
-/// ends the waits where all clients wait. All ends are given out.
-pub fn settle<S: Store>(
+/// ends the waits where all clients wait. All ends are given out. Each try of a held call is one step.
+pub fn settle<S: Store, L: Ledger>(
     alloc: Global,
     store: &mut S,
     waits: &mut CallIdList,
     ended: &mut EndLists,
     starved: &mut CallIdList,
+    steps: &mut Steps<L>,
 )
     requires serves { Serves (S.content store.old) }
     requires may { MayTakeUp (S.content store.old) }
@@ -440,7 +471,9 @@ pub fn settle<S: Store>(
     ensures named_room { starved.new.room ≡ starved.old.room }
     ensures few_named { length starved.new.items ≤ starved.old.room }
     ensures told { ended.new.items ≡ ended.old.items ++ ends_between (S.content store.old) (S.content store.new) }
+    ensures tries { steps.new ≤ steps.old + how_many_let_go (S.content store.old) }
+    ensures rises { steps.old ≤ steps.new }
 {
-    take_up_all(alloc, store, ended, starved);
+    take_up_all(alloc, store, ended, starved, steps);
     stall(store, waits, ended);
 }

@@ -12,6 +12,7 @@ ghost use Rattle.fsa_machine.specs.Serves.{HoldsRightly, MayHoldAnew, MayPend, M
 ghost use Rattle.fsa_machine.specs.Spare.{is_ack_or_cancel};
 ghost use Rattle.fsa_machine.specs.Step.{id_of, ready_of};
 ghost use Rattle.fsa_machine.specs.Tried.{HasPendRoom};
+ghost use Rattle.fsa_machine.specs.Trimmed.{trimmed_base};
 ghost use Rattle.volume_state.specs.Tried.{Gives, HasAnswer};
 
 use fsa_types::{BlockerList, Call, CallIdList, EndOf, NoMemory, Reply};
@@ -47,6 +48,9 @@ pub trait Store {
     // What it holds.
     ghost content: { Self → Volume };
 
+    // The place, among all changes that were noted, of the first that is kept.
+    ghost log_base: { Self → ℕ };
+
     // How many more ends, pending calls and blockers can be put in without taking memory.
     ghost spare_ends: { Self → ℕ };
 
@@ -69,6 +73,7 @@ pub trait Store {
     /// Takes room for so many more ends and pending calls. No room that is there is given up.
     fn reserve(&mut self, ends: usize, pending: usize) -> Result<(), NoMemory>
         ensures content { content self.new ≡ content self.old }
+        ensures base { log_base self.new ≡ log_base self.old }
         ensures ends { OnOk result (ends ≤ spare_ends self.new) }
         ensures pending { OnOk result (pending ≤ spare_pending self.new) }
         ensures ends_kept { spare_ends self.old ≤ spare_ends self.new }
@@ -130,6 +135,14 @@ pub trait Store {
         ensures seen { OnOk result (content self.new ≡ with_watch_seen (content self.old) handle) }
         ensures unchanged { OnErr result (content self.new ≡ content self.old) }
         ensures within { OnErr result (due_size (content self.old) handle ≤ room) }
+        ensures ends { spare_ends self.old ≤ spare_ends self.new }
+        ensures pending { spare_pending self.old ≤ spare_pending self.new };
+
+    /// Keeps of the changes that were noted those that a watch may still be told. It takes no memory, and leaves the
+    /// room as it was or larger.
+    fn trim(&mut self)
+        ensures content { content self.new ≡ content self.old }
+        ensures trimmed { log_base self.new ≡ trimmed_base (content self.new) }
         ensures ends { spare_ends self.old ≤ spare_ends self.new }
         ensures pending { spare_pending self.old ≤ spare_pending self.new };
 

@@ -7,6 +7,7 @@ ghost use Rattle.fsa_machine.specs.Serves.{HoldsRightly, MayHoldAnew, MayPend, M
 ghost use Rattle.fsa_machine.specs.Spare.{is_ack_or_cancel};
 ghost use Rattle.fsa_machine.specs.Step.{id_of, ready_of, report_to};
 ghost use Rattle.fsa_machine.specs.Tried.{HasPendRoom};
+ghost use Rattle.fsa_machine.specs.Trimmed.{trimmed_base};
 ghost use Rattle.fsa_model.specs.Edits.{with_blockers, with_end, with_pending};
 ghost use Rattle.fsa_model.specs.Try.{try};
 ghost use Rattle.fsa_model.specs.Waiting.{all_wait, next_ready, waits, waits_in_order};
@@ -87,6 +88,8 @@ fn next_ready(volume: &Volume) -> Option<Ready>
 impl Store for Volume {
     ghost content = { λ v. v.content };
 
+    ghost log_base = { λ v. v.beside.base };
+
     ghost spare_ends = { λ v. v.spare.ends };
 
     ghost spare_pending = { λ v. v.spare.pending };
@@ -145,6 +148,10 @@ impl Store for Volume {
 
     fn report(&mut self, alloc: Global, handle: u64, room: u32) -> Result<Reply, NoMemory> {
         report(alloc, self, handle, room)
+    }
+
+    fn trim(&mut self) {
+        self.trim_changes();
     }
 
     fn pending(&self, turn: u64) -> Option<&Call> {

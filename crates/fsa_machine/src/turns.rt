@@ -1,10 +1,12 @@
 //! One turn.
 
 ghost use Rattle.std.specs.Prelude.{◌≡◌, ◌≤◌, ◌<◌, ◌+◌, [], true, length, Some, IfOk, IfErr, IsOk, OnErr, OnOk};
+ghost use Rattle.fsa_model.specs.Engine.{own_tried};
 ghost use Rattle.fsa_model.specs.Once.{made, times};
 ghost use Rattle.fsa_model.specs.Outcome.{out_of};
 ghost use Rattle.fsa_model.specs.Settling.{MayTurn};
 ghost use Rattle.fsa_model.specs.Turn.{turn};
+ghost use Rattle.fsa_machine.specs.Released.{how_many_let_go};
 ghost use Rattle.fsa_machine.specs.Serves.{MayTry, Serves, ServesOn, most_entries};
 ghost use Rattle.fsa_machine.specs.Spare.{HasLists, is_ack_or_cancel};
 ghost use Rattle.fsa_machine.specs.Step.{HasReplyRoom};
@@ -13,9 +15,11 @@ use crate::ends::EndLists;
 use crate::own::answer_own;
 use crate::replies::{ReplyRooms, take_rooms};
 use crate::settle::settle;
+use crate::steps::Steps;
 use crate::store::Store;
 use fsa_types::{BlockerList, Call, CallId, CallIdList, NoMemory, Out};
 use std::alloc::Global;
+use std::sync::ledger::Ledger;
 
 /// What a turn takes before it changes anything: room for two copies of the reply, an empty list of blockers,
 /// the lists of ends, the two lists of calls that starve, and the list of waits.
@@ -77,12 +81,13 @@ fn copied(calls: &[CallId], mut kept: CallIdList) -> CallIdList
 /// Makes a turn, in room that was taken for it: tries the call, and settles what is pending. What it gives out
 /// is given twice. Where there is no memory for the call nothing has changed, and it is handed back; a pending
 /// call that finds none ends so, and is named. An Ack and a Cancel need no memory where the store has room for
-/// one pending call.
-pub fn turn_in_room<S: Store>(
+/// one pending call. Each try is one step.
+pub fn turn_in_room<S: Store, L: Ledger>(
     alloc: Global,
     store: &mut S,
     call: Call,
     room: TurnRoom,
+    steps: &mut Steps<L>,
 ) -> Result<(Out, Out), (Call, NoMemory)>
     requires serves { Serves (S.content store.old) }
     requires may_try { MayTry (S.content store.old) call }
@@ -102,6 +107,8 @@ pub fn turn_in_room<S: Store>(
     ensures pending_kept { OnErr result (S.spare_pending store.old ≤ S.spare_pending store.new) }
     ensures memory { is_ack_or_cancel call.what ≡ true → 1 ≤ S.spare_pending store.old → IsOk result }
     ensures err { IfErr result (λ back. (S.content store.new ≡ S.content store.old) × (back.0 ≡ call)) }
+    ensures tries { steps.new ≤ steps.old + (1 + how_many_let_go (own_tried (S.content store.old) call)) }
+    ensures rises { steps.old ≤ steps.new }
 {
     let TurnRoom {
         rooms,
@@ -111,8 +118,8 @@ pub fn turn_in_room<S: Store>(
         kept,
         mut waits,
     } = room;
-    let (answer, same_answer) = answer_own(alloc, store, call, rooms, none, &mut ended)?;
-    settle(alloc, store, &mut waits, &mut ended, &mut starved);
+    let (answer, same_answer) = answer_own(alloc, store, call, rooms, none, &mut ended, steps)?;
+    settle(alloc, store, &mut waits, &mut ended, &mut starved, steps);
     let kept = copied(starved.as_slice(), kept);
     let (given_ends, kept_ends) = ended.into_parts();
     let given = Out {

@@ -10,15 +10,14 @@ use Rattle.std.proofs.lemmas.List.Elements.{All-from_recursion}
 use Rattle.std.proofs.lemmas.List.Kept.{AllPairs-cons}
 use Rattle.fsa_types.specs.Request.{level_fits}
 use Rattle.fsa_types.specs.declared.request.Call.{Call}
-use Rattle.fsa_types.specs.declared.request.Disposition.TheVariants.{OpenIf}
 use Rattle.fsa_types.specs.declared.request.InfoKind.TheVariants.{Standard}
 use Rattle.fsa_types.specs.declared.request.Level.{Level}
 use Rattle.fsa_types.specs.declared.request.Level.TheVariants.{Nil, R, RH, RW, RWH}
-use Rattle.fsa_types.specs.declared.request.Request.TheVariants.{Create, Close, Read, Write, Lock, QueryInfo, Oplock}
+use Rattle.fsa_types.specs.declared.request.Request.TheVariants.{Close, Read, Write, Lock, QueryInfo, Oplock}
 use Rattle.fsa_types.specs.declared.request.What.{What}
 use Rattle.fsa_types.specs.declared.request.What.TheVariants.{Ask, WaitFor}
 use Rattle.fsa_model.specs.FieldText.{number_text, choice_text, level_text, upper_glyph, unit_text, byte_text, string_text}
-use Rattle.fsa_model.specs.Generator.{next_state, drawn, generated_path, level_by, generated_what, generated_call, generated_calls, generated_clients, generated_of, generated, lines_text, lines_of, generated_text}
+use Rattle.fsa_model.specs.Generator.{next_state, drawn, generated_open, generated_path, level_by, generated_what, generated_call, generated_calls, generated_clients, generated_of, generated, lines_text, lines_of, generated_text}
 use Rattle.fsa_model.specs.Lines.{Line, RequestLine}
 use Rattle.fsa_model.specs.Numbers.{glyph, spelled}
 use Rattle.fsa_model.specs.Schedule.{AreNumbered, calls_of}
@@ -151,7 +150,7 @@ path-fits number =
     by n true small = rw (le-leb (48 + n) 65535 (omega arith)) refl
     by n false small = rw (le-leb (48 + n / 10) 65535 (omega arith), le-leb (48 + n % 10) 65535 (omega arith)) refl
 
-create-said : (number : ℕ) → IsSaid (Ask (Create (generated_path number) 0x3 0x7 OpenIf 0x0 0x0 0))
+create-said : (number : ℕ) → IsSaid (generated_open number)
 create-said number = record {
   built = rw (path-fits number) refl;
   word = (refl, (refl, (refl, (refl, (refl, (refl, tt))))));

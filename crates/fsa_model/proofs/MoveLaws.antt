@@ -12,7 +12,7 @@ use Rattle.fsa_types.proofs.RowLemmas.{length-filter_le}
 use Rattle.fsa_types.specs.CaseTable.{same_name, upcased}
 use Rattle.fsa_types.specs.Rows.{row_of, lives, with_row_changed, IsNumbered}
 use Rattle.fsa_model.specs.Edits.{with_link_moved}
-use Rattle.fsa_model.specs.Lookups.{child_of, is_at_or_below, is_named, is_directory, has_child, has_row, leads_to, link_of_file, linked_file, number_of}
+use Rattle.fsa_model.specs.Lookups.{child_of, is_at_or_below, is_named, is_directory, has_child, has_row, leads_to, link_of_file, linked_file}
 use Rattle.fsa_model.specs.Sound.{IsSound, LeadsUp, is_stream_of_link}
 use Rattle.fsa_model.specs.Volume.{File, Link, Volume}
 use Rattle.fsa_model.proofs.RowLaws.{any-map, any-same, find-all, find-filter, find-map, find-same, AllPairs-map, change_at, change_at-same, change_at-number, IsNumbered-change, row_of-here, eqb-swap, find-none, number_of-none, option_map-none, or_right, option_cases, none-all}

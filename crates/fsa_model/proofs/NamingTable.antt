@@ -1,6 +1,6 @@
 -- A table of renames, links and marks for deletion, worked by hand from the rules and shown by computation: each
 -- state of the new name, without leave to replace and with it; and each thing that is marked, and its mark cleared.
-use Rattle.std.specs.Prelude.{◌≡◌, ℕ, Bool, true, false, List, [], ◌∷◌, ◌++◌, map, Some, None, codes, refl}
+use Rattle.std.specs.Prelude.{◌≡◌, ℕ, true, false, List, [], ◌∷◌, ◌++◌, map, Some, None, codes, refl}
 use Rattle.fsa_types.specs.declared.request.Level.TheVariants.{RH}
 use Rattle.fsa_types.specs.declared.reply.Answer.{Answer}
 use Rattle.fsa_types.specs.declared.reply.Answer.TheVariants.{Ended, Pending}

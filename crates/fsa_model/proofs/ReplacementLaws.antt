@@ -1,10 +1,9 @@
 -- What stays of a volume where a link is taken out whose name another link is to get.
-use Rattle.std.proofs.Common.{◌≡◌, ℕ, Bool, true, false, not, List, get_or, refl, ap, sym, ◌∙◌, inl, inr, ◌⊎◌, Option, Some, None}
+use Rattle.std.proofs.Common.{◌≡◌, ℕ, Bool, true, false, not, List, get_or, refl, ap, ◌∙◌, inl, inr, ◌⊎◌, Some}
 use Rattle.std.specs.List.{find, All}
 use Rattle.std.specs.Prelude.{◌==◌, ◌&&◌, option_map, IfSome}
 use Rattle.std.proofs.lemmas.Bool.{eqb-true, both_ways, cases_Bool, and_parts}
 use Rattle.std.proofs.lemmas.List.Elements.{All-filter, filter_passes}
-use Rattle.std.proofs.lemmas.List.Folds.{list_any_none}
 use Rattle.fsa_types.specs.CaseTable.{same_name}
 use Rattle.fsa_types.specs.Rows.{lives, row_of, without_row}
 use Rattle.fsa_model.specs.Edits.{without_link}

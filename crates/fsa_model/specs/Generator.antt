@@ -1,6 +1,7 @@
 -- The generated script: 4,096 requests of four clients, each by a number that is drawn from a seed on.
 use Rattle.std.specs.Prelude.{ℕ, zero, suc, ◌+◌, ◌-◌, ◌*◌, ◌/◌, ◌%◌, ◌^◌, ◌==◌, false, List, [], ◌∷◌, ◌++◌, Some, if◌then◌else◌, map, replicate, codes}
 use Rattle.fsa_types.specs.CaseTable.{ascii_pairs}
+use Rattle.fsa_types.specs.Masks.{READ_DATA, WRITE_DATA, bits_of, known_shares}
 use Rattle.fsa_types.specs.declared.request.Call.{Call}
 use Rattle.fsa_types.specs.declared.request.Disposition.TheVariants.{OpenIf}
 use Rattle.fsa_types.specs.declared.request.InfoKind.TheVariants.{Standard}
@@ -39,11 +40,15 @@ level_by choice =
     else if choice == 2 then RW
     else RWH
 
+-- an open that reads and writes, and shares all
+abbrev pub generated_open : ℕ → What
+generated_open number = Ask (Create (generated_path number) (bits_of (READ_DATA ∷ WRITE_DATA ∷ [])) known_shares OpenIf 0 0 0)
+
 -- the step of eight: open, wait for the open, ask for an oplock, write, read, lock, query and close, each with the
 -- handle of this number, by the number that was drawn
 abbrev pub generated_what : ℕ → ℕ → ℕ → What
 generated_what step handle number =
-    if step == 0 then Ask (Create (generated_path number) 0x3 0x7 OpenIf 0x0 0x0 0)
+    if step == 0 then generated_open number
     else if step == 1 then WaitFor handle
     else if step == 2 then Ask (Oplock handle (level_by (number % 4)))
     else if step == 3 then Ask (Write handle (Some (number % 65536)) (replicate 16 (number % 256)))

@@ -1,10 +1,10 @@
 -- The open of a file, after [MS-FSA] 'Server Requests an Open of a File': its checks in order, each by
 -- its name, and what an open changes.
-use Rattle.std.specs.Prelude.{ℕ, ◌+◌, ◌==◌, ◌&&◌, ◌||◌, not, nat_lt, Bool, true, false, List, [], length, Option, Some, None, is_some, if◌then◌else◌, unwrap_or, slice_get}
+use Rattle.std.specs.Prelude.{ℕ, ◌+◌, ◌==◌, ◌&&◌, ◌||◌, not, Bool, true, false, List, [], ◌∷◌, length, Option, Some, None, is_some, if◌then◌else◌, unwrap_or, slice_get}
 use Rattle.std.specs.Option.{option_map_or}
 use Rattle.std.specs.Int.RustNames.{bit_and, bit_or}
-use Rattle.fsa_types.specs.Access.{has_any, denied, map_generic}
-use Rattle.fsa_types.specs.Masks.{APPEND_DATA, ARCHIVE, COMPLETE_IF_OPLOCKED, DELETE, DELETE_ON_CLOSE, DIRECTORY_FILE, FILE_ACTION_ADDED, FILE_ACTION_ADDED_STREAM, FILE_ACTION_MODIFIED, FILE_ACTION_MODIFIED_STREAM, FILE_NOTIFY_CHANGE_ATTRIBUTES, FILE_NOTIFY_CHANGE_DIR_NAME, FILE_NOTIFY_CHANGE_FILE_NAME, FILE_NOTIFY_CHANGE_LAST_WRITE, FILE_NOTIFY_CHANGE_SIZE, FILE_NOTIFY_CHANGE_STREAM_NAME, FILE_NOTIFY_CHANGE_STREAM_SIZE, FILE_NOTIFY_CHANGE_STREAM_WRITE, HIDDEN, IO_REPARSE_TAG_SYMLINK, NON_DIRECTORY_FILE, OPEN_REPARSE_POINT, READONLY, SYSTEM, WRITE_DATA}
+use Rattle.fsa_types.specs.Access.{has_any, has_other, denied, map_generic}
+use Rattle.fsa_types.specs.Masks.{APPEND_DATA, ARCHIVE, COMPLETE_IF_OPLOCKED, DELETE, DELETE_ON_CLOSE, DIRECTORY_FILE, FILE_ACTION_ADDED, FILE_ACTION_ADDED_STREAM, FILE_ACTION_MODIFIED, FILE_ACTION_MODIFIED_STREAM, FILE_NOTIFY_CHANGE_ATTRIBUTES, FILE_NOTIFY_CHANGE_DIR_NAME, FILE_NOTIFY_CHANGE_FILE_NAME, FILE_NOTIFY_CHANGE_LAST_WRITE, FILE_NOTIFY_CHANGE_SIZE, FILE_NOTIFY_CHANGE_STREAM_NAME, FILE_NOTIFY_CHANGE_STREAM_SIZE, FILE_NOTIFY_CHANGE_STREAM_WRITE, HIDDEN, IO_REPARSE_TAG_SYMLINK, NON_DIRECTORY_FILE, OPEN_REPARSE_POINT, READONLY, READ_ATTRIBUTES, SYNCHRONIZE, SYSTEM, WRITE_ATTRIBUTES, WRITE_DATA, bits_of, known_attributes, known_options, known_rights, known_shares}
 use Rattle.fsa_types.specs.Paths.{path_fault, components, rest_of}
 use Rattle.fsa_types.specs.Paths as path
 use Rattle.fsa_types.specs.Rows.{row_of}
@@ -41,10 +41,6 @@ pub record Asked : Type 0 where
   pub options : ℕ
   pub attributes : ℕ
   pub key : ℕ
-
--- a mask has a bit that is none of these
-abbrev pub has_other : ℕ → ℕ → Bool
-has_other mask bits = not (bit_and mask bits == mask)
 
 -- the options that have an effect
 abbrev pub wants_directory : Asked → Bool
@@ -87,15 +83,15 @@ access_of asked = map_generic asked.wanted
 -- a mask with a bit that it can't have, or options that exclude each other or the disposition
 abbrev pub is_invalid : Asked → Bool
 is_invalid asked =
-    nat_lt 7 asked.share
-    || has_other asked.options 0x60DB7F
-    || has_other asked.attributes 0x31B7
+    has_other asked.share known_shares
+    || has_other asked.options known_options
+    || has_other asked.attributes known_attributes
     || (wants_directory asked && wants_file asked)
     || (wants_directory asked && overwrites asked.disposition)
 
 -- no right is wanted, or one that there isn't
 abbrev pub wants_no_right : Asked → Bool
-wants_no_right asked = asked.wanted == 0 || has_other asked.wanted 0xF01F01FF
+wants_no_right asked = asked.wanted == 0 || has_other asked.wanted known_rights
 
 -- DELETE_ON_CLOSE without DELETE, which GENERIC_ALL has in it
 abbrev pub lacks_delete : Asked → Bool
@@ -189,9 +185,9 @@ new_file v asked directory attributes = record {
   point = None;
 }
 
--- of the attributes asked for READONLY, HIDDEN, SYSTEM and ARCHIVE are kept
+-- those that are kept of the attributes asked for
 abbrev pub kept_attributes : ℕ → ℕ
-kept_attributes attributes = bit_and attributes 0x27
+kept_attributes attributes = bit_and attributes (bits_of (READONLY ∷ HIDDEN ∷ SYSTEM ∷ ARCHIVE ∷ []))
 
 -- a file has ARCHIVE
 abbrev pub file_attributes : ℕ → ℕ
@@ -262,9 +258,13 @@ unfoldable pub clashed : Volume → HandleSet → ℕ → Outcome
 clashed v on key =
     if open_waits v on Clash key then held v on Clash key else refused (with_breaks v on Clash None key) SharingViolation
 
--- more than READ_ATTRIBUTES, WRITE_ATTRIBUTES and SYNCHRONIZE is wanted
+-- the rights to a file's attributes alone: an open that wants no more and overwrites nothing breaks no oplock
+abbrev pub attribute_rights : ℕ
+attribute_rights = bits_of (READ_ATTRIBUTES ∷ WRITE_ATTRIBUTES ∷ SYNCHRONIZE ∷ [])
+
+-- more than these is wanted
 abbrev pub wants_more : Asked → Bool
-wants_more asked = has_other (access_of asked) 0x100180
+wants_more asked = has_other (access_of asked) attribute_rights
 
 -- it is opened as it is; where more is wanted, once the breaks that this waits for have ended, or beside
 -- them with COMPLETE_IF_OPLOCKED

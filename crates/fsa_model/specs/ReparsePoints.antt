@@ -4,7 +4,7 @@ use Rattle.std.specs.Prelude.{ℕ, Bool, ◌==◌, ◌||◌, not, nat_lt, List, 
 use Rattle.std.specs.Option.{option_map_or}
 use Rattle.fsa_types.specs.Access.{has_any}
 use Rattle.fsa_types.specs.FixedBuffers.{read_reparse, reparse_bytes}
-use Rattle.fsa_types.specs.Masks.{FILE_ACTION_MODIFIED, FILE_NOTIFY_CHANGE_ATTRIBUTES, WRITE_ATTRIBUTES, WRITE_DATA}
+use Rattle.fsa_types.specs.Masks.{FILE_ACTION_MODIFIED, FILE_NOTIFY_CHANGE_ATTRIBUTES, IO_REPARSE_TAG_RESERVED_ONE, IO_REPARSE_TAG_RESERVED_ZERO, MICROSOFT_TAG, WRITE_ATTRIBUTES, WRITE_DATA}
 use Rattle.fsa_types.specs.Rows.{row_of}
 use Rattle.fsa_types.specs.declared.reply.Body.TheVariants.{Got}
 use Rattle.fsa_types.specs.declared.status.Status.{Status}
@@ -38,7 +38,7 @@ has_other_tag v file tag = option_map_or (λ point. not (point.0 == tag)) (point
 
 -- the two reserved tags, and one without the bit of tags that Microsoft owns
 abbrev pub is_no_tag : ℕ → Bool
-is_no_tag tag = tag == 0 || tag == 1 || not (has_any tag 0x80000000)
+is_no_tag tag = tag == IO_REPARSE_TAG_RESERVED_ZERO || tag == IO_REPARSE_TAG_RESERVED_ONE || not (has_any tag MICROSOFT_TAG)
 
 unfoldable pub set_point : Volume → ℕ → ℕ → ℕ → List ℕ → Outcome
 set_point v link file tag content =

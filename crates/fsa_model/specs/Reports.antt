@@ -1,6 +1,7 @@
 -- What a report of changes says, when a notification reports, and what is due afterwards.
 use Rattle.std.specs.Prelude.{◌≡◌, ℕ, ◌<◌, ◌≤◌, ◌==◌, ◌⊎◌, true, false, List, [], Some, length, is_some}
 use Rattle.fsa_types.specs.Access.{has_any}
+use Rattle.fsa_types.specs.Masks.{READ_DATA}
 use Rattle.fsa_types.specs.declared.reply.Body.TheVariants.{Nothing, Packed}
 use Rattle.fsa_types.specs.declared.reply.Interim.TheVariants as interim
 use Rattle.fsa_types.specs.declared.reply.PackKind.TheVariants.{Changes}
@@ -48,7 +49,7 @@ settling_after v call starved steps =
 -- a directory's handle with READ_DATA, a filter, and a link that isn't marked
 pub record PassesChecks (v : Volume) (handle : Handle) (filter : ℕ) : Type 0 where
   pub directory : is_some handle.stream ≡ false
-  pub access : has_any handle.access 0x1 ≡ true
+  pub access : has_any handle.access READ_DATA ≡ true
   pub asked : is_notify_filter filter ≡ true
   pub unmarked : is_link_marked v handle.link ≡ false
 

@@ -2,14 +2,14 @@
 -- its checks in order, each by its name, and what it changes.
 use Rattle.std.specs.Prelude.{ℕ, Bool, ◌+◌, ◌-◌, ◌^◌, ◌==◌, ◌&&◌, ◌||◌, not, nat_le, None, if◌then◌else◌}
 use Rattle.std.specs.Option.{option_map_or}
-use Rattle.fsa_types.specs.Access.{has_any}
-use Rattle.fsa_types.specs.Masks.{DIRECTORY, FILE_ACTION_MODIFIED, FILE_NOTIFY_CHANGE_ATTRIBUTES, FILE_NOTIFY_CHANGE_CREATION, FILE_NOTIFY_CHANGE_LAST_ACCESS, FILE_NOTIFY_CHANGE_LAST_WRITE, WRITE_ATTRIBUTES}
+use Rattle.fsa_types.specs.Access.{has_any, has_other}
+use Rattle.fsa_types.specs.Masks.{DIRECTORY, FILE_ACTION_MODIFIED, FILE_NOTIFY_CHANGE_ATTRIBUTES, FILE_NOTIFY_CHANGE_CREATION, FILE_NOTIFY_CHANGE_LAST_ACCESS, FILE_NOTIFY_CHANGE_LAST_WRITE, WRITE_ATTRIBUTES, known_attributes}
 use Rattle.fsa_types.specs.Rows.{row_of}
 use Rattle.fsa_types.specs.declared.status.Status.TheVariants.{Success, InvalidHandle, AccessDenied, InvalidParameter}
 use Rattle.fsa_model.specs.Changes.{with_change_noted}
 use Rattle.fsa_model.specs.Edits.{with_basic}
 use Rattle.fsa_model.specs.Lookups.{access_time, attributes_of, creation_time, file_of_link, handle_of, is_directory, write_time}
-use Rattle.fsa_model.specs.Open.{kept_attributes, has_other}
+use Rattle.fsa_model.specs.Open.{kept_attributes}
 use Rattle.fsa_model.specs.Outcome.{Outcome, ends_with, refused}
 use Rattle.fsa_model.specs.Shown.{change_time}
 use Rattle.fsa_model.specs.Volume.{Handle, Volume}
@@ -79,7 +79,7 @@ has_no_time asked = is_no_time asked.creation || is_no_time asked.access || is_n
 -- attributes that none has, or DIRECTORY on a file
 abbrev pub has_wrong_attributes : Volume → ℕ → ℕ → Bool
 has_wrong_attributes v file attributes =
-    has_other attributes 0x31B7 || (has_any attributes DIRECTORY && not (is_directory v.files file))
+    has_other attributes known_attributes || (has_any attributes DIRECTORY && not (is_directory v.files file))
 
 unfoldable pub set_basic_of : Volume → ℕ → ℕ → Basics → Outcome
 set_basic_of v link file asked =

@@ -3,8 +3,8 @@
 use Rattle.std.specs.Prelude.{ℕ, Bool, false, ◌==◌, ◌&&◌, ◌||◌, not, nat_le, List, [], ◌∷◌, drop, filter, map, find, length, Option, is_some, option_and_then, if◌then◌else◌}
 use Rattle.std.specs.List.{list_any}
 use Rattle.std.specs.Option.{option_map_or}
-use Rattle.fsa_types.specs.Access.{has_any, without}
-use Rattle.fsa_types.specs.Masks.{READ_DATA}
+use Rattle.fsa_types.specs.Access.{has_any, has_other}
+use Rattle.fsa_types.specs.Masks.{READ_DATA, known_filters}
 use Rattle.fsa_types.specs.Packing.{bytes}
 use Rattle.fsa_types.specs.PackedRows.{change_row}
 use Rattle.fsa_types.specs.Rows.{row_of}
@@ -88,9 +88,9 @@ notify_due v id room =
 abbrev pub with_watch_begun : Volume → ℕ → ℕ → Bool → Volume
 with_watch_begun v id filter tree = if is_some (watch_of v id) then v else with_watch v id filter tree (length v.changes)
 
--- some of these twelve bits, and no other
+-- some of the bits that a watch may ask for, and no other
 abbrev pub is_notify_filter : ℕ → Bool
-is_notify_filter filter = not (filter == 0) && without filter 0xFFF == 0
+is_notify_filter filter = not (filter == 0) && not (has_other filter known_filters)
 
 -- a directory, READ_DATA, a filter, and no mark
 abbrev pub notify_by : Volume → ℕ → Handle → ℕ → Bool → ℕ → Outcome

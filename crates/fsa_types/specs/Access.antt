@@ -1,16 +1,21 @@
 -- What an access list denies, and what generic rights stand for, after [MS-DTYP] 'Access Check
 -- Algorithm Pseudocode' and 'ACCESS_MASK'. SIDs are numbers, and rights are the bits of an access
 -- mask.
-use Rattle.std.specs.Prelude.{ℕ, Bool, true, false, not, List, [], ◌∷◌, Option, None, Some, filter, fold, ◌==◌, if◌then◌else◌}
+use Rattle.std.specs.Prelude.{ℕ, ◌-◌, ◌^◌, Bool, true, false, not, List, [], ◌∷◌, Option, None, Some, filter, fold, ◌==◌, if◌then◌else◌}
 use Rattle.std.specs.List.{list_any}
 use Rattle.std.specs.Option.{option_map}
 use Rattle.std.specs.Int.RustNames.{bit_and, bit_or, bit_xor}
 use Rattle.fsa_types.specs.BoundedList.{Bounded}
+use Rattle.fsa_types.specs.Masks.{FILE_ALL_ACCESS, FILE_GENERIC_EXECUTE, FILE_GENERIC_READ, FILE_GENERIC_WRITE, GENERIC_ALL, GENERIC_EXECUTE, GENERIC_READ, GENERIC_WRITE, READ_CONTROL, WRITE_DAC, generic_bits}
 use Rattle.fsa_types.specs.declared.request.Ace.{Ace}
 
 -- a mask has some of these bits
 abbrev pub has_any : ℕ → ℕ → Bool
 has_any mask bits = not (bit_and mask bits == 0)
+
+-- a mask has a bit that is none of these
+abbrev pub has_other : ℕ → ℕ → Bool
+has_other mask bits = not (bit_and mask bits == mask)
 
 -- a mask but for the bits that it has of these
 abbrev pub without : ℕ → ℕ → ℕ
@@ -20,9 +25,13 @@ without mask bits = bit_xor mask (bit_and mask bits)
 abbrev pub has_sid : List ℕ → ℕ → Bool
 has_sid sids sid = list_any (λ own. own == sid) sids
 
--- what is asked of the list: an owner has READ_CONTROL and WRITE_DAC without it
+-- READ_CONTROL and WRITE_DAC, which an owner has without a list
+abbrev pub owner_rights : ℕ
+owner_rights = bit_or READ_CONTROL WRITE_DAC
+
+-- what is asked of the list
 abbrev pub asked_of_list : ℕ → List ℕ → ℕ → ℕ
-asked_of_list owner sids wanted = if has_sid sids owner then without wanted 0x60000 else wanted
+asked_of_list owner sids wanted = if has_sid sids owner then without wanted owner_rights else wanted
 
 -- the entries that speak of the client, in order
 abbrev pub entries_for : List ℕ → List Ace → List Ace
@@ -56,8 +65,14 @@ stands_for mask generic rights = if has_any mask generic then rights else 0
 
 -- the generic rights, all, execute, write and read, each with what it stands for
 abbrev pub generic_rights : List (ℕ × ℕ)
-generic_rights = (0x10000000, 0x1F01FF) ∷ (0x20000000, 0x1200A0) ∷ (0x40000000, 0x120116) ∷ (0x80000000, 0x120089) ∷ []
+generic_rights =
+    (GENERIC_ALL, FILE_ALL_ACCESS) ∷ (GENERIC_EXECUTE, FILE_GENERIC_EXECUTE) ∷ (GENERIC_WRITE, FILE_GENERIC_WRITE) ∷ (GENERIC_READ, FILE_GENERIC_READ)
+    ∷ []
+
+-- all that a mask of 32 bits can have but generic rights
+abbrev pub plain_bits : ℕ
+plain_bits = 2 ^ 32 - 1 - generic_bits
 
 -- a mask with each generic right replaced by what it stands for, and its other bits as they are
 abbrev pub map_generic : ℕ → ℕ
-map_generic mask = fold (λ mapped right. bit_or mapped (stands_for mask right.0 right.1)) (bit_and mask 0x0FFFFFFF) generic_rights
+map_generic mask = fold (λ mapped right. bit_or mapped (stands_for mask right.0 right.1)) (bit_and mask plain_bits) generic_rights

@@ -3,30 +3,31 @@
 use Rattle.std.specs.Prelude.{ℕ, Bool, not, List, ◌&&◌, ◌||◌}
 use Rattle.std.specs.List.{list_any}
 use Rattle.fsa_types.specs.Access.{has_any}
+use Rattle.fsa_types.specs.Masks.{APPEND_DATA, DELETE, EXECUTE, READ_DATA, SHARE_DELETE, SHARE_READ, SHARE_WRITE, WRITE_DATA}
 
--- read access: READ_DATA or EXECUTE
+-- read access
 abbrev pub reads : ℕ → Bool
-reads access = has_any access 0x1 || has_any access 0x20
+reads access = has_any access READ_DATA || has_any access EXECUTE
 
--- write access: WRITE_DATA or APPEND_DATA
+-- write access
 abbrev pub writes : ℕ → Bool
-writes access = has_any access 0x2 || has_any access 0x4
+writes access = has_any access WRITE_DATA || has_any access APPEND_DATA
 
--- delete access: DELETE
+-- delete access
 abbrev pub deletes : ℕ → Bool
-deletes access = has_any access 0x10000
+deletes access = has_any access DELETE
 
--- others may have read access: SHARE_READ
+-- others may have read access
 abbrev pub shares_read : ℕ → Bool
-shares_read share = has_any share 0x1
+shares_read share = has_any share SHARE_READ
 
--- others may have write access: SHARE_WRITE
+-- others may have write access
 abbrev pub shares_write : ℕ → Bool
-shares_write share = has_any share 0x2
+shares_write share = has_any share SHARE_WRITE
 
--- others may have delete access: SHARE_DELETE
+-- others may have delete access
 abbrev pub shares_delete : ℕ → Bool
-shares_delete share = has_any share 0x4
+shares_delete share = has_any share SHARE_DELETE
 
 -- an open has some of the three accesses; any other has no part in sharing
 abbrev pub takes_part : ℕ → Bool

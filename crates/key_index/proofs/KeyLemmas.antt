@@ -1,6 +1,6 @@
 -- Entries in the order of keys: those of one key stand together, and stay so where one comes or goes.
 use Rattle.std.proofs.Common.{◌≡◌, ℕ, zero, suc, ◌<◌, ◌≤◌, ◌+◌, ◌++◌, true, false, Bool, cond, List, [], ◌∷◌, length, get_or, refl, ap, sym, ◌∙◌, arith, inl, inr, Option, Some, None, eq-eqb}
-use Rattle.std.specs.Prelude.{take, drop, filter, find, insert, remove, position, option_map, slice_get, nat_lt, not, ◌==◌, ◌&&◌}
+use Rattle.std.specs.Prelude.{take, drop, filter, find, insert, remove, position, option_map, slice_get, nat_lt, ◌==◌}
 use Rattle.std.specs.List.{All, AllWithin, position_or_len}
 use Rattle.std.proofs.lemmas.List.{append-nil}
 use Rattle.fsa_types.specs.Ranges.{without_first}

@@ -1,3 +1,4 @@
 pub mod ClosureLemmas
 pub mod KeyLemmas
+pub mod NumberLemmas
 pub mod RowLaws

@@ -1,8 +1,9 @@
 -- What an index beside a table tells of its rows, and that it is kept where a row comes and where one goes.
-use Rattle.std.proofs.Common.{◌≡◌, ℕ, zero, suc, ◌<◌, ◌≤◌, ◌++◌, true, false, Bool, List, [], ◌∷◌, length, get_or, refl, ap, sym, ◌∙◌, arith, inl, inr, Some, None, eq-eqb}
-use Rattle.std.specs.Prelude.{filter, find, option_map, ◌==◌, ◌&&◌, ◌||◌}
+use Rattle.std.proofs.Common.{◌≡◌, ℕ, zero, suc, ◌<◌, ◌++◌, true, false, Bool, List, [], ◌∷◌, length, get_or, refl, ap, sym, ◌∙◌, arith, inl, inr, Some, eq-eqb}
+use Rattle.std.specs.Prelude.{filter, find, not, option_map, slice_get, ◌==◌, ◌&&◌, ◌||◌}
 use Rattle.std.specs.List.{All, list_any}
 use Rattle.std.proofs.lemmas.Bool.{cases_Bool, and_right, and_from, or_right, eqb-true, ne_eqb, false≢true}
+use Rattle.std.proofs.lemmas.List.{length-map}
 use Rattle.std.proofs.lemmas.List.Elements.{All-filter, All-map, filter-append}
 use Rattle.fsa_types.specs.Ranges.{without_first}
 use Rattle.fsa_types.specs.Rows.{IsNumbered, lives, row_of, with_row_changed, without_row}
@@ -39,10 +40,18 @@ any-both p q (x ∷ xs) = elim (cases_Bool (p x)) [
   | inr fails ↦ rw fails (any-both p q xs)
 ]
 
+-- what is found is the first of what is kept
+find-first : {T : Type 0} (p : T → Bool) (xs : List T) → find p xs ≡ slice_get (filter p xs) 0
+find-first p [] = refl
+find-first p (x ∷ xs) = elim (cases_Bool (p x)) [
+  | inl passes ↦ rw passes refl
+  | inr fails ↦ rw fails (find-first p xs)
+]
+
 -- ---- all but the first
 
 -- what passes the first test passes the second
-without_first-kept : {T : Type 0} (p q : T → Bool) → ((x : T) → p x ≡ true → q x ≡ true) → (xs : List T) → filter q (without_first p xs) ≡ without_first p (filter q xs)
+pub without_first-kept : {T : Type 0} (p q : T → Bool) → ((x : T) → p x ≡ true → q x ≡ true) → (xs : List T) → filter q (without_first p xs) ≡ without_first p (filter q xs)
 without_first-kept p q also [] = refl
 without_first-kept p q also (x ∷ xs) = elim (cases_Bool (p x)) [
   | inl passes ↦ (let second : q x ≡ true = also x passes in simp (passes, second) refl)
@@ -53,7 +62,7 @@ without_first-kept p q also (x ∷ xs) = elim (cases_Bool (p x)) [
 ]
 
 -- what passes the first test fails the second
-without_first-other : {T : Type 0} (p q : T → Bool) → ((x : T) → p x ≡ true → q x ≡ false) → (xs : List T) → filter q (without_first p xs) ≡ filter q xs
+pub without_first-other : {T : Type 0} (p q : T → Bool) → ((x : T) → p x ≡ true → q x ≡ false) → (xs : List T) → filter q (without_first p xs) ≡ filter q xs
 without_first-other p q never [] = refl
 without_first-other p q never (x ∷ xs) = elim (cases_Bool (p x)) [
   | inl passes ↦ (let second : q x ≡ false = never x passes in simp (passes, second) refl)
@@ -63,7 +72,7 @@ without_first-other p q never (x ∷ xs) = elim (cases_Bool (p x)) [
   ]
 ]
 
-key_of : (key number : ℕ) (e : ℕ × ℕ) → is_entry key number e ≡ true → e.0 ≡ key
+pub key_of : (key number : ℕ) (e : ℕ × ℕ) → is_entry key number e ≡ true → e.0 ≡ key
 key_of key number e is = elim (cases_Bool (e.0 == key)) [
   | inl same ↦ eqb-true e.0 key same
   | inr other ↦ absurd (false≢true (sym (rw other refl) ∙ is))
@@ -78,6 +87,20 @@ same-without one other key number same k = elim (cases_Bool (key == k)) [
   | inr apart ↦ (
       let never : (e : ℕ × ℕ) → is_entry key number e ≡ true → has_key k e ≡ false = λ e is. ne_eqb e.0 k (λ equal. false≢true (sym apart ∙ eq-eqb key k (sym (key_of key number e is) ∙ equal))) in
       without_first-other (is_entry key number) (has_key k) never one ∙ same k ∙ sym (without_first-other (is_entry key number) (has_key k) never other))
+]
+
+-- one filter after another, in either order
+pub filter-swap : {T : Type 0} (p q : T → Bool) (xs : List T) → filter p (filter q xs) ≡ filter q (filter p xs)
+filter-swap p q [] = refl
+filter-swap p q (x ∷ xs) = elim (cases_Bool (p x)) [
+  | inl first ↦ elim (cases_Bool (q x)) [
+    | inl second ↦ simp (first, second) (ap (λ rest. x ∷ rest) (filter-swap p q xs))
+    | inr other ↦ simp (first, other) (filter-swap p q xs)
+  ]
+  | inr fails ↦ elim (cases_Bool (q x)) [
+    | inl second ↦ simp (fails, second) (filter-swap p q xs)
+    | inr other ↦ simp (fails, other) (filter-swap p q xs)
+  ]
 ]
 
 module _ {R : Type 0} (key : R → ℕ) where
@@ -132,6 +155,18 @@ module _ {R : Type 0} (key : R → ℕ) where
       → IsIndexOf key (with_row_changed change rows id) entries
   index-changed change rows entries id same index k = index k ∙ ap (λ (all : List (ℕ × ℕ)). entries_of all k) (sym (pairs-changed change rows id same))
 
+  pairs-cleared : (rows : List (ℕ × R)) (k : ℕ) → filter (λ e. not (has_key k e)) (pairs key rows) ≡ pairs key (filter (λ row. not (key row.1 == k)) rows)
+  pairs-cleared [] k = refl
+  pairs-cleared (x ∷ rows) k = elim (cases_Bool (key x.1 == k)) [
+    | inl gone ↦ rw gone (pairs-cleared rows k)
+    | inr kept ↦ rw kept (ap (λ (rest : List (ℕ × ℕ)). (key x.1, x.0) ∷ rest) (pairs-cleared rows k))
+  ]
+
+  pub index-cleared : (rows : List (ℕ × R)) (entries : List (ℕ × ℕ)) (k : ℕ) → IsIndexOf key rows entries → IsIndexOf key (filter (λ row. not (key row.1 == k)) rows) (filter (λ e. not (has_key k e)) entries)
+  index-cleared rows entries k index other =
+      filter-swap (has_key other) (λ e. not (has_key k e)) entries ∙ ap (filter (λ e. not (has_key k e))) (index other)
+      ∙ sym (filter-swap (has_key other) (λ e. not (has_key k e)) (pairs key rows)) ∙ ap (λ (all : List (ℕ × ℕ)). entries_of all other) (pairs-cleared rows k)
+
   -- ---- what a key's entries tell
 
   pub index-entries : (rows : List (ℕ × R)) (entries : List (ℕ × ℕ)) (k : ℕ) → IsIndexOf key rows entries → entries_of entries k ≡ pairs key (rows_with key rows k)
@@ -146,6 +181,19 @@ module _ {R : Type 0} (key : R → ℕ) where
   index-live rows entries k index =
       rw (index-entries rows entries k index) (All-map (λ (entry : ℕ × ℕ). lives rows entry.1 ≡ true) (λ (row : ℕ × R). (key row.1, row.0)) (rows_with key rows k)
       (All-filter (λ row. key row.1 == k) (λ row. lives rows row.0 ≡ true) rows (λ i d within. lives-at rows i d within)))
+
+  first-number : (some : List (ℕ × R)) → option_map (λ (row : ℕ × R). row.0) (slice_get some 0) ≡ option_map (λ (entry : ℕ × ℕ). entry.1) (slice_get (pairs key some) 0)
+  first-number [] = refl
+  first-number (x ∷ some) = refl
+
+  pub index-first : (rows : List (ℕ × R)) (entries : List (ℕ × ℕ)) (k : ℕ) → IsIndexOf key rows entries
+      → option_map (λ (row : ℕ × R). row.0) (find (λ row. key row.1 == k) rows) ≡ option_map (λ (entry : ℕ × ℕ). entry.1) (slice_get (entries_of entries k) 0)
+  index-first rows entries k index =
+      ap (option_map (λ (row : ℕ × R). row.0)) (find-first (λ row. key row.1 == k) rows) ∙ first-number (rows_with key rows k)
+      ∙ ap (λ (some : List (ℕ × ℕ)). option_map (λ (entry : ℕ × ℕ). entry.1) (slice_get some 0)) (sym (index-entries rows entries k index))
+
+  pub index-length : (rows : List (ℕ × R)) (entries : List (ℕ × ℕ)) (k : ℕ) → IsIndexOf key rows entries → length (filter (λ row. key row.1 == k) rows) ≡ length (entries_of entries k)
+  index-length rows entries k index = sym (length-map (rows_with key rows k) (λ (row : ℕ × R). (key row.1, row.0))) ∙ ap length (sym (index-entries rows entries k index))
 
   -- ---- rows that are looked up
 

@@ -1,5 +1,6 @@
 -- Entries, each a key and a number, in the order of their keys.
 use Rattle.std.specs.Prelude.{ℕ, Bool, List, ◌==◌, ◌&&◌, ◌≡◌, filter, nat_lt}
+use Rattle.std.specs.List.Sorted.{IsNonDecreasingBy}
 
 -- the entries, and how many more can be added without taking memory
 pub record Entries : Type 0 where
@@ -25,3 +26,7 @@ IsSameByKey one other = (key : ℕ) → entries_of one key ≡ entries_of other 
 -- an entry is this one
 abbrev pub is_entry : ℕ → ℕ → ℕ × ℕ → Bool
 is_entry key number entry = entry.0 == key && entry.1 == number
+
+-- the numbers of each key don't fall
+abbrev pub AreNumbersRising : List (ℕ × ℕ) → Type 0
+AreNumbersRising entries = (key : ℕ) → IsNonDecreasingBy (λ e. e.1) (entries_of entries key)

@@ -1,11 +1,12 @@
 //! Numbers under keys.
 
-ghost use Rattle.std.specs.Prelude.{◌≡◌, ◌≤◌, ◌+◌, ◌++◌, ◌∷◌, [], OnOk, find, slice_get};
+ghost use Rattle.std.specs.Prelude.{◌≡◌, ◌≤◌, ◌+◌, ◌++◌, ◌∷◌, [], ◌-◌, not, OnOk, filter, find, slice_get};
+ghost use Rattle.std.specs.Vec.{vec_capacity, vec_len};
 ghost use Rattle.std.specs.List.Sorted.{IsNonDecreasingBy};
-ghost use Rattle.key_index.specs.Index.{IsSameByKey, entries_of, is_after, is_entry};
+ghost use Rattle.key_index.specs.Index.{IsSameByKey, entries_of, has_key, is_after, is_entry};
 ghost use Rattle.fsa_types.specs.Ranges.{without_first};
 
-use crate::search::{end_of, part_of, place_of};
+use crate::search::{end_of, part_of, place_of, stays_rising};
 use fsa_types::NoMemory;
 use std::alloc::Global;
 use std::marker::Model;
@@ -15,19 +16,21 @@ use std::marker::Model;
 pub struct KeyIndex {
     // Each a key and a number, in the order of keys.
     entries: Vec<(u64, u64)>,
+    // No number was added behind a greater one of its key, so that a number is found by halves.
+    rising: bool,
 }
 
 impl Model for KeyIndex {
-    ghost use Rattle.key_index.specs.Index.{Entries};
+    ghost use Rattle.key_index.specs.Index.{AreNumbersRising, Entries};
     ghost use Rattle.std.specs.List.Sorted.{IsNonDecreasingBy};
-    ghost use Rattle.std.specs.Prelude.{◌-◌};
+    ghost use Rattle.std.specs.Prelude.{◌≡◌, ◌-◌, true};
     ghost use Rattle.std.specs.Vec.{vec_capacity, vec_len};
 
     ghost Value = { Entries };
 
     ghost view = { λ i. record { entries = i.entries.items; room = vec_capacity i.entries - vec_len i.entries } };
 
-    ghost invariant = { λ i. IsNonDecreasingBy (λ e. e.0) i.entries.items };
+    ghost invariant = { λ i. IsNonDecreasingBy (λ e. e.0) i.entries.items × (i.rising ≡ true → AreNumbersRising i.entries.items) };
 }
 
 impl KeyIndex {
@@ -37,6 +40,7 @@ impl KeyIndex {
     {
         KeyIndex {
             entries: Vec::new(alloc),
+            rising: true,
         }
     }
 
@@ -72,6 +76,7 @@ impl KeyIndex {
         ensures added { IsSameByKey self.new.entries (self.old.entries ++ (key, number) ∷ []) }
         ensures left { self.old.room ≤ self.new.room + 1 }
     {
+        self.rising = stays_rising(part_of(&self.entries, key), number, self.rising);
         let place = end_of(&self.entries, key);
         let Ok(()) = self.entries.insert(place, (key, number)) else {
             unreachable!()
@@ -79,18 +84,35 @@ impl KeyIndex {
     }
 
     /// Takes a number of a key out, the first where it stands there more than once; where the key doesn't
-    /// have it nothing changes. It takes no memory, and leaves the room as it was or larger.
+    /// have it nothing changes. It takes no memory, and leaves the room as it was or larger. Where each number
+    /// was added behind lesser ones of its key, it is found by halves, and else by a look at those of the key.
     pub fn remove(&mut self, key: u64, number: u64)
         ensures entries { self.new.entries ≡ without_first (is_entry key number) self.old.entries }
         ensures room { self.old.room ≤ self.new.room }
     {
-        match place_of(&self.entries, key, number) {
+        match place_of(&self.entries, key, number, self.rising) {
             Some(place) => {
                 let _ = self.entries.remove(place);
             }
             None => {}
         }
     }
+
+    /// Takes all entries of a key out. It takes no memory, and leaves the room as it was or larger.
+    pub fn remove_all(&mut self, key: u64)
+        ensures entries { self.new.entries ≡ filter (λ e. not (has_key key e)) self.old.entries }
+        ensures room { self.old.room ≤ self.new.room }
+    {
+        remove_all(&mut self.entries, key);
+    }
+}
+
+// Takes all entries of a key out.
+fn remove_all(entries: &mut Vec<(u64, u64)>, key: u64)
+    ensures entries { entries.new.items ≡ filter (λ e. not (has_key key e)) entries.old.items }
+    ensures room { vec_capacity entries.old - vec_len entries.old ≤ vec_capacity entries.new - vec_len entries.new }
+{
+    entries.retain(|entry| entry.0 != key);
 }
 
 // The entry at this place.

@@ -6,6 +6,7 @@
 //! index.of(key);                      // the key's entries, in the order in which they were added
 //! index.after(key);                   // the first entry of a greater key
 //! index.remove(key, number);
+//! index.remove_all(key);
 //! ```
 //!
 //! Contracts see the list of entries, and how many more there is room for. Only what each key has is told of it
@@ -13,7 +14,8 @@
 //! added with rising numbers and keep their key: the entries of a key are then those of its rows, in order.
 //!
 //! `of` and `after` take time logarithmic in the entries. `add` and `remove` move the entries behind, of 16 bytes
-//! each, and `remove` looks through those of its key before.
+//! each, and `remove_all` goes over all of them. `remove` finds the number by halves as long as none was added
+//! behind a greater one of its key, and else looks through those of the key.
 #![tactic(auto)]
 
 mod index;

@@ -1,8 +1,8 @@
 //! Where the entries of a key stand among entries in the order of keys.
 
-ghost use Rattle.std.specs.Prelude.{ℕ, ◌≡◌, ◌≤◌, ◌<◌, ◌+◌, length, option_map, position};
+ghost use Rattle.std.specs.Prelude.{ℕ, ◌≡◌, ◌≤◌, ◌<◌, ◌+◌, ◌-◌, true, false, All, length, option_map, position, slice_index_or};
 ghost use Rattle.std.specs.List.Sorted.{IsNonDecreasingBy, IsPartitionPoint};
-ghost use Rattle.key_index.specs.Index.{entries_of, is_entry};
+ghost use Rattle.key_index.specs.Index.{AreNumbersRising, entries_of, is_entry};
 
 /// Where the entries of lower keys end.
 pub(crate) fn begin_of(entries: &[(u64, u64)], key: u64) -> usize
@@ -31,15 +31,48 @@ pub(crate) fn part_of(entries: &[(u64, u64)], key: u64) -> &[(u64, u64)]
     part
 }
 
-/// The place of an entry, the first where there are several.
-pub(crate) fn place_of(entries: &[(u64, u64)], key: u64, number: u64) -> Option<usize>
-    requires rising { IsNonDecreasingBy (λ e. e.0) entries.now }
+/// Whether numbers rose so far, and this one is no less than the last one of these.
+pub(crate) fn stays_rising(part: &[(u64, u64)], number: u64, rising: bool) -> bool
+    ensures before { result ≡ true → rising ≡ true }
+    ensures behind { result ≡ true → (d : ℕ × ℕ) → 0 < length part.now → (slice_index_or part.now (length part.now - 1) d).1 ≤ number }
+{
+    rising && is_behind(part, number)
+}
+
+// Whether a number is no less than the last one of these.
+fn is_behind(part: &[(u64, u64)], number: u64) -> bool
+    ensures { result ≡ true → (d : ℕ × ℕ) → 0 < length part.now → (slice_index_or part.now (length part.now - 1) d).1 ≤ number }
+{
+    if part.is_empty() {
+        return true;
+    }
+    part[part.len() - 1].1 <= number
+}
+
+/// The place of an entry, the first where there are several. Where the numbers of each key are known to rise it is
+/// found by halves.
+pub(crate) fn place_of(entries: &[(u64, u64)], key: u64, number: u64, rising: bool) -> Option<usize>
+    requires keys { IsNonDecreasingBy (λ e. e.0) entries.now }
+    requires numbers { rising ≡ true → AreNumbersRising entries.now }
     ensures { result ≡ position (is_entry key number) entries.now }
 {
     let (begin, part) = part_at(entries, key);
-    match first_of(part, key, number) {
+    match place_in(part, key, number, rising) {
         Some(place) => Some(begin + place),
         None => None,
+    }
+}
+
+// The place of an entry among those of its key.
+fn place_in(part: &[(u64, u64)], key: u64, number: u64, rising: bool) -> Option<usize>
+    requires keys { All (λ e. e.0 ≡ key) part.now }
+    requires numbers { rising ≡ true → IsNonDecreasingBy (λ e. e.1) part.now }
+    ensures { result ≡ position (is_entry key number) part.now }
+{
+    if rising {
+        place_by_halves(part, key, number)
+    } else {
+        first_of(part, key, number)
     }
 }
 
@@ -54,6 +87,41 @@ fn part_at(entries: &[(u64, u64)], key: u64) -> (usize, &[(u64, u64)])
     let (_, from) = entries.split_at(begin);
     let (part, _) = from.split_at(end_of(from, key));
     (begin, part)
+}
+
+// Where the lesser numbers of a key end.
+fn begin_of_number(part: &[(u64, u64)], number: u64) -> usize
+    requires rising { IsNonDecreasingBy (λ e. e.1) part.now }
+    ensures bound { result ≤ length part.now }
+    ensures point { IsPartitionPoint (λ e. e.1 < number) (λ e. number ≤ e.1) part.now result }
+{
+    part.partition_point(|entry| entry.1 < number)
+}
+
+// The place of an entry among those of its key, whose numbers rise.
+fn place_by_halves(part: &[(u64, u64)], key: u64, number: u64) -> Option<usize>
+    requires keys { All (λ e. e.0 ≡ key) part.now }
+    requires rising { IsNonDecreasingBy (λ e. e.1) part.now }
+    ensures { result ≡ position (is_entry key number) part.now }
+{
+    let place = begin_of_number(part, number);
+    if has_number_at(part, place, number) {
+        Some(place)
+    } else {
+        None
+    }
+}
+
+// Whether the entry at a place has this number.
+fn has_number_at(part: &[(u64, u64)], place: usize, number: u64) -> bool
+    ensures there { result ≡ true → place < length part.now × ((d : ℕ × ℕ) → (slice_index_or part.now place d).1 ≡ number) }
+    ensures other { result ≡ false → place < length part.now → (d : ℕ × ℕ) → (slice_index_or part.now place d).1 ≡ number → ⊥ }
+{
+    if place < part.len() {
+        part[place].1 == number
+    } else {
+        false
+    }
 }
 
 // The place of an entry, the first where there are several, by a look at each.

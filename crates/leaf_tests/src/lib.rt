@@ -16,4 +16,6 @@ mod ranges;
 #[cfg(test)]
 mod scripts;
 #[cfg(test)]
+mod tables;
+#[cfg(test)]
 mod turn_texts;

@@ -1,8 +1,8 @@
 -- Items in the order of their keys: what the place of a key tells of them, and that it matters to nothing in what
 -- order they come.
-use Rattle.std.proofs.Common.{◌≡◌, ℕ, suc, ◌+◌, ◌<◌, ◌≤◌, Bool, true, false, not, List, [], ◌∷◌, ◌++◌, length, get_or, refl, ap, sym, arith, inl, inr, None, Ok, Err, Result, ◌∙◌}
+use Rattle.std.proofs.Common.{◌≡◌, ℕ, suc, ◌<◌, ◌≤◌, Bool, true, false, not, List, [], ◌∷◌, ◌++◌, length, get_or, refl, ap, sym, arith, inl, inr, None, Ok, Err, Result, ◌∙◌}
 use Rattle.std.specs.Prelude.{if◌then◌else◌}
-use Rattle.std.specs.List.{All, AllPairs, AllWithin, HoldsAt, filter, find, insert, remove, slice_get}
+use Rattle.std.specs.List.{All, AllPairs, HoldsAt, filter, find, insert, remove, slice_get}
 use Rattle.std.specs.List.Sorted.{IsBinarySearchResult, IsNonDecreasingBy, IsSearchInRange}
 use Rattle.std.specs.Ordering.{ordering_index, ordering_reverse, is_lt, is_eq}
 use Rattle.std.specs.declared.cmp.Ordering.{Ordering}
@@ -13,7 +13,7 @@ use Rattle.std.proofs.lemmas.List.Elements.{All-cons, All-filter}
 use Rattle.std.proofs.lemmas.List.Kept.{AllPairs-cons}
 use Rattle.fsa_types.specs.Sorting.{put_in_order, in_order}
 use Rattle.link_index.specs.Keyed.{AreInKeyOrder, IsKeyPlace, KeysDiffer, cmp_keys, is_key_before}
-use Rattle.link_index.proofs.EntryLaws.{find-none, find-here, insert-here, AllPairs-insert, filter-all, remove-here}
+use Rattle.link_index.proofs.EntryLaws.{find-none, find-here, insert-here, filter-all, remove-here}
 
 -- ---- two keys
 

@@ -1,4 +1,3 @@
 pub mod EntryLaws
 pub mod KeyLaws
-pub mod OrderLaws
-pub mod SortLaws
+pub mod NameLaws

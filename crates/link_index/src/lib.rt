@@ -27,8 +27,6 @@
 
 mod directory;
 mod order;
-#[cfg(test)]
-mod tests;
 
 pub use directory::Directory;
 pub use order::order_of_entries;

@@ -11,20 +11,23 @@
 //!   it, and `HistoryFull` where 1,000,000 turns were made. `ask` keeps the reason alone.
 //! - `VolumeMachine::reserve` takes room for turns to come, so that so many acknowledgements and cancellations
 //!   can't be refused for memory. `ask_in_room` makes one, and has no error.
+//! - `VolumeMachine::turn_counted` counts the tries of a turn by a `Steps`, over a ledger that the caller picks.
+//!   `ask_counted` makes one.
 //!
 //! `lock_that_waits` is an example: a lock that waits for another one, and is granted in the turn of the
 //! unlock. `answer_in_room` is another: an oplock's break is answered, and the answer cancelled, in room that was
-//! taken before. `tick_times` makes many turns, and counts a client's numbers itself.
+//! taken before. `tries_of_a_lock_that_waits_twice` counts the tries of eight turns. `tick_times` makes many turns, and
+//! counts a client's numbers itself.
 #![tactic(auto)]
 
+mod counted;
 mod many_turns;
 mod reserved;
 mod session;
-#[cfg(test)]
-mod tests;
 mod waiting_lock;
 
+pub use counted::{ask_counted, tries_of_a_lock_that_waits_twice};
 pub use many_turns::tick_times;
 pub use reserved::{KeptAnswer, answer_in_room, ask_in_room};
-pub use session::{ask, next_number, two_clients};
+pub use session::{ask, next_number, three_clients, two_clients};
 pub use waiting_lock::{WaitingLock, lock_that_waits};

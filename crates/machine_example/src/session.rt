@@ -1,4 +1,4 @@
-//! A machine with two clients, and a turn of a client's next call.
+//! A machine with two or three clients, and a turn of a client's next call.
 
 ghost use Rattle.std.specs.Prelude.{◌≡◌, ◌<◌, ◌≤◌, ◌+◌, ◌-◌, ◌^◌, ◌==◌, ◌++◌, ◌∷◌, [], All, cond, IfOk, OnErr, length, nat_le};
 ghost use Rattle.fsa_model.specs.Outcome.{out_of};
@@ -35,6 +35,19 @@ fn setup(alloc: Global) -> Result<Setup, NoMemory>
     Ok(Setup { table, clients })
 }
 
+// These and `c` with the SID 11.
+fn setup_of_three(alloc: Global) -> Result<Setup, NoMemory>
+    ensures three { IfOk result (λ setup. length setup.clients.items ≡ 3) }
+    ensures sids { IfOk result (λ setup. All (λ client. 0 < length client.sids.items) setup.clients.items) }
+{
+    let mut clients = ClientList::with_room(alloc, 3)?;
+    clients.push(client(alloc, b"a", 7)?);
+    clients.push(client(alloc, b"b", 9)?);
+    clients.push(client(alloc, b"c", 11)?);
+    let table = UpcaseTable::ascii(alloc)?;
+    Ok(Setup { table, clients })
+}
+
 /// A machine with no history and two clients: `a` (place 0) with the SID 7 and `b` (place 1) with the SID 9.
 /// `NoMemory` where there is none for it.
 pub fn two_clients(alloc: Global) -> Result<VolumeMachine, NoMemory>
@@ -42,6 +55,15 @@ pub fn two_clients(alloc: Global) -> Result<VolumeMachine, NoMemory>
     ensures entries { IfOk result (λ machine. machine.entries ≡ []) }
 {
     let setup = setup(alloc)?;
+    VolumeMachine::new(alloc, setup)
+}
+
+/// A machine with no history and three clients: those of `two_clients`, and `c` (place 2) with the SID 11.
+/// `NoMemory` where there is none for it.
+pub fn three_clients(alloc: Global) -> Result<VolumeMachine, NoMemory>
+    ensures three { IfOk result (λ machine. length machine.setup.clients ≡ 3) }
+{
+    let setup = setup_of_three(alloc)?;
     VolumeMachine::new(alloc, setup)
 }
 

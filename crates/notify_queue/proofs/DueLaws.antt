@@ -15,7 +15,7 @@ use Rattle.pack_info.proofs.NumberLaws.{length-name_of}
 use Rattle.pack_info.proofs.PackLaws.{size-one, size-more}
 use Rattle.notify_queue.specs.Due.{asks_for, told, due_of, due_among, is_seen_among, written_for, rounded, rows_of, size_due, size_of, size_from}
 use Rattle.notify_queue.specs.Log.{relative, change_of, changes_of, units_in}
-use Rattle.notify_queue.specs.declared.log.Entry.{Entry}
+use Rattle.notify_queue.specs.declared.part.Entry.{Entry}
 use Rattle.notify_queue.specs.declared.watch.Watch.{Watch}
 
 -- ---- ancestors
@@ -39,6 +39,16 @@ pub asks-parts : (watch : Watch) (units : List ℕ) (dirs : List (ℕ × ℕ)) (
 asks-parts watch units dirs entry =
     ap (λ (seen : Bool). seen && has_any entry.bits watch.filter)
     (seen-among (take entry.units (drop entry.first_unit units)) watch.dir watch.tree (take entry.dirs (drop entry.first_dir dirs)))
+
+-- a watch whose filter has no bit of the change doesn't ask for it; else what counts is where it was made
+pub asks-never : (watch : Watch) (units : List ℕ) (dirs : List (ℕ × ℕ)) (entry : Entry) → has_any entry.bits watch.filter ≡ false → false ≡ asks_for watch units dirs entry
+asks-never watch units dirs entry no_bit =
+    rw (asks-parts watch units dirs entry, no_bit) (elim (cases_Bool (is_seen_among watch.dir watch.tree (take entry.dirs (drop entry.first_dir dirs)))) [ inl seen ↦ rw seen refl | inr other ↦ rw other refl ])
+
+pub asks-seen : (watch : Watch) (units : List ℕ) (dirs : List (ℕ × ℕ)) (entry : Entry) → has_any entry.bits watch.filter ≡ true
+    → is_seen_among watch.dir watch.tree (take entry.dirs (drop entry.first_dir dirs)) ≡ asks_for watch units dirs entry
+asks-seen watch units dirs entry some_bit =
+    rw (asks-parts watch units dirs entry, some_bit) (elim (cases_Bool (is_seen_among watch.dir watch.tree (take entry.dirs (drop entry.first_dir dirs)))) [ inl seen ↦ rw seen refl | inr other ↦ rw other refl ])
 
 -- the path of an entry relative to the directory, from its last unit to its first
 abbrev pub path_of : Watch → List ℕ → List (ℕ × ℕ) → Entry → List ℕ

@@ -1,10 +1,10 @@
 -- The log of changes: what is written later leaves what was noted before.
-use Rattle.std.proofs.Common.{◌≡◌, ℕ, suc, ◌+◌, ◌-◌, ◌≤◌, List, [], ◌∷◌, ◌++◌, length, take, drop, get_or, refl, ap, arith, length-drop}
+use Rattle.std.proofs.Common.{◌≡◌, ℕ, suc, ◌+◌, ◌-◌, ◌≤◌, List, [], ◌∷◌, ◌++◌, length, take, drop, get_or, refl, ap, sym, ◌∙◌, arith, length-drop}
 use Rattle.std.specs.Prelude.{map, reverse, All}
 use Rattle.std.proofs.lemmas.List.{take-append-le, drop-append-le, drop_all}
 use Rattle.std.proofs.lemmas.List.Elements.{All-nil, All-push}
-use Rattle.notify_queue.specs.Log.{relative, change_of, changes_of, units_in, IsLog}
-use Rattle.notify_queue.specs.declared.log.Entry.{Entry}
+use Rattle.notify_queue.specs.Log.{relative, change_of, changes_of, units_in, AreLaid, IsLog}
+use Rattle.notify_queue.specs.declared.part.Entry.{Entry}
 
 pub map-same : {X Y : Type 0} (f g : X → Y) (xs : List X) → All (λ x. f x ≡ g x) xs → map f xs ≡ map g xs
 map-same f g [] same = refl
@@ -65,6 +65,15 @@ ended units dirs first_unit first_dir action bits = record {
   dirs = length dirs - first_dir;
 }
 
+-- one more is laid behind the others
+laid-push : (unit dir : ℕ) (entries : List Entry) (first_unit first_dir next_unit next_dir : ℕ) (entry : Entry) → AreLaid unit dir entries first_unit first_dir
+    → entry.first_unit ≡ first_unit → entry.first_dir ≡ first_dir → first_unit + entry.units ≡ next_unit → first_dir + entry.dirs ≡ next_dir
+    → AreLaid unit dir (entries ++ entry ∷ []) next_unit next_dir
+laid-push unit dir [] first_unit first_dir next_unit next_dir entry laid units dirs next_units next_dirs =
+    (units ∙ sym laid.0, dirs ∙ sym laid.1, rw (laid.0, laid.1) (next_units, next_dirs))
+laid-push unit dir (e ∷ entries) first_unit first_dir next_unit next_dir entry laid units dirs next_units next_dirs =
+    (laid.0, laid.1, laid-push (unit + e.units) (dir + e.dirs) entries first_unit first_dir next_unit next_dir entry laid.2 units dirs next_units next_dirs)
+
 -- it is noted, and another begins
 pub IsLog-finish : (units : List ℕ) (dirs : List (ℕ × ℕ)) (entries : List Entry) (first_unit first_dir action bits : ℕ) → IsLog units dirs entries first_unit first_dir
     → IsLog units dirs (entries ++ ended units dirs first_unit first_dir action bits ∷ []) (length units) (length dirs)
@@ -76,6 +85,7 @@ IsLog-finish units dirs entries first_unit first_dir action bits log =
       entries_lie = All-push (λ entry. (entry.first_unit + entry.units ≤ length units) × (entry.first_dir + entry.dirs ≤ length dirs)) entries (ended units dirs first_unit first_dir action bits)
           (λ k d within. let lies = log.entries_lie k d within in (omega arith, omega arith)) (omega arith, omega arith);
       apart = omega (arith, units_in-push entries (ended units dirs first_unit first_dir action bits));
+      laid = laid-push 0 0 entries first_unit first_dir (length units) (length dirs) (ended units dirs first_unit first_dir action bits) log.laid refl refl (omega arith) (omega arith);
       unit_lies = omega arith;
       dir_lies = omega arith;
       names_lie = rw (drop_all (length dirs) dirs (omega arith)) (All-nil _);

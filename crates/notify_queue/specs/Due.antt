@@ -1,12 +1,12 @@
 -- What is due to a watch, and how many bytes a report of it takes.
-use Rattle.std.specs.Prelude.{ℕ, Bool, false, ◌+◌, ◌*◌, ◌/◌, ◌==◌, ◌&&◌, ◌||◌, nat_le, List, [], ◌∷◌, filter, find, length, map, Option, Some, None, if◌then◌else◌}
+use Rattle.std.specs.Prelude.{ℕ, Bool, false, ◌+◌, ◌-◌, ◌*◌, ◌/◌, ◌==◌, ◌&&◌, ◌||◌, nat_le, List, [], ◌∷◌, filter, find, length, map, Option, Some, None, slice_get, if◌then◌else◌}
 use Rattle.std.specs.List.{list_any}
 use Rattle.std.specs.Option.{option_map_or}
 use Rattle.fsa_types.specs.PackedRows.{PackRow, change_row}
 use Rattle.fsa_model.specs.Volume.{Change, Watch as Row}
 use Rattle.fsa_model.specs.Watching.{due_to, is_asked_by, packed_changes, told_from}
 use Rattle.notify_queue.specs.Log.{change_of}
-use Rattle.notify_queue.specs.declared.log.Entry.{Entry}
+use Rattle.notify_queue.specs.declared.part.Entry.{Entry}
 use Rattle.notify_queue.specs.declared.watch.Watch.{Watch}
 
 -- the watch as a volume lists it, under no handle
@@ -16,6 +16,10 @@ row_of_watch watch = record { handle = 0; filter = watch.filter; tree = watch.tr
 -- what is due to it
 abbrev pub due_of : List Change → Watch → List (ℕ × List ℕ)
 due_of changes watch = due_to changes watch.dir (row_of_watch watch)
+
+-- the watch asks for the last change
+abbrev pub asks_for_last : Watch → List Change → Bool
+asks_for_last watch changes = option_map_or (is_asked_by (row_of_watch watch) watch.dir) (slice_get changes (length changes - 1)) false
 
 -- how many bytes these take, packed; None where there is none
 abbrev pub size_due : List (ℕ × List ℕ) → Option ℕ

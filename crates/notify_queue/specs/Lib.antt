@@ -1,3 +1,2 @@
 pub mod Due
 pub mod Log
-pub mod Quiet

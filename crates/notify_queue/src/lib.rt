@@ -22,20 +22,22 @@
 //! where that is larger than the room, nothing; in both cases the watch goes on behind the last change.
 //!
 //! - Room for changes has to be reserved. A change that is begun is seen by no watch until `finish`.
-//! - Every change is kept: there is no call yet that takes out those that no watch waits for.
-//! - Of watches to which nothing is due a list can be kept beside the log (`put_quiet`): each change is looked at
-//!   once for each of them, as it is noted (`finish_beside`), and `is_covered` tells by the list alone that nothing
-//!   is due to another watch of the same directory and filter.
+//! - `trim` gives up the changes before a place, which no watch may wait for then. Contracts see all changes that
+//!   were ever noted, and the place (`base`); the memory of those before it is room for new changes once they are half
+//!   of what is held (`LogPart`), so that each change is moved a few times at most. What is gone stands in `Past`, which
+//!   has no bytes, and which only proofs read.
+//! - Once a change is noted, `asks_for_last` tells whether it is due to a watch, so that who keeps the watches to
+//!   which nothing is due needs no look at the changes before.
 //! - `due_size` and `take` take time linear in the changes from the watch's place on and in their ancestors,
 //!   and `take` also in what it gives. Only `take` takes memory, and only where what is due fits the room.
 #![tactic(auto)]
 
 mod log;
-mod quiet;
+mod part;
+mod past;
 #[cfg(test)]
 mod tests;
 mod watch;
 
-pub use log::{ChangeLog, Entry};
-pub use quiet::{finish_beside, is_covered, put_quiet};
+pub use log::ChangeLog;
 pub use watch::Watch;

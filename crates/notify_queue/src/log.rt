@@ -1,99 +1,91 @@
 //! The log of changes.
 
-ghost use Rattle.std.specs.Prelude.{ℕ, ◌≡◌, ◌≤◌, ◌<◌, ◌+◌, ◌-◌, ◌*◌, ◌^◌, ◌++◌, ◌∷◌, [], length, reverse, OnOk};
-ghost use Rattle.notify_queue.specs.Log.{ArePieces, changes_of};
+ghost use Rattle.std.specs.Prelude.{ℕ, ◌≡◌, ◌≤◌, ◌<◌, ◌+◌, ◌-◌, ◌^◌, ◌++◌, ◌∷◌, [], length, reverse, OnOk};
+ghost use Rattle.notify_queue.specs.Log.{Holds};
 
+use crate::part::LogPart;
+use crate::past::Past;
 use fsa_types::NoMemory;
-use object_tables::Series;
 use std::alloc::Global;
 use std::marker::Model;
 
-/// Where the path of a change and its ancestors lie in the log.
-#[derive(Clone, Copy, Debug, PartialEq, Eq)]
-pub struct Entry {
-    /// The action.
-    pub action: u32,
-    /// The filter bits.
-    pub bits: u32,
-    /// Where its path begins.
-    pub first_unit: usize,
-    /// How many units its path has.
-    pub units: usize,
-    /// Where its ancestors begin.
-    pub first_dir: usize,
-    /// How many ancestors it has.
-    pub dirs: usize,
+// What a log holds.
+#[derive(Clone, Copy)]
+pub(crate) struct Held<'a> {
+    // How many changes are gone before it.
+    pub gone: u64,
+    // The changes, and the one that is begun.
+    pub part: &'a LogPart,
 }
 
-// What a log is made of.
-#[derive(Clone, Copy, Debug)]
-pub(crate) struct Pieces<'a> {
-    // Where each change lies.
-    pub entries: &'a [Entry],
-    // The units of all paths.
-    pub units: &'a [u16],
-    // The ancestors of all changes.
-    pub dirs: &'a [(u64, usize)],
-}
-
-/// The changes in order, and a change begun. Paths are written from their last unit to their first,
-/// so that the name relative to an ancestor is the part that was written when the ancestor is reached.
-#[derive(Debug, Drop)]
+/// The changes in order, and a change begun. Contracts see all changes that were ever noted; those before the base
+/// are of no use to anyone, and their memory is room for new ones once they are half of what is held.
+#[derive(Drop)]
 pub struct ChangeLog {
-    /// Where each change lies.
-    pub entries: Series<Entry>,
-    /// The units of all paths.
-    pub units: Series<u16>,
-    /// The ancestors of all changes, each with how many units of the path were written when it was
-    /// reached.
-    pub dirs: Series<(u64, usize)>,
-    first_unit: usize,
-    first_dir: usize,
+    // What is gone. Only proofs read it.
+    past: Past<LogPart, usize>,
+    // How many changes are gone.
+    gone: u64,
+    // The place of the first change that is kept, of all that were noted.
+    base: u64,
+    // For how many more changes room was promised.
+    room: usize,
+    // The changes that are held, and the change begun.
+    part: LogPart,
 }
 
 impl Model for ChangeLog {
-    ghost use Rattle.std.specs.Prelude.{drop, map};
-    ghost use Rattle.notify_queue.specs.Log.{Log, IsLog, changes_of, relative};
+    ghost use Rattle.std.specs.Prelude.{◌++◌};
+    ghost use Rattle.notify_queue.specs.Log.{Log, IsTrimmed, changes_before};
 
     ghost Value = { Log };
 
     ghost view = { λ l. record {
-      changes = changes_of l.units.items l.dirs.items l.entries.items;
-      path = drop l.first_unit l.units.items;
-      seen = map (relative (drop l.first_unit l.units.items)) (drop l.first_dir l.dirs.items);
-      room = l.entries.room;
-      units = l.units.room;
-      dirs = l.dirs.room;
+      changes = changes_before l.past.items ++ l.part.changes;
+      base = l.base;
+      path = l.part.path;
+      seen = l.part.seen;
+      room = l.room;
+      units = l.part.units;
+      dirs = l.part.dirs;
     } };
 
-    ghost invariant = { λ l. IsLog l.units.items l.dirs.items l.entries.items l.first_unit l.first_dir };
+    ghost invariant = { λ l. IsTrimmed l.past.items l.gone l.base l.room l.part };
 }
 
 impl ChangeLog {
     /// No change, and none begun.
     pub fn new(alloc: Global) -> ChangeLog
         ensures changes { result.changes ≡ [] }
+        ensures base { result.base ≡ 0 }
         ensures path { result.path ≡ [] }
         ensures seen { result.seen ≡ [] }
     {
         ChangeLog {
-            entries: Series::new(alloc),
-            units: Series::new(alloc),
-            dirs: Series::new(alloc),
-            first_unit: 0,
-            first_dir: 0,
+            past: Past::new(),
+            gone: 0,
+            base: 0,
+            room: 0,
+            part: LogPart::new(alloc),
         }
     }
 
-    /// Takes room for so many changes, units and ancestors in all. `NoMemory` where there is none.
+    /// Takes room for so many changes, units and ancestors in all. `NoMemory` where there is none, and where there
+    /// would be 2^64 changes.
     pub fn reserve(&mut self, changes: usize, units: usize, dirs: usize) -> Result<(), NoMemory>
         ensures same { (self.new.changes ≡ self.old.changes) × (self.new.path ≡ self.old.path) × (self.new.seen ≡ self.old.seen) }
+        ensures base { self.new.base ≡ self.old.base }
         ensures room { OnOk result ((changes ≤ self.new.room) × (units ≤ self.new.units) × (dirs ≤ self.new.dirs)) }
         ensures kept { (self.old.room ≤ self.new.room) × (self.old.units ≤ self.new.units) × (self.old.dirs ≤ self.new.dirs) }
     {
-        self.entries.reserve(changes)?;
-        self.units.reserve(units)?;
-        self.dirs.reserve(dirs)?;
+        self.part.reserve(changes, units, dirs)?;
+        if changes > self.room {
+            let most = u64::MAX - self.gone - self.part.len() as u64;
+            if changes as u64 > most {
+                return Err(NoMemory);
+            }
+            self.room = changes;
+        }
         Ok(())
     }
 
@@ -103,10 +95,10 @@ impl ChangeLog {
         ensures path { self.new.path ≡ self.old.path ++ unit ∷ [] }
         ensures seen { self.new.seen ≡ self.old.seen }
         ensures changes { self.new.changes ≡ self.old.changes }
-        ensures others { (self.new.room ≡ self.old.room) × (self.new.dirs ≡ self.old.dirs) }
+        ensures others { (self.new.room ≡ self.old.room) × (self.new.dirs ≡ self.old.dirs) × (self.new.base ≡ self.old.base) }
         ensures left { self.old.units ≤ self.new.units + 1 }
     {
-        self.units.push(unit);
+        self.part.add_unit(unit);
     }
 
     /// The change begun is seen from this ancestor, by the path begun. There has to be room for one. It takes no
@@ -116,11 +108,10 @@ impl ChangeLog {
         ensures path { self.new.path ≡ self.old.path }
         ensures seen { self.new.seen ≡ self.old.seen ++ (dir, reverse self.old.path) ∷ [] }
         ensures changes { self.new.changes ≡ self.old.changes }
-        ensures others { (self.new.room ≡ self.old.room) × (self.new.units ≡ self.old.units) }
+        ensures others { (self.new.room ≡ self.old.room) × (self.new.units ≡ self.old.units) × (self.new.base ≡ self.old.base) }
         ensures left { self.old.dirs ≤ self.new.dirs + 1 }
     {
-        let written = self.units.len() - self.first_unit;
-        self.dirs.push((dir, written));
+        self.part.add_dir(dir);
     }
 
     /// Notes the change begun, and begins another. There has to be room for one. It takes no memory.
@@ -129,49 +120,46 @@ impl ChangeLog {
         ensures path { self.new.path ≡ [] }
         ensures seen { self.new.seen ≡ [] }
         ensures changes { self.new.changes ≡ self.old.changes ++ record { action = action; bits = bits; seen_from = self.old.seen } ∷ [] }
-        ensures others { (self.new.units ≡ self.old.units) × (self.new.dirs ≡ self.old.dirs) }
+        ensures others { (self.new.units ≡ self.old.units) × (self.new.dirs ≡ self.old.dirs) × (self.new.base ≡ self.old.base) }
         ensures left { self.old.room ≤ self.new.room + 1 }
     {
-        let units = self.units.len() - self.first_unit;
-        let dirs = self.dirs.len() - self.first_dir;
-        self.entries.push(Entry {
-            action,
-            bits,
-            first_unit: self.first_unit,
-            units,
-            first_dir: self.first_dir,
-            dirs,
-        });
-        self.first_unit = self.units.len();
-        self.first_dir = self.dirs.len();
+        self.part.finish(action, bits);
+        self.room -= 1;
     }
 
-    /// How many changes there are.
-    pub fn len(&self) -> usize
+    /// How many changes were ever noted.
+    pub fn len(&self) -> u64
         ensures { result ≡ length self.now.changes }
     {
-        self.entries.len()
+        self.gone + self.part.len() as u64
     }
 
-    // What it is made of.
-    pub(crate) fn pieces(&self) -> Pieces<'_>
-        ensures changes { self.now.changes ≡ changes_of result.units.now result.dirs.now result.entries.now }
-        ensures pieces { ArePieces result.units.now result.dirs.now result.entries.now }
+    // What it holds.
+    pub(crate) fn held(&self) -> Held<'_>
+        ensures { Holds self.now result.gone result.part.now }
     {
-        let entries = self.entries.as_slice();
-        let units = self.units.as_slice();
-        are_few(entries, units);
-        Pieces {
-            entries,
-            units,
-            dirs: self.dirs.as_slice(),
+        Held {
+            gone: self.gone,
+            part: &self.part,
         }
     }
-}
 
-// Slices fit the memory that there can be.
-fn are_few(entries: &[Entry], units: &[u16])
-    ensures { 15 * length entries.now + 2 * length units.now < 2 ^ 64 }
-{
-    let _counts = (entries.len(), units.len());
+    /// Keeps the changes from this place on, of all that were noted. It lies between the base and the end. It takes
+    /// no memory, and leaves the room as it was or larger. What is held moves only where it is no more than what
+    /// goes.
+    pub fn trim(&mut self, base: u64)
+        requires from { self.old.base ≤ base }
+        requires to { base ≤ length self.old.changes }
+        ensures base { self.new.base ≡ base }
+        ensures same { (self.new.changes ≡ self.old.changes) × (self.new.path ≡ self.old.path) × (self.new.seen ≡ self.old.seen) }
+        ensures kept { (self.old.room ≤ self.new.room) × (self.old.units ≤ self.new.units) × (self.old.dirs ≤ self.new.dirs) }
+    {
+        self.base = base;
+        let dead = (base - self.gone) as usize;
+        if dead > 0 && dead >= self.part.len() - dead {
+            self.past = self.past.and(&self.part, &dead);
+            self.part.drop_first(dead);
+            self.gone = base;
+        }
+    }
 }

@@ -1,13 +1,17 @@
 //! What is due to watches of two directories, and its bytes, spelled by hand; and that a report leaves
 //! nothing due.
 
+ghost use Rattle.std.specs.Prelude.{◌≡◌, IfOk};
+
 use super::*;
 use fsa_types::{Bytes, NoMemory};
 use std::alloc::Global;
 use std::test::Fail;
 
 // `b` in the directory 5, which is `a` in the root, and then `c` in the root.
-fn noted(alloc: Global) -> Result<ChangeLog, NoMemory> {
+fn noted(alloc: Global) -> Result<ChangeLog, NoMemory>
+    ensures base { IfOk result (λ log. log.base ≡ 0) }
+{
     let mut log = ChangeLog::new(alloc);
     log.reserve(2, 4, 3)?;
     log.add_unit(98);
@@ -101,7 +105,9 @@ fn is_given(taken: Option<Bytes>, packed: &[u8]) -> bool {
 
 // Whether a report with just enough room gives these bytes, and one with less gives none; and nothing is
 // due after either.
-fn reports(alloc: Global, log: &ChangeLog, case: &Case) -> Result<bool, NoMemory> {
+fn reports(alloc: Global, log: &ChangeLog, case: &Case) -> Result<bool, NoMemory>
+    requires base { log.now.base ≡ 0 }
+{
     let size = is_size(case.watch.due_size(log), case.size);
     let room = case.size;
     let mut watch = case.watch;

@@ -1,14 +1,15 @@
 //! Watches of directories.
 
-ghost use Rattle.std.specs.Prelude.{ℕ, List, ◌≡◌, ◌≤◌, ◌<◌, ◌+◌, ◌*◌, ◌^◌, ◌==◌, ◌++◌, ◌∷◌, [], All, cond, drop, find, length, map, reverse, take, IfOk, OnErr, OnOk};
+ghost use Rattle.std.specs.Prelude.{ℕ, List, ◌≡◌, ◌≤◌, ◌<◌, ◌+◌, ◌-◌, ◌*◌, ◌^◌, ◌==◌, ◌++◌, ◌∷◌, [], All, cond, drop, find, length, map, reverse, take, IfOk, OnErr, OnOk};
 ghost use Rattle.std.specs.List.{list_any};
 ghost use Rattle.std.specs.Option.{option_copied};
 ghost use Rattle.fsa_types.specs.Access.{has_any};
 ghost use Rattle.fsa_model.specs.Watching.{packed_changes};
-ghost use Rattle.notify_queue.specs.Due.{asks_for, due_among, due_of, is_seen_among, packed_within, rounded, rows_of, size_due, size_from, size_of, told, written_for};
+ghost use Rattle.notify_queue.specs.Due.{asks_for, asks_for_last, due_among, due_of, is_seen_among, packed_within, rounded, rows_of, size_due, size_from, size_of, told, written_for};
 ghost use Rattle.notify_queue.specs.Log.{units_in};
 
-use crate::log::{ChangeLog, Entry};
+use crate::log::ChangeLog;
+use crate::part::{Entry, LogPart};
 use fsa_types::{Bytes, Name, NoMemory};
 use pack_info::{ChangeRow, pack_changes};
 use std::alloc::Global;
@@ -27,41 +28,91 @@ pub struct Watch {
 }
 
 impl Watch {
-    /// How many bytes a report of what is due takes; `None` exactly where nothing is due. It takes no
-    /// memory.
+    /// How many bytes a report of what is due takes; `None` exactly where nothing is due. No change before the log's
+    /// base is due to the watch. It takes no memory.
     pub fn due_size(&self, log: &ChangeLog) -> Option<u64>
+        requires kept { log.now.base ≤ self.now.from }
         ensures { result ≡ size_due (due_of log.now.changes self.now) }
     {
-        let size = size_of_due(self, log);
+        let held = log.held();
+        let size = size_of_due(&behind(*self, held.gone), held.part);
         if size == 0 { None } else { Some(size) }
     }
 
+    /// Whether the last change, which has to be kept, is one that the watch asks for, wherever its place. It takes
+    /// no memory.
+    pub fn asks_for_last(&self, log: &ChangeLog) -> bool
+        requires kept { log.now.base < length log.now.changes }
+        ensures { result ≡ asks_for_last self.now log.now.changes }
+    {
+        let held = log.held();
+        asks_for_last(self, held.part)
+    }
+
     /// The packed entries of what is due, after [MS-FSCC] 'FILE_NOTIFY_INFORMATION'; `None` exactly where they
-    /// take more than `room` bytes. In both cases only what is noted from now on is due. `NoMemory` changes
-    /// nothing, and comes only where they take no more.
+    /// take more than `room` bytes. In both cases only what is noted from now on is due. No change before the log's
+    /// base is due to the watch. `NoMemory` changes nothing, and comes only where they take no more.
     pub fn take(
         &mut self,
         alloc: Global,
         log: &ChangeLog,
         room: u32,
     ) -> Result<Option<Bytes>, NoMemory>
+        requires kept { log.now.base ≤ self.old.from }
         ensures packed { IfOk result (λ packed. packed ≡ packed_within (due_of log.now.changes self.old) room) }
         ensures seen { OnOk result (self.new ≡ record self.old { from = length log.now.changes }) }
         ensures unchanged { OnErr result (self.new ≡ self.old) }
         ensures within { OnErr result (length (packed_changes (due_of log.now.changes self.old)) ≤ room) }
     {
-        let packed = if size_of_due(self, log) > room as u64 {
-            None
-        } else {
-            Some(packed_due(alloc, self, log)?)
-        };
-        self.from = log.len() as u64;
+        let held = log.held();
+        let packed = packed_within(alloc, &behind(*self, held.gone), held.part, room)?;
+        self.from = log.len();
         Ok(packed)
     }
 }
 
+// The watch, where so many changes before those that are counted are gone.
+fn behind(watch: Watch, gone: u64) -> Watch
+    ensures { result ≡ record watch { from = watch.from - gone } }
+{
+    Watch {
+        dir: watch.dir,
+        filter: watch.filter,
+        tree: watch.tree,
+        from: watch.from.saturating_sub(gone),
+    }
+}
+
+// Whether the last change is one that the watch asks for; false where there is no change.
+fn asks_for_last(watch: &Watch, log: &LogPart) -> bool
+    ensures { result ≡ asks_for_last watch.now log.now.changes }
+{
+    let pieces = log.pieces();
+    let entries = pieces.entries;
+    if entries.is_empty() {
+        return false;
+    }
+    asks_for(watch, &entries[entries.len() - 1], pieces.dirs)
+}
+
+// The packed entries of what is due, where they take at most so many bytes.
+fn packed_within(
+    alloc: Global,
+    watch: &Watch,
+    log: &LogPart,
+    room: u32,
+) -> Result<Option<Bytes>, NoMemory>
+    ensures packed { IfOk result (λ packed. packed ≡ packed_within (due_of log.now.changes watch.now) room) }
+    ensures within { OnErr result (length (packed_changes (due_of log.now.changes watch.now)) ≤ room) }
+{
+    if size_of_due(watch, log) > room as u64 {
+        return Ok(None);
+    }
+    Ok(Some(packed_due(alloc, watch, log)?))
+}
+
 // How many bytes a report of what is due takes.
-fn size_of_due(watch: &Watch, log: &ChangeLog) -> u64
+fn size_of_due(watch: &Watch, log: &LogPart) -> u64
     ensures { result ≡ length (packed_changes (due_of log.now.changes watch.now)) }
 {
     let pieces = log.pieces();
@@ -70,7 +121,7 @@ fn size_of_due(watch: &Watch, log: &ChangeLog) -> u64
 }
 
 // The packed entries of what is due, which have to take less than 2^32 bytes.
-fn packed_due(alloc: Global, watch: &Watch, log: &ChangeLog) -> Result<Bytes, NoMemory>
+fn packed_due(alloc: Global, watch: &Watch, log: &LogPart) -> Result<Bytes, NoMemory>
     requires { length (packed_changes (due_of log.now.changes watch.now)) < 2 ^ 32 }
     ensures { IfOk result (λ packed. packed ≡ packed_changes (due_of log.now.changes watch.now)) }
 {
@@ -79,7 +130,7 @@ fn packed_due(alloc: Global, watch: &Watch, log: &ChangeLog) -> Result<Bytes, No
 }
 
 // The rows of what is due.
-fn rows_due(alloc: Global, watch: &Watch, log: &ChangeLog) -> Result<Vec<ChangeRow>, NoMemory>
+fn rows_due(alloc: Global, watch: &Watch, log: &LogPart) -> Result<Vec<ChangeRow>, NoMemory>
     ensures { IfOk result (λ rows. rows.items ≡ rows_of (due_of log.now.changes watch.now)) }
 {
     let pieces = log.pieces();
@@ -176,8 +227,11 @@ fn asks_for(watch: &Watch, entry: &Entry, dirs: &[(u64, usize)]) -> bool
     requires lies { entry.now.first_dir + entry.now.dirs ≤ length dirs.now }
     ensures { (units : List ℕ) → result ≡ asks_for watch.now units dirs.now entry.now }
 {
+    if !has_any(entry.bits, watch.filter) {
+        return false;
+    }
     let seen = &dirs[entry.first_dir..entry.first_dir + entry.dirs];
-    is_seen(seen, watch.dir, watch.tree) && has_any(entry.bits, watch.filter)
+    is_seen(seen, watch.dir, watch.tree)
 }
 
 // Whether some of these bits are set.

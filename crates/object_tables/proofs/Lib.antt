@@ -1,1 +1,3 @@
+pub mod ClosureLemmas
+pub mod NextLemmas
 pub mod SearchLemmas

@@ -1,3 +1,4 @@
 pub mod Lends
+pub mod Next
 pub mod Series
 pub mod Table

@@ -15,8 +15,6 @@
 
 mod series;
 mod table;
-#[cfg(test)]
-mod tests;
 
 pub use series::Series;
 pub use table::Table;

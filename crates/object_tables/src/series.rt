@@ -1,6 +1,6 @@
 //! Items in order, with spare room.
 
-ghost use Rattle.std.specs.Prelude.{◌≡◌, ◌≤◌, ◌+◌, ◌++◌, ◌∷◌, [], ◌==◌, length, OnOk};
+ghost use Rattle.std.specs.Prelude.{◌≡◌, ◌≤◌, ◌+◌, ◌++◌, ◌∷◌, [], ◌==◌, ◌<◌, drop, length, slice_set, OnOk};
 
 use fsa_types::NoMemory;
 use std::alloc::Global;
@@ -74,5 +74,23 @@ impl<T: Drop> Series<T> {
         let Ok(()) = self.items.push(item) else {
             unreachable!()
         };
+    }
+
+    /// Puts an item in the place of another.
+    pub fn set(&mut self, place: usize, item: T)
+        requires { place < length self.old.items }
+        ensures items { self.new.items ≡ slice_set self.old.items place item }
+        ensures room { self.new.room ≡ self.old.room }
+    {
+        self.items[place] = item;
+    }
+
+    /// Takes the first items out, so many, which have to be there. It takes no memory, and leaves no less room.
+    pub fn drop_first(&mut self, count: usize)
+        requires { count ≤ length self.old.items }
+        ensures items { self.new.items ≡ drop count self.old.items }
+        ensures room { self.old.room ≤ self.new.room }
+    {
+        drop(self.items.drain(..count));
     }
 }

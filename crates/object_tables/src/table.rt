@@ -1,11 +1,13 @@
 //! Rows under numbers that rise and are never given twice.
 
-ghost use Rattle.std.specs.Prelude.{AllPairs, ◌≡◌, ◌≤◌, ◌<◌, ◌+◌, ◌^◌, ◌++◌, ◌∷◌, [], OnOk, OnErr, IsOk, IfOk, IfErr, position, ◌==◌};
+ghost use Rattle.std.specs.Prelude.{AllPairs, ◌≡◌, ◌≤◌, ◌<◌, ◌+◌, ◌^◌, ◌++◌, ◌∷◌, [], OnOk, OnErr, IsOk, IfOk, IfErr, length, option_map, position, slice_get, ◌==◌};
+ghost use Rattle.std.specs.List.Sorted.{IsPartitionPoint};
 ghost use Rattle.std.specs.Borrow.{sem};
 ghost use Rattle.std.specs.Fn.{CalledAt};
 ghost use Rattle.std.specs.List.Retain.{IsFiltered};
 ghost use Rattle.std.specs.Option.{option_copied, option_copied_mut, option_map_or};
 ghost use Rattle.fsa_types.specs.Rows.{row_of, without_row, with_row_changed, IsNumbered};
+ghost use Rattle.object_tables.specs.Next.{IsNext, number_after};
 
 use fsa_types::NoMemory;
 use std::alloc::{AllocFailed, Global};
@@ -97,6 +99,14 @@ impl<T: Drop> Table<T> {
         self.last
     }
 
+    /// The least number above `after` that a row has; `None` exactly where there is none.
+    pub fn next(&self, after: u64) -> Option<u64>
+        ensures found { result ≡ number_after self.now.rows after }
+        ensures next { IsNext self.now.rows after result }
+    {
+        number_at(&self.rows, end_of(&self.rows, after))
+    }
+
     /// The row of this number; `None` exactly where there is none.
     pub fn get(&self, id: u64) -> Option<&T>
         ensures { option_copied result ≡ row_of self.now.rows id }
@@ -163,4 +173,23 @@ fn place_of<T>(rows: &[(u64, T)], id: u64) -> Option<usize>
     ensures { result ≡ position (λ entry. entry.0 == id) rows.now }
 {
     rows.binary_search_by_key(&id, |entry| entry.0).ok()
+}
+
+// Where the rows of numbers up to this one end, among rows whose numbers rise.
+fn end_of<T>(rows: &[(u64, T)], after: u64) -> usize
+    requires rising { AllPairs (λ a b. a.0 < b.0) rows.now }
+    ensures bound { result ≤ length rows.now }
+    ensures point { IsPartitionPoint (λ e. e.0 ≤ after) (λ e. after < e.0) rows.now result }
+{
+    rows.partition_point(|row| row.0 <= after)
+}
+
+// The number of the row at this place.
+fn number_at<T>(rows: &[(u64, T)], place: usize) -> Option<u64>
+    ensures { result ≡ option_map (λ row. row.0) (slice_get rows.now place) }
+{
+    match rows.get(place) {
+        None => None,
+        Some(row) => Some(row.0),
+    }
 }

@@ -18,8 +18,7 @@
 //! - The call has to be of its verb and to fit, and the client of a SetQuota one of the volume's.
 //! - All memory is taken after the checks and before the first change. A refusal leaves the volume as it was.
 //! - No reparse point is followed here: what meets one on the way is told (`op_parts`).
-//! - A set or a removal is noted, which costs a look through the links for each ancestor; a charge goes over
-//!   the files once for each stream.
+//! - A set or a removal is noted, which looks up a link for each ancestor; a charge is asked of a tally.
 #![tactic(auto)]
 
 mod delete_reparse;

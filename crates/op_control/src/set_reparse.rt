@@ -14,14 +14,18 @@ use pack_info::read_reparse;
 use std::alloc::Global;
 use volume_state::{Tried, Volume};
 
-// The bit of the tags that Microsoft owns.
+// The two reserved tags, and the bit of those that Microsoft owns, after [MS-FSCC] 'Reparse Tags'.
+const RESERVED_ZERO: u32 = 0;
+
+const RESERVED_ONE: u32 = 1;
+
 const MICROSOFT: u32 = 0x8000_0000;
 
 // Whether a tag can't be set: the two reserved ones, and those that Microsoft doesn't own.
 fn is_no_tag(tag: u32) -> bool
     ensures { result ≡ is_no_tag tag }
 {
-    tag == 0 || tag == 1 || !(tag & MICROSOFT != 0)
+    tag == RESERVED_ZERO || tag == RESERVED_ONE || !(tag & MICROSOFT != 0)
 }
 
 // Whether a file has a reparse point of another tag.

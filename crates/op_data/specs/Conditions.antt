@@ -29,9 +29,9 @@ HasWriteRoom v spare link stream at count =
     × CanWrite spare stream at count
     × HasNoteRoom v spare link (noted_stream v stream)
 
--- where the length is a new one, there is the room of a write of all bytes up to it
+-- where the length is a new one, there is the room of a write that ends there and puts no byte
 abbrev pub HasEndRoom : Volume → Spare → ℕ → ℕ → ℕ → Type 0
-HasEndRoom v spare link stream end = (length (bytes_of v stream) == end) ≡ false → HasWriteRoom v spare link stream 0 end
+HasEndRoom v spare link stream end = (length (bytes_of v stream) == end) ≡ false → HasWriteRoom v spare link stream end 0
 
 -- there is room for a lock of the handle, which is open on this stream, with a number for it, and for the
 -- call to be pending with these blockers

@@ -5,6 +5,7 @@ ghost use Rattle.fsa_types.specs.Rows.{lives};
 ghost use Rattle.fsa_model.specs.Charge.{clusters_for};
 ghost use Rattle.fsa_model.specs.Growth.{growth_fault, owner_of_stream};
 
+use crate::bytes::length_of;
 use fsa_types::Status;
 use op_parts::owner_of;
 use volume_state::Volume;
@@ -48,7 +49,7 @@ pub fn growth_fault(volume: &Volume, stream: u64, bytes: u64) -> Option<Status>
     ensures fault { result ≡ growth_fault volume.now.content stream bytes }
     ensures fits { IfNone result (bytes ≤ 2 ^ 26) }
 {
-    let had = clusters_for(volume.bytes_of(stream).len() as u64);
+    let had = clusters_for(length_of(volume, stream));
     let wanted = clusters_for(bytes);
     if wanted <= had {
         return None;

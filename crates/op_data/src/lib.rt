@@ -13,9 +13,9 @@
 //! The definitions are `Read`, `Write`, `Flush`, `SetEnd` and `Locking` of `fsa_model`, with `Locked` for the
 //! byte-range locks, `Growth` for the limits and `Waits` for the breaks. The files follow them: the checks in
 //! order (`read`, `write`, `flush`, `set_end`, `lock`, `unlock`), what a write and a new length change
-//! (`written`, `resized`), whether a stream may grow (`growth`), the locks that are in the way (`locked`) and
-//! the room for what is put, noted and locked (`room`). The break itself, and the room for it, are those of
-//! `op_parts`.
+//! (`written`, `resized`), whether a stream may grow (`growth`), the locks that are in the way (`locked`), the
+//! bytes of a stream (`bytes`) and the room for what is put, noted and locked (`room`). The break itself, and
+//! the room for it, are those of `op_parts`.
 //!
 //! - A call has to be the one that its try is for. Numbers have to be left for breaks, but for a Flush and
 //!   an Unlock, and for a Lock one for the lock too. Oplocks, locks, limits and pending calls may be there.
@@ -28,11 +28,12 @@
 //!   where the stream may grow so, for what a read gives by a copy of its bytes, and for what a lock waits
 //!   for by a list of the locks in the way; no break changes these. A refusal leaves the volume as it was,
 //!   but for the breaks that were begun.
-//! - It costs a break, and time linear in the handles, the locks of the stream and the bytes; an unlock goes
-//!   over all locks. A write or a new length that adds clusters goes over all streams, with a look-up of
-//!   the file of each, and its note over the links for each directory above.
+//! - It costs a break, and time linear in the locks of the stream and in the bytes that are read or written; an
+//!   unlock goes over all locks. What a write or a new length adds is asked of a tally, and its note looks up a link
+//!   for each directory above.
 #![tactic(auto)]
 
+mod bytes;
 mod flush;
 mod growth;
 mod lock;

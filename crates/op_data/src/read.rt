@@ -10,6 +10,7 @@ ghost use Rattle.op_parts.specs.Room.{HasWaitRoom};
 ghost use Rattle.volume_state.specs.Room.{KeepsEnds};
 ghost use Rattle.volume_state.specs.Tried.{Gives, HasHoldRoom};
 
+use crate::bytes::{copy_of_bytes, length_of};
 use crate::locked::read_is_locked;
 use crate::rights::LARGEST_END;
 use fsa_types::{AccessMask, BlockerList, Body, Bytes, Call, NoMemory, Request, Status, What};
@@ -39,13 +40,13 @@ fn part_at(
     requires lives { IsTrue (lives volume.now.content.streams stream) }
     ensures { IfOk result (λ part. part ≡ part_at volume.now.content stream at count) }
 {
-    let bytes = volume.bytes_of(stream);
-    if bytes.len() as u64 <= at {
+    let length = length_of(volume, stream);
+    if length <= at {
         return Ok(None);
     }
-    let rest = &bytes[at as usize..];
-    let part = &rest[..rest.len().min(count as usize)];
-    Ok(Some(Bytes::copy_of(alloc, part)?))
+    let count = u64::from(count).min(length - at);
+    let part = copy_of_bytes(alloc, volume, stream, at, count)?;
+    Ok(Some(part))
 }
 
 // The read gives these bytes, or is past the end where there are none.

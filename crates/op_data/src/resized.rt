@@ -7,6 +7,7 @@ ghost use Rattle.op_data.specs.Conditions.{HasEndRoom, HasWriteRoom};
 ghost use Rattle.fsa_model.specs.SetEnd.{with_end_set, with_file_resized, with_resized};
 ghost use Rattle.volume_state.specs.Room.{KeepsEnds};
 
+use crate::bytes::length_of;
 use crate::written::{file_of_stream, note_write};
 use op_parts::{access_time, attributes_of, creation_time};
 use volume_state::Volume;
@@ -31,7 +32,7 @@ pub fn ends_at(volume: &Volume, stream: u64, end: u64) -> bool
     requires lives { IsTrue (lives volume.now.content.streams stream) }
     ensures { result ≡ (length (bytes_of volume.now.content stream) == end) }
 {
-    volume.bytes_of(stream).len() as u64 == end
+    length_of(volume, stream) == end
 }
 
 /// The length is set; one that is set as it was changes nothing. The room is taken.
@@ -49,7 +50,7 @@ pub fn set_end_in_place(volume: &mut Volume, resizing: Resizing)
 
 // A new length is noted and set, and its file has changed. The room is taken.
 fn resize_in_place(volume: &mut Volume, resizing: Resizing)
-    requires put { HasWriteRoom volume.old.content volume.old.spare resizing.link resizing.stream 0 resizing.end }
+    requires put { HasWriteRoom volume.old.content volume.old.spare resizing.link resizing.stream resizing.end 0 }
     ensures content { volume.new.content ≡ with_resized volume.old.content resizing.link resizing.stream resizing.end }
     ensures ends { KeepsEnds volume.old volume.new }
 {

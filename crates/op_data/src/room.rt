@@ -102,7 +102,7 @@ fn room_to_set_end(
     if ends_at(volume, stream, end) {
         return room_to_wait(alloc, volume, &Need::nothing());
     }
-    room_to_put(alloc, volume, link, stream, 0, end)
+    room_to_put(alloc, volume, link, stream, end, 0)
 }
 
 /// Takes the room for a new length, which the stream may have unless there is a fault; where there is one,

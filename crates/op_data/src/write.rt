@@ -13,6 +13,7 @@ ghost use Rattle.op_parts.specs.Room.{HasWaitRoom};
 ghost use Rattle.volume_state.specs.Room.{KeepsEnds};
 ghost use Rattle.volume_state.specs.Tried.{Gives, HasHoldRoom};
 
+use crate::bytes::length_of;
 use crate::growth::growth_fault;
 use crate::locked::write_is_locked;
 use crate::rights::{LARGEST_END, can_write};
@@ -141,7 +142,7 @@ fn write_at(alloc: Global, volume: &mut Volume, id: u64, at: Option<u64>, bytes:
     if bytes.is_empty() {
         return Tried::succeeds(Body::Count(0));
     }
-    let end = volume.bytes_of(stream).len() as u64;
+    let end = length_of(volume, stream);
     let place = at.unwrap_or(end);
     if place > LARGEST_END - bytes.len() as u64 {
         return Tried::ends(Status::InvalidParameter);

@@ -8,6 +8,7 @@ ghost use Rattle.op_data.specs.Conditions.{HasWriteRoom, noted_stream};
 ghost use Rattle.op_parts.specs.Room.{HasNoteRoom};
 ghost use Rattle.volume_state.specs.Room.{KeepsEnds};
 
+use crate::bytes::length_of;
 use bitflags::Flags;
 use fsa_types::{FILE_ACTION_MODIFIED, FILE_ACTION_MODIFIED_STREAM, FileAttributes, NotifyFilter};
 use op_parts::{access_time, attributes_of, creation_time, is_named_stream};
@@ -80,7 +81,7 @@ fn lengthens(volume: &Volume, stream: u64, at: u64, bytes: &[u8]) -> bool
     requires fits { at + length bytes.now ≤ 2 ^ 26 }
     ensures { result ≡ lengthens volume.now.content stream at bytes.now }
 {
-    (volume.bytes_of(stream).len() as u64) < at + bytes.len() as u64
+    length_of(volume, stream) < at + bytes.len() as u64
 }
 
 /// The file of a stream; 0 where there is no such stream.

@@ -18,16 +18,16 @@
 //!
 //! The definitions are `QueryDir` of `fsa_model`, with `Shown` for what an entry tells of its file, and `Watching`.
 //! The files here follow them: the expression and the cursor with which a query begins (`begun`), the entries that
-//! are still to come (`places`), what is shown of them (`shown`, `rows`), as many as fit into the room (`listing`),
+//! are still to come (`places`), what is shown of them (`rows`), as many as fit into the room (`listing`),
 //! and the checks in order (`query_dir`); and a Notify with its report (`notify`).
 //!
 //! - The call has to be of its verb. Nothing is asked of the volume.
 //! - All memory is taken before the enumeration goes on or a watch begins or reports; nothing else changes. A report
 //!   that exceeds its room takes none.
-//! - Entries are taken one after the other, no more than could fit into the room and one. Each costs a look through
-//!   the links of the volume, marked or not, and so does each that is passed over.
-//! - A Notify looks once over the changes that were noted since its watch began or last reported, and a report
-//!   twice; each change costs its ancestor directories and its name.
+//! - Entries are taken one after the other, no more than could fit into the room and one. Each costs a binary
+//!   search among the links of the volume, marked or not, and so does each that is passed over.
+//! - Where something is due, a Notify looks once over the changes that were noted since its watch began or last
+//!   reported, and a report twice; each change costs its ancestor directories and its name.
 #![tactic(auto)]
 
 mod begun;
@@ -37,7 +37,6 @@ mod notify;
 mod places;
 mod query_dir;
 mod rows;
-mod shown;
 
 pub use notify::{report, try_notify};
 pub use query_dir::try_query_dir;

@@ -1,21 +1,21 @@
 //! The checks of a Notify in order, and what a watch reports.
 
 ghost use Rattle.std.specs.Prelude.{ℕ, ◌≡◌, ◌≤◌, None, IsTrue, IfOk, OnErr, OnOk};
+ghost use Rattle.fsa_types.specs.Access.{has_other};
+ghost use Rattle.fsa_types.specs.Masks.{known_filters};
 ghost use Rattle.fsa_types.specs.Rows.{lives};
 ghost use Rattle.fsa_model.specs.Watching.{due_size, is_notify_filter, notify_at, notify_due, report, try_notify, watch_of, with_watch_begun, with_watch_seen};
 ghost use Rattle.op_dir.specs.Calls.{IsNotify, asked_notify};
 ghost use Rattle.volume_state.specs.Room.{KeepsEnds};
 ghost use Rattle.volume_state.specs.Tried.{Gives, HasHoldRoom};
 
+use bitflags::Flags;
 use fsa_types::{
-    AccessMask, Body, Call, Interim, NoMemory, PackKind, Reply, Request, Status, What,
+    AccessMask, Body, Call, Interim, NoMemory, NotifyFilter, PackKind, Reply, Request, Status, What,
 };
 use op_parts::{has_right, is_link_marked};
 use std::alloc::Global;
 use volume_state::{Need, Tried, Volume};
-
-// All bits of a `NotifyFilter`.
-const ALL_CHANGES: u32 = 0xFFF;
 
 /// What a Notify of this handle is answered for what is due, after [MS-FSA] 'Algorithm for Reporting a Change': all
 /// of it, packed, with SUCCESS; or NOTIFY_ENUM_DIR without bytes, exactly where it takes more than `room` bytes.
@@ -112,11 +112,22 @@ fn notify_watching(
     }
 }
 
+// Whether there is a bit that no filter may have.
+#[tactic(auto, unfolding(bitflags::specs::Sets::known_from))]
+fn has_other_filter(filter: u32) -> bool
+    ensures { result ≡ has_other filter known_filters }
+{
+    match NotifyFilter::from_bits(filter) {
+        Some(_) => false,
+        None => true,
+    }
+}
+
 // Whether these are bits of a filter, and some.
 fn is_notify_filter(filter: u32) -> bool
     ensures { result ≡ is_notify_filter filter }
 {
-    filter != 0 && filter & !ALL_CHANGES == 0
+    filter != 0 && !has_other_filter(filter)
 }
 
 // The directory of the handle of this number is watched. It has to be one, with READ_DATA; then come the filter,

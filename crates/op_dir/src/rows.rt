@@ -7,9 +7,11 @@ ghost use Rattle.op_dir.specs.Places.{entry_at};
 ghost use Rattle.volume_rows.specs.Cursors.{cursor_of};
 
 use crate::places::{DOT, DOT_DOT, Place, parent_directory};
-use crate::shown::{change_time, default_stream, length_shown, shown_attributes, space_shown};
 use fsa_types::{Name, NoMemory, TryCopy};
-use op_parts::{access_time, creation_time, write_time};
+use op_parts::{
+    access_time, change_time, creation_time, length_shown, shown_attributes, space_shown,
+    write_time,
+};
 use pack_info::DirRow;
 use std::alloc::Global;
 use volume_state::{Cursor, Volume};
@@ -19,7 +21,7 @@ fn row_of(alloc: Global, volume: &Volume, file: u64, units: &[u16]) -> Result<Di
     ensures { IfOk result (λ row. row ≡ record { numbers = listed_numbers volume.now.content file; name = units.now }) }
 {
     let name = Name::copy_of(alloc, units)?;
-    let stream = default_stream(volume, file);
+    let stream = volume.default_stream(file);
     Ok(DirRow {
         creation: creation_time(volume, file),
         access: access_time(volume, file),

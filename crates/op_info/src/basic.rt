@@ -9,10 +9,11 @@ ghost use Rattle.volume_state.specs.Tried.{Gives, HasHoldRoom};
 
 use crate::basics::{Basics, attributes_set, basic_bits, has_no_time, has_wrong_attributes};
 use crate::room::room_to_note;
-use crate::shown::change_time;
 use crate::times::{change_set, time_set};
 use fsa_types::{AccessMask, Call, FILE_ACTION_MODIFIED, NoMemory, Request, Status, What};
-use op_parts::{access_time, attributes_of, creation_time, file_of_link, has_right, write_time};
+use op_parts::{
+    access_time, attributes_of, change_time, creation_time, file_of_link, has_right, write_time,
+};
 use std::alloc::Global;
 use volume_state::{Tried, Volume};
 

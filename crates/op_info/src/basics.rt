@@ -3,17 +3,14 @@
 ghost use Rattle.std.specs.Prelude.{◌≡◌, ◌≤◌};
 ghost use Rattle.fsa_types.specs.Access.{has_any};
 ghost use Rattle.fsa_types.specs.Masks.{DIRECTORY};
-ghost use Rattle.fsa_model.specs.Open.{has_other, kept_attributes};
 ghost use Rattle.fsa_model.specs.SetBasic.{attributes_set, basic_bits, bit_if, has_no_time, has_wrong_attributes};
 
 use crate::times::{is_left, is_no_time};
 use bitflags::Flags;
 use fsa_types::{FileAttributes, NotifyFilter};
+use op_parts::{has_other_attribute, kept_attributes};
 use std::marker::Model;
 use volume_state::Volume;
-
-// READONLY, HIDDEN, SYSTEM and ARCHIVE.
-const KEPT: u32 = 0x27;
 
 /// What is asked: the four times, in ticks, and the attributes, as FILE_ATTRIBUTE bits.
 #[derive(Clone, Copy, Debug)]
@@ -50,13 +47,6 @@ impl Model for Basics {
       change = b.change;
       attributes = b.attributes;
     } };
-}
-
-// The attributes that are kept of these.
-fn kept_attributes(attributes: u32) -> u32
-    ensures { result ≡ kept_attributes attributes }
-{
-    attributes & KEPT
 }
 
 /// The attributes that are set, where they were `old`: 0 leaves them.
@@ -96,17 +86,6 @@ pub fn has_no_time(asked: &Basics) -> bool
         || is_no_time(asked.access)
         || is_no_time(asked.write)
         || is_no_time(asked.change)
-}
-
-// Whether there is an attribute that isn't accepted.
-#[tactic(auto, unfolding(bitflags::specs::Sets::known_from))]
-fn has_other_attribute(attributes: u32) -> bool
-    ensures { result ≡ has_other attributes 0x31B7 }
-{
-    match FileAttributes::from_bits(attributes) {
-        Some(_) => false,
-        None => true,
-    }
 }
 
 // Whether DIRECTORY is among them.

@@ -5,9 +5,11 @@ ghost use Rattle.std.specs.Option.{option_map_or};
 ghost use Rattle.fsa_model.specs.QueryInfo.{basic_of, is_delete_pending, standard_of, tag_of};
 ghost use Rattle.fsa_model.specs.Walk.{point_of};
 
-use crate::shown::{change_time, length_shown, shown_attributes, space_shown};
 use fsa_types::{Bytes, NoMemory};
-use op_parts::{access_time, creation_time, is_link_marked, is_marked, named_stream, write_time};
+use op_parts::{
+    access_time, change_time, creation_time, is_link_marked, is_marked, length_shown, named_stream,
+    shown_attributes, space_shown, write_time,
+};
 use pack_info::{pack_basic, pack_standard, pack_tag};
 use std::alloc::Global;
 use volume_state::{HandleRow, Volume};

@@ -12,19 +12,18 @@
 //! ```
 //!
 //! The definitions are `QueryInfo`, `SetBasic` and `Security` of `fsa_model`, and the files here follow them.
-//! Of a query: what is shown of a file and a stream (`shown`), the buffers without entries (`kinds`), the
-//! streams (`streams`), and the checks in order (`query`). Of times and attributes: times (`times`), what is
-//! asked and noted (`basics`), and the changes and the checks (`basic`). Of the owner and the access list:
-//! what is asked for and the rights that it needs (`asked`), the limit of a new owner (`quota`), the list with
-//! its generic rights mapped (`list`), the changes (`change`) and the checks (`security`). `room` serves
-//! all.
+//! Of a query: the buffers without entries (`kinds`), the streams (`streams`), and the checks in order
+//! (`query`). Of times and attributes: times (`times`), what is asked and noted (`basics`), and the changes
+//! and the checks (`basic`). Of the owner and the access list: what is asked for and the rights that it needs
+//! (`asked`), the limit of a new owner (`quota`), the list with its generic rights mapped (`list`), the changes
+//! (`change`) and the checks (`security`). `room` serves all.
 //!
 //! - The call has to be of its kind; a SetSecurity has at most 32 entries, and its client is one of the
 //!   volume's.
 //! - All room is taken after the checks and before the first change. A refusal leaves the volume as it was,
 //!   and a query always does.
-//! - A list of streams goes over all streams of the volume once for each stream of the file, the charge of a
-//!   new owner over the files once for each stream, and a note over the links once for each ancestor.
+//! - A list of streams goes over all streams of the volume once for each stream of the file, and what a new owner is
+//!   charged over all of them once; a note looks up a link for each ancestor.
 #![tactic(auto)]
 
 mod asked;
@@ -37,7 +36,6 @@ mod query;
 mod quota;
 mod room;
 mod security;
-mod shown;
 mod streams;
 mod times;
 

@@ -8,8 +8,8 @@ ghost use Rattle.fsa_model.specs.Shown.{space_shown};
 ghost use Rattle.op_info.specs.Streams.{IsWalked};
 ghost use Rattle.volume_state.specs.Tried.{Gives, HasHoldRoom};
 
-use crate::shown::{length_shown, space_shown};
 use fsa_types::{Body, Bytes, Name, NoMemory, PackKind, Reply, Status};
+use op_parts::{length_shown, space_shown};
 use pack_info::{StreamRow, pack_streams};
 use std::alloc::Global;
 use volume_state::{HandleRow, Tried, Volume};

@@ -1,13 +1,14 @@
 //! What an open asks for.
 
-ghost use Rattle.std.specs.Prelude.{◌≡◌, ◌||◌, ◌&&◌, ◌==◌, not, nat_lt};
-ghost use Rattle.fsa_model.specs.Open.{access_of, completes_if_oplocked, deletes_on_close, has_other, is_invalid, lacks_delete, only_makes, only_opens, opens_point, overwrites, wants_directory, wants_file, wants_more, wants_no_right};
-ghost use Rattle.fsa_types.specs.Access.{has_any};
+ghost use Rattle.std.specs.Prelude.{◌≡◌, ◌||◌, ◌&&◌, ◌==◌, not};
+ghost use Rattle.fsa_model.specs.Open.{access_of, attribute_rights, completes_if_oplocked, deletes_on_close, is_invalid, lacks_delete, only_makes, only_opens, opens_point, overwrites, wants_directory, wants_file, wants_more, wants_no_right};
+ghost use Rattle.fsa_types.specs.Access.{has_any, has_other};
+ghost use Rattle.fsa_types.specs.Masks.{known_options, known_rights, known_shares};
 
 use acl_check::map_generic;
 use bitflags::Flags;
-use fsa_types::{AccessMask, CreateOptions, Disposition, FileAttributes};
-use op_parts::has_right;
+use fsa_types::{AccessMask, CreateOptions, Disposition, FileAttributes, ShareAccess};
+use op_parts::{has_other_attribute, has_right};
 use std::marker::Model;
 
 /// What an open asks for, as its call has it.
@@ -51,23 +52,23 @@ impl<'a> Model for Asked<'a> {
     } };
 }
 
-// Whether there is an option that isn't accepted.
+// Whether there is a bit of sharing that isn't one.
 #[tactic(auto, unfolding(bitflags::specs::Sets::known_from))]
-fn has_other_option(options: u32) -> bool
-    ensures { result ≡ has_other options 0x60DB7F }
+fn has_other_share(share: u32) -> bool
+    ensures { result ≡ has_other share known_shares }
 {
-    match CreateOptions::from_bits(options) {
+    match ShareAccess::from_bits(share) {
         Some(_) => false,
         None => true,
     }
 }
 
-// Whether there is an attribute that isn't accepted.
+// Whether there is an option that isn't accepted.
 #[tactic(auto, unfolding(bitflags::specs::Sets::known_from))]
-fn has_other_attribute(attributes: u32) -> bool
-    ensures { result ≡ has_other attributes 0x31B7 }
+fn has_other_option(options: u32) -> bool
+    ensures { result ≡ has_other options known_options }
 {
-    match FileAttributes::from_bits(attributes) {
+    match CreateOptions::from_bits(options) {
         Some(_) => false,
         None => true,
     }
@@ -76,7 +77,7 @@ fn has_other_attribute(attributes: u32) -> bool
 // Whether there is a right that isn't one.
 #[tactic(auto, unfolding(bitflags::specs::Sets::known_from))]
 fn has_other_right(rights: u32) -> bool
-    ensures { result ≡ has_other rights 0xF01F01FF }
+    ensures { result ≡ has_other rights known_rights }
 {
     match AccessMask::from_bits(rights) {
         Some(_) => false,
@@ -172,7 +173,7 @@ impl<'a> Asked<'a> {
     pub fn is_invalid(&self) -> bool
         ensures { result ≡ is_invalid self.now }
     {
-        self.share > 7
+        has_other_share(self.share)
             || has_other_option(self.options)
             || has_other_attribute(self.attributes)
             || (self.wants_directory() && self.wants_file())
@@ -203,7 +204,10 @@ impl<'a> Asked<'a> {
 
 // Whether these rights are more than READ_ATTRIBUTES, WRITE_ATTRIBUTES and SYNCHRONIZE.
 fn has_more(rights: u32) -> bool
-    ensures { result ≡ has_other rights 0x100180 }
+    ensures { result ≡ has_other rights attribute_rights }
 {
-    rights & 0x100180 != rights
+    let attributes = AccessMask::READ_ATTRIBUTES.bits()
+        | AccessMask::WRITE_ATTRIBUTES.bits()
+        | AccessMask::SYNCHRONIZE.bits();
+    rights & attributes != rights
 }

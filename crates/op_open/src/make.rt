@@ -20,7 +20,7 @@ ghost use Rattle.fsa_types.specs.declared.status.Status.TheVariants as status;
 
 use crate::asked::{Asked, has_attribute, only_opens};
 use crate::ends::{open_handle, opens};
-use crate::open::{file_attributes, kept_attributes};
+use crate::open::file_attributes;
 use crate::opening::Opening;
 use crate::rights::first_sid;
 use bitflags::Flags;
@@ -28,7 +28,7 @@ use fsa_types::{
     AccessMask, Action, FILE_ACTION_ADDED, FILE_ACTION_ADDED_STREAM, FileAttributes, Name,
     NoMemory, NotifyFilter, Status,
 };
-use op_parts::{grants, is_readonly};
+use op_parts::{grants, is_readonly, kept_attributes};
 use std::alloc::Global;
 use volume_state::{FileRow, Need, Tried, Volume};
 

@@ -1,7 +1,7 @@
 //! The open of a file or a directory that is there.
 
 ghost use Rattle.std.specs.Prelude.{◌≡◌, ◌<◌, ◌≤◌, ◌+◌, ◌-◌, ◌^◌, ◌==◌, not, None, Some, length};
-ghost use Rattle.fsa_model.specs.Open.{file_attributes, kept_attributes, open_directory, names_stream, open_existing, open_granted, open_stream, overwrite_action, overwrite_existing, overwrite_filters, stream_overwrite_filters, with_file_overwritten, with_open, with_overwrite_noted, with_overwritten};
+ghost use Rattle.fsa_model.specs.Open.{file_attributes, open_directory, names_stream, open_existing, open_granted, open_stream, overwrite_action, overwrite_existing, overwrite_filters, stream_overwrite_filters, with_file_overwritten, with_open, with_overwrite_noted, with_overwritten};
 ghost use Rattle.fsa_model.specs.Lookups.{handle_of};
 ghost use Rattle.op_open.specs.Conditions.{HasOpenRoom, IsOpenBy, MayOpen, noted_stream};
 ghost use Rattle.op_parts.specs.Room.{HasNoteRoom};
@@ -17,19 +17,9 @@ use fsa_types::{
     Action, BlockerList, Disposition, FILE_ACTION_MODIFIED, FILE_ACTION_MODIFIED_STREAM,
     FileAttributes, NotifyFilter, Status,
 };
-use op_parts::{access_time, break_for, creation_time, grants, held, is_readonly};
+use op_parts::{access_time, break_for, creation_time, grants, held, is_readonly, kept_attributes};
 use std::alloc::Global;
 use volume_state::{Class, HandleSet, Tried, Volume};
-
-// READONLY, HIDDEN, SYSTEM and ARCHIVE.
-const KEPT: u32 = 0x27;
-
-/// The attributes of a directory that is made.
-pub fn kept_attributes(attributes: u32) -> u32
-    ensures { result ≡ kept_attributes attributes }
-{
-    attributes & KEPT
-}
 
 /// The attributes of a file that is made or overwritten.
 pub fn file_attributes(attributes: u32) -> u32

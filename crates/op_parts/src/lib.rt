@@ -12,13 +12,15 @@
 //!
 //! The parts group so: room (`room_to_wait`); breaks (`break_for`, `held`); the walk along a path (`walk`,
 //! `has_point`), and a request that a reparse point stops (`stopped`); a file (`creation_time`, `access_time`,
-//! `write_time`, `attributes_of`, `owner_of`, `is_readonly`, `set_change_time`); a link (`file_of_link`,
-//! `linked_file`, `is_link_marked`, `is_link_of_parent`, `name_bit`); a stream (`is_marked`,
-//! `is_named_stream`, `named_stream`); handles (`is_any_open`); rights (`has_right`, `grants`). Those of a
-//! walk, a file, a link, a stream and handles have the names of their definitions in `fsa_model` (`has_point`
-//! asks its `point_of`, `set_change_time` is its `with_change_time`); a break is its `with_breaks` and
-//! `waits_for`, and `has_right` is `has_any` of `fsa_types`. `Room` has the conditions that verbs name: room
-//! for a break and a call that is held (`HasWaitRoom`), and room for a note (`HasNoteRoom`).
+//! `write_time`, `attributes_of`, `owner_of`, `is_readonly`, `set_change_time`); what is shown of a file and a
+//! stream (`shown_attributes`, `change_time`, `length_shown`, `space_shown`); attributes that are asked for
+//! (`has_other_attribute`, `kept_attributes`); a link (`file_of_link`, `linked_file`, `is_link_marked`,
+//! `is_link_of_parent`, `name_bit`); a stream (`is_marked`, `is_named_stream`, `named_stream`); handles
+//! (`is_any_open`); rights (`has_right`, `grants`). Those of a walk, a file, a link, a stream and handles have
+//! the names of their definitions in `fsa_model` (`has_point` asks its `point_of`, `set_change_time` is its
+//! `with_change_time`); a break is its `with_breaks` and `waits_for`, and `has_right` and `has_other_attribute`
+//! are `has_any` and `has_other` of `fsa_types`. `Room` has the conditions that verbs name: room for a break
+//! and a call that is held (`HasWaitRoom`), and room for a note (`HasNoteRoom`).
 //!
 //! - A break asks that its room was taken and that numbers are left for breaks; nothing can be refused then.
 //!   The parts on a file, a link, a stream, handles and rights ask nothing and change nothing, but that
@@ -29,6 +31,7 @@
 //!   is what lies below a directory, and any other part of a volume a look-up or a few.
 #![tactic(auto)]
 
+mod attributes;
 mod breaks;
 mod files;
 mod handles;
@@ -36,9 +39,11 @@ mod links;
 mod paths;
 mod rights;
 mod room;
+mod shown;
 mod stops;
 mod streams;
 
+pub use attributes::{has_other_attribute, kept_attributes};
 pub use breaks::{break_for, held};
 pub use files::{
     access_time, attributes_of, creation_time, is_readonly, owner_of, set_change_time, write_time,
@@ -48,5 +53,6 @@ pub use links::{file_of_link, is_link_marked, is_link_of_parent, linked_file, na
 pub use paths::{Walked, has_point, walk};
 pub use rights::{grants, has_right};
 pub use room::room_to_wait;
+pub use shown::{change_time, length_shown, shown_attributes, space_shown};
 pub use stops::stopped;
 pub use streams::{is_marked, is_named_stream, named_stream};

@@ -1,4 +1,4 @@
--- A break that goes over the oplocks that are chosen, and breaks each in the table of its stream, does to the tables
+-- A break that goes over the oplocks that are chosen, and breaks each in the table of its home, does to the tables
 -- what it does to the list.
 use Rattle.std.proofs.Common.{◌≡◌, ℕ, ◌+◌, ◌<◌, ◌≤◌, true, false, List, [], ◌∷◌, ◌++◌, length, take, get_or, refl, ap, sym, subst, ◌∙◌, arith, inl, inr, Option, Some, None, IsSome}
 use Rattle.std.specs.List.{AllPairs}
@@ -12,10 +12,10 @@ use Rattle.fsa_types.specs.Oplocks.{Begins, Effect, Ends, Lowers, Oplock, Stays}
 use Rattle.fsa_types.specs.declared.oplock.Class.{Class}
 use Rattle.fsa_model.specs.Volume.{Handle}
 use Rattle.fsa_model.proofs.RowLaws.{option_cases}
+use Rattle.oplock_state.specs.Homes.{home_of_handle}
 use Rattle.oplock_state.specs.State.{State}
 use Rattle.oplock_state.specs.Tables.{AreSorted, AreThere, IsStep, last_at, room_at, rows_at}
 use Rattle.oplock_state.proofs.SortLemmas.{IsLocal, local-left, sorted-local, there-at, there-home}
-use Rattle.volume_tables.specs.HandleTable.{stream_of_handle}
 
 -- so far have the tables come once the first of those that are chosen are broken: each that is to come is there still,
 -- as it was
@@ -60,43 +60,43 @@ next-there handles kind held chosen place tables last oplock begun within read =
     subst (λ (o : Oplock). filter (λ (other : Oplock). other.handle == o.handle) (after_breaks kind held (take place chosen)).oplocks ≡ o ∷ []) (sym read) (begun.there place oplock (omega arith) within)
 
 pub next-home : (handles : List (ℕ × Handle)) (kind : Class) (held : OplockState) (chosen : List Oplock) (place : ℕ) (tables : List (ℕ × State)) (last : ℕ) (oplock : Oplock)
-    → AreBegun handles kind held chosen place tables last → place < length chosen → oplock ≡ get_or chosen place oplock → IsSome (stream_of_handle handles oplock.handle)
+    → AreBegun handles kind held chosen place tables last → place < length chosen → oplock ≡ get_or chosen place oplock → IsSome (home_of_handle handles oplock.handle)
 next-home handles kind held chosen place tables last oplock begun within read =
     there-home handles (after_breaks kind held (take place chosen)).oplocks oplock begun.sorted.homes (next-there handles kind held chosen place tables last oplock begun within read)
 
 pub next-at : (handles : List (ℕ × Handle)) (kind : Class) (held : OplockState) (chosen : List Oplock) (place : ℕ) (tables : List (ℕ × State)) (last : ℕ) (oplock : Oplock)
     → AreBegun handles kind held chosen place tables last → place < length chosen → oplock ≡ get_or chosen place oplock
-    → ForSome (stream_of_handle handles oplock.handle) (λ stream. filter (λ (other : Oplock). other.handle == oplock.handle) (rows_at tables stream) ≡ oplock ∷ [])
-next-at handles kind held chosen place tables last oplock begun within read stream found =
-    ap (filter (λ (other : Oplock). other.handle == oplock.handle)) (begun.sorted.each stream)
-    ∙ there-at handles (after_breaks kind held (take place chosen)).oplocks oplock stream found (next-there handles kind held chosen place tables last oplock begun within read)
+    → ForSome (home_of_handle handles oplock.handle) (λ home. filter (λ (other : Oplock). other.handle == oplock.handle) (rows_at tables home) ≡ oplock ∷ [])
+next-at handles kind held chosen place tables last oplock begun within read home found =
+    ap (filter (λ (other : Oplock). other.handle == oplock.handle)) (begun.sorted.each home)
+    ∙ there-at handles (after_breaks kind held (take place chosen)).oplocks oplock home found (next-there handles kind held chosen place tables last oplock begun within read)
 
 -- it is broken in its table
 pub begun-more : (handles : List (ℕ × Handle)) (kind : Class) (held : OplockState) (chosen : List Oplock) (place : ℕ) (tables new : List (ℕ × State)) (last : ℕ) (oplock : Oplock)
     → AreBegun handles kind held chosen place tables last → place < length chosen → oplock ≡ get_or chosen place oplock → AllPairs (λ a b. (a.handle == b.handle) ≡ false) chosen
-    → ForSome (stream_of_handle handles oplock.handle)
-    (λ stream. IsStep tables new stream (left_by (effect_on kind oplock) oplock.handle (last + 1) (rows_at tables stream)) (last_by (effect_on kind oplock) last) 0)
+    → ForSome (home_of_handle handles oplock.handle)
+    (λ home. IsStep tables new home (left_by (effect_on kind oplock) oplock.handle (last + 1) (rows_at tables home)) (last_by (effect_on kind oplock) last) 0)
     → AreBegun handles kind held chosen (place + 1) new (last_by (effect_on kind oplock) last)
 begun-more handles kind held chosen place tables new last oplock begun within read differ steps =
-    elim (option_cases (stream_of_handle handles oplock.handle)) [
-      | inl none ↦ absurd (homeless (stream_of_handle handles oplock.handle) none (next-home handles kind held chosen place tables last oplock begun within read))
+    elim (option_cases (home_of_handle handles oplock.handle)) [
+      | inl none ↦ absurd (homeless (home_of_handle handles oplock.handle) none (next-home handles kind held chosen place tables last oplock begun within read))
       | inr some ↦ at_home some.0 some.1
     ]
   where
     homeless : (home : Option ℕ) → home ≡ None → IsSome home → ⊥
     homeless None none some = (let impossible : false ≡ true = some in cc)
-    homeless (Some stream) none some = (let impossible : Some stream ≡ None = none in cc)
+    homeless (Some home) none some = (let impossible : Some home ≡ None = none in cc)
 
-    at_home : (stream : ℕ) → stream_of_handle handles oplock.handle ≡ Some stream → AreBegun handles kind held chosen (place + 1) new (last_by (effect_on kind oplock) last)
-    at_home stream found =
+    at_home : (home : ℕ) → home_of_handle handles oplock.handle ≡ Some home → AreBegun handles kind held chosen (place + 1) new (last_by (effect_on kind oplock) last)
+    at_home home found =
         let was : OplockState = after_breaks kind held (take place chosen) in
         let done : Effect = effect_on kind oplock in
-        let step = steps stream found in
+        let step = steps home found in
         let more = after-more kind held chosen place oplock within read in
         let local : IsLocal oplock.handle (left_by done oplock.handle (last + 1)) = local-left done oplock.handle (last + 1) in
         let left : left_by done oplock.handle (last + 1) was.oplocks ≡ (after_breaks kind held (take (place + 1) chosen)).oplocks
         = ap (λ (n : ℕ). left_by done oplock.handle (n + 1) was.oplocks) begun.number ∙ sym (ap (λ (s : OplockState). s.oplocks) more) in
-        let sorted = sorted-local handles was.oplocks tables new oplock.handle stream (last_by done last) 0 (left_by done oplock.handle (last + 1)) local found begun.sorted step in
+        let sorted = sorted-local handles was.oplocks tables new oplock.handle home (last_by done last) 0 (left_by done oplock.handle (last + 1)) local found begun.sorted step in
         record {
           sorted = subst (λ (rows : List Oplock). AreSorted handles rows new) left sorted;
           number = ap (λ (n : ℕ). last_by done n) begun.number ∙ sym (ap (λ (s : OplockState). s.last_break) more);
@@ -107,8 +107,8 @@ begun-more handles kind held chosen place tables new last oplock begun within re
               ap (filter (λ (x : Oplock). x.handle == (get_or chosen k d).handle)) (sym left)
               ∙ local.keeps (get_or chosen k d).handle was.oplocks other
               ∙ begun.there k d (omega arith) inside);
-          lasts = λ key. elim (cases_Bool (key == stream)) [
-            | inl here ↦ (let is : key ≡ stream = eqb-true key stream here in let now = step.number in rw is (omega arith))
+          lasts = λ key. elim (cases_Bool (key == home)) [
+            | inl here ↦ (let is : key ≡ home = eqb-true key home here in let now = step.number in rw is (omega arith))
             | inr beside ↦ (let now = step.other_lasts key beside in let before = begun.lasts key in let up = last-more done last in omega arith)
           ];
         }
@@ -130,12 +130,12 @@ last-few Ends last = omega arith
 last-few (Begins level) last = omega arith
 last-few (Lowers level) last = omega arith
 
-pub steps-room : (home : Option ℕ) (tables new : List (ℕ × State)) (rows : ℕ → List Oplock) (last : ℕ) → IsSome home → ForSome home (λ stream. IsStep tables new stream (rows stream) last 0)
+pub steps-room : (home : Option ℕ) (tables new : List (ℕ × State)) (rows : ℕ → List Oplock) (last : ℕ) → IsSome home → ForSome home (λ own. IsStep tables new own (rows own) last 0)
     → (key : ℕ) → room_at tables key ≤ room_at new key
 steps-room None tables new rows last some steps key = (let impossible : false ≡ true = some in cc)
-steps-room (Some stream) tables new rows last some steps key =
-    let step = steps stream refl in
-    elim (cases_Bool (key == stream)) [
-      | inl here ↦ (let is : key ≡ stream = eqb-true key stream here in let has = step.room in rw is (omega arith))
+steps-room (Some home) tables new rows last some steps key =
+    let step = steps home refl in
+    elim (cases_Bool (key == home)) [
+      | inl here ↦ (let is : key ≡ home = eqb-true key home here in let has = step.room in rw is (omega arith))
       | inr beside ↦ (let same = step.other_rooms key beside in omega arith)
     ]

@@ -1,5 +1,5 @@
 -- The oplocks that are granted to the call of one turn, given up one after the other.
-use Rattle.std.proofs.Common.{◌≡◌, ℕ, zero, suc, ◌+◌, ◌<◌, true, false, not, List, [], ◌∷◌, ◌++◌, length, take, get_or, refl, ap, sym, ◌∙◌, arith, inl, inr}
+use Rattle.std.proofs.Common.{◌≡◌, ℕ, suc, ◌+◌, ◌<◌, false, not, List, [], ◌∷◌, ◌++◌, length, take, get_or, refl, ap, sym, ◌∙◌, arith, inl, inr}
 use Rattle.std.specs.List.{All, AllPairs}
 use Rattle.std.specs.Prelude.{◌==◌, filter, fold}
 use Rattle.std.proofs.lemmas.Bool.{cases_Bool, eq-eqb}

@@ -1,6 +1,6 @@
 -- One list of all oplocks and the tables of streams: what is done to the oplock of one handle in both leaves them in
 -- step.
-use Rattle.std.proofs.Common.{◌≡◌, ℕ, zero, suc, ◌+◌, ◌≤◌, Bool, true, false, not, List, [], ◌∷◌, ◌++◌, get_or, refl, ap, sym, subst, ◌∙◌, arith, inl, inr, ◌⊎◌, Option, Some, None, IsSome}
+use Rattle.std.proofs.Common.{◌≡◌, ℕ, zero, suc, ◌+◌, ◌*◌, ◌≤◌, Bool, true, false, not, List, [], ◌∷◌, ◌++◌, get_or, refl, ap, sym, subst, ◌∙◌, arith, inl, inr, Option, Some, None, IsSome}
 use Rattle.std.specs.List.{All, AllPairs}
 use Rattle.std.specs.Option.{option_map_or, ForSome}
 use Rattle.std.specs.Prelude.{◌==◌, ◌&&◌, filter, find, map, max, option_and_then, option_map, IfNone}
@@ -17,6 +17,7 @@ use Rattle.fsa_types.specs.declared.request.Level.{Level}
 use Rattle.fsa_model.specs.Lookups.{is_open_on}
 use Rattle.fsa_model.specs.Volume.{Handle}
 use Rattle.fsa_model.proofs.RowLaws.{eqb-swap, find-filter, option_cases}
+use Rattle.oplock_state.specs.Homes.{home_of_handle, home_of_stream, is_home_to}
 use Rattle.oplock_state.specs.State.{State}
 use Rattle.oplock_state.specs.Tables.{AreSorted, AreThere, FitTables, IsStep, is_at, last_at, room_at, rows_at}
 use Rattle.volume_breaks.proofs.GrantLemmas.{NoneOf, switched-on}
@@ -88,11 +89,11 @@ filter-passes p P (x ∷ xs) each = elim (cases_Bool (p x)) [
 -- ---- what is done to the oplock of one handle
 
 abbrev pub HaveHomes : List (ℕ × Handle) → List Oplock → Type 0
-HaveHomes handles rows = All (λ (o : Oplock). IsSome (stream_of_handle handles o.handle)) rows
+HaveHomes handles rows = All (λ (o : Oplock). IsSome (home_of_handle handles o.handle)) rows
 
--- it is done alike to those on one stream, and leaves the oplocks of all other handles
+-- it is done alike to those of one home, and leaves the oplocks of all other handles
 pub record IsLocal (handle : ℕ) (change : List Oplock → List Oplock) : Type 0 where
-  pub sorts : (handles : List (ℕ × Handle)) (stream : ℕ) (rows : List Oplock) → filter (is_at handles stream) (change rows) ≡ change (filter (is_at handles stream) rows)
+  pub sorts : (handles : List (ℕ × Handle)) (home : ℕ) (rows : List Oplock) → filter (is_home_to handles home) (change rows) ≡ change (filter (is_home_to handles home) rows)
   pub stays : (rows : List Oplock) → NoneOf handle rows → change rows ≡ rows
   pub keeps : (other : ℕ) (rows : List Oplock) → (handle == other) ≡ false → filter (λ (o : Oplock). o.handle == other) (change rows) ≡ filter (λ (o : Oplock). o.handle == other) rows
   pub homes : (handles : List (ℕ × Handle)) (rows : List Oplock) → HaveHomes handles rows → HaveHomes handles (change rows)
@@ -108,26 +109,26 @@ other-handle o handle other is differ =
 
 pub local-without : (handle : ℕ) → IsLocal handle (without_oplock_of handle)
 local-without handle = record {
-  sorts = λ handles stream rows. filter-swap (is_at handles stream) (λ (o : Oplock). not (o.handle == handle)) rows;
+  sorts = λ handles home rows. filter-swap (is_home_to handles home) (λ (o : Oplock). not (o.handle == handle)) rows;
   stays = λ rows none. filter-all (λ (o : Oplock). not (o.handle == handle)) rows (λ k d within. kept-by (get_or rows k d).handle handle (none k d within));
   keeps = λ other rows differ. filter-within (λ (o : Oplock). o.handle == other) (λ (o : Oplock). not (o.handle == handle)) rows
       (λ o is. kept-by o.handle handle (other-handle o.handle handle other is differ));
-  homes = λ handles rows homes. All-filter (λ (o : Oplock). not (o.handle == handle)) (λ (o : Oplock). IsSome (stream_of_handle handles o.handle)) rows homes;
+  homes = λ handles rows homes. All-filter (λ (o : Oplock). not (o.handle == handle)) (λ (o : Oplock). IsSome (home_of_handle handles o.handle)) rows homes;
 }
 
 pub local-map : (handle : ℕ) (f : Oplock → Oplock) → ((o : Oplock) → (f o).handle ≡ o.handle) → ((o : Oplock) → (o.handle == handle) ≡ false → f o ≡ o) → IsLocal handle (map f)
 local-map handle f same leaves = record {
-  sorts = λ handles stream rows. filter-map (is_at handles stream) f rows (λ o. ap (λ (h : ℕ). option_map_or (is_open_on stream) (row_of handles h) false) (same o));
+  sorts = λ handles home rows. filter-map (is_home_to handles home) f rows (λ o. ap (λ (h : ℕ). option_map_or (λ own. own == home) (home_of_handle handles h) false) (same o));
   stays = λ rows none. map-same f rows (λ k d within. leaves (get_or rows k d) (none k d within));
   keeps = λ other rows differ. filter-map (λ (o : Oplock). o.handle == other) f rows (λ o. ap (λ (h : ℕ). h == other) (same o))
       ∙ map-same f (filter (λ (o : Oplock). o.handle == other) rows)
       (filter-passes (λ (o : Oplock). o.handle == other) (λ o. f o ≡ o) rows (λ o is. leaves o (other-handle o.handle handle other is differ)));
-  homes = λ handles rows homes. All-map (λ (o : Oplock). IsSome (stream_of_handle handles o.handle)) f rows
-      (λ k d within. subst (λ (h : ℕ). IsSome (stream_of_handle handles h)) (sym (same (get_or rows k d))) (homes k d within));
+  homes = λ handles rows homes. All-map (λ (o : Oplock). IsSome (home_of_handle handles o.handle)) f rows
+      (λ k d within. subst (λ (h : ℕ). IsSome (home_of_handle handles h)) (sym (same (get_or rows k d))) (homes k d within));
 }
 
 pub local-left : (done : Effect) (handle number : ℕ) → IsLocal handle (left_by done handle number)
-local-left Stays handle number = record { sorts = λ handles stream rows. refl; stays = λ rows none. refl; keeps = λ other rows differ. refl; homes = λ handles rows homes. homes }
+local-left Stays handle number = record { sorts = λ handles home rows. refl; stays = λ rows none. refl; keeps = λ other rows differ. refl; homes = λ handles rows homes. homes }
 local-left Ends handle number =
     let one = local-without handle in
     record { sorts = one.sorts; stays = one.stays; keeps = one.keeps; homes = one.homes }
@@ -149,7 +150,7 @@ local-answer handle level turn =
     (λ o other. rw other refl) in
     let gone = local-without handle in
     record {
-      sorts = λ handles stream rows. elim (cases_Bool (has_read level)) [ inl some ↦ rw some (kept.sorts handles stream rows) | inr none ↦ rw none (gone.sorts handles stream rows) ];
+      sorts = λ handles home rows. elim (cases_Bool (has_read level)) [ inl some ↦ rw some (kept.sorts handles home rows) | inr none ↦ rw none (gone.sorts handles home rows) ];
       stays = λ rows none. elim (cases_Bool (has_read level)) [ inl some ↦ rw some (kept.stays rows none) | inr not ↦ rw not (gone.stays rows none) ];
       keeps = λ other rows differ. elim (cases_Bool (has_read level)) [ inl some ↦ rw some (kept.keeps other rows differ) | inr none ↦ rw none (gone.keeps other rows differ) ];
       homes = λ handles rows homes. elim (cases_Bool (has_read level)) [ inl some ↦ rw some (kept.homes handles rows homes) | inr none ↦ rw none (gone.homes handles rows homes) ];
@@ -157,62 +158,67 @@ local-answer handle level turn =
 
 -- ---- where a handle is at home
 
--- a handle of a stream is on it, and on no other
+-- a handle of a stream is on it
 pub own-stream : (handles : List (ℕ × Handle)) (handle stream : ℕ) → stream_of_handle handles handle ≡ Some stream → option_map_or (is_open_on stream) (row_of handles handle) false ≡ true
 own-stream handles handle stream found = elim (option_cases (row_of handles handle)) [
   | inl none ↦ (let impossible : None ≡ Some stream = rw none at found in cc)
   | inr some ↦ (let its : some.0.stream ≡ Some stream = rw some.1 at found in rw (some.1, its) (eq-eqb stream stream refl))
 ]
 
-pub other-stream : (handles : List (ℕ × Handle)) (handle stream other : ℕ) → stream_of_handle handles handle ≡ Some stream → (other == stream) ≡ false
-    → option_map_or (is_open_on other) (row_of handles handle) false ≡ false
-other-stream handles handle stream other found differ = elim (option_cases (row_of handles handle)) [
-  | inl none ↦ rw none refl
-  | inr some ↦ (let its : some.0.stream ≡ Some stream = rw some.1 at found in rw (some.1, its) (eqb-swap stream other ∙ differ))
-]
+-- and has its home
+pub home-found : (handles : List (ℕ × Handle)) (handle stream : ℕ) → stream_of_handle handles handle ≡ Some stream → home_of_handle handles handle ≡ Some (home_of_stream stream)
+home-found handles handle stream found = ap (option_map home_of_stream) found
 
--- none of the oplocks of another stream is its handle's
-none-at : (handles : List (ℕ × Handle)) (rows : List Oplock) (handle stream other : ℕ) → stream_of_handle handles handle ≡ Some stream → (other == stream) ≡ false
-    → NoneOf handle (filter (is_at handles other) rows)
-none-at handles rows handle stream other found differ =
-    filter-passes (is_at handles other) (λ (o : Oplock). (o.handle == handle) ≡ false) rows
+-- an oplock of a handle has its home, and no other
+pub own-home : (handles : List (ℕ × Handle)) (handle home : ℕ) → home_of_handle handles handle ≡ Some home → option_map_or (λ own. own == home) (home_of_handle handles handle) false ≡ true
+own-home handles handle home found = ap (λ (own : Option ℕ). option_map_or (λ (h : ℕ). h == home) own false) found ∙ eq-eqb home home refl
+
+pub other-home : (handles : List (ℕ × Handle)) (handle home other : ℕ) → home_of_handle handles handle ≡ Some home → (other == home) ≡ false
+    → option_map_or (λ own. own == other) (home_of_handle handles handle) false ≡ false
+other-home handles handle home other found differ = ap (λ (own : Option ℕ). option_map_or (λ (h : ℕ). h == other) own false) found ∙ eqb-swap home other ∙ differ
+
+-- none of the oplocks of another home is its handle's
+none-at : (handles : List (ℕ × Handle)) (rows : List Oplock) (handle home other : ℕ) → home_of_handle handles handle ≡ Some home → (other == home) ≡ false
+    → NoneOf handle (filter (is_home_to handles other) rows)
+none-at handles rows handle home other found differ =
+    filter-passes (is_home_to handles other) (λ (o : Oplock). (o.handle == handle) ≡ false) rows
     (λ o at. elim (cases_Bool (o.handle == handle)) [
       | inl is ↦ (let same : o.handle ≡ handle = eqb-true o.handle handle is in
-          absurd (both_ways _ (rw (← same) at (other-stream handles handle stream other found differ)) at))
+          absurd (both_ways _ (rw (← same) at (other-home handles handle home other found differ)) at))
       | inr not ↦ not
     ])
 
 -- ---- in step
 
--- what is done to the oplock of a handle in the list, and in the table of its stream
-pub sorted-local : (handles : List (ℕ × Handle)) (rows : List Oplock) (old new : List (ℕ × State)) (handle stream last taken : ℕ) (change : List Oplock → List Oplock) → IsLocal handle change
-    → stream_of_handle handles handle ≡ Some stream → AreSorted handles rows old → IsStep old new stream (change (rows_at old stream)) last taken → AreSorted handles (change rows) new
-sorted-local handles rows old new handle stream last taken change local found sorted step = record {
-  each = λ other. elim (cases_Bool (other == stream)) [
-    | inl here ↦ (let is : other ≡ stream = eqb-true other stream here in
-        rw is (step.here ∙ ap change (sorted.each stream) ∙ sym (local.sorts handles stream rows)))
+-- what is done to the oplock of a handle in the list, and in the table of its home
+pub sorted-local : (handles : List (ℕ × Handle)) (rows : List Oplock) (old new : List (ℕ × State)) (handle home last taken : ℕ) (change : List Oplock → List Oplock) → IsLocal handle change
+    → home_of_handle handles handle ≡ Some home → AreSorted handles rows old → IsStep old new home (change (rows_at old home)) last taken → AreSorted handles (change rows) new
+sorted-local handles rows old new handle home last taken change local found sorted step = record {
+  each = λ other. elim (cases_Bool (other == home)) [
+    | inl here ↦ (let is : other ≡ home = eqb-true other home here in
+        rw is (step.here ∙ ap change (sorted.each home) ∙ sym (local.sorts handles home rows)))
     | inr differ ↦ step.other_rows other differ ∙ sorted.each other
-        ∙ sym (local.stays (filter (is_at handles other) rows) (none-at handles rows handle stream other found differ))
+        ∙ sym (local.stays (filter (is_home_to handles other) rows) (none-at handles rows handle home other found differ))
         ∙ sym (local.sorts handles other rows)
   ];
   homes = local.homes handles rows sorted.homes;
 }
 
 -- a handle that is at home nowhere has no oplock
-pub none-homeless : (handles : List (ℕ × Handle)) (rows : List Oplock) (handle : ℕ) → HaveHomes handles rows → stream_of_handle handles handle ≡ None → NoneOf handle rows
+pub none-homeless : (handles : List (ℕ × Handle)) (rows : List Oplock) (handle : ℕ) → HaveHomes handles rows → home_of_handle handles handle ≡ None → NoneOf handle rows
 none-homeless handles rows handle homes none k d within = elim (cases_Bool ((get_or rows k d).handle == handle)) [
   | inl is ↦ (let same : (get_or rows k d).handle ≡ handle = eqb-true _ _ is in
-      let home : IsSome (stream_of_handle handles handle) = subst (λ (h : ℕ). IsSome (stream_of_handle handles h)) same (homes k d within) in
-      absurd (no_home (stream_of_handle handles handle) none home))
+      let home : IsSome (home_of_handle handles handle) = subst (λ (h : ℕ). IsSome (home_of_handle handles h)) same (homes k d within) in
+      absurd (no_home (home_of_handle handles handle) none home))
   | inr other ↦ other
 ]
   where
     no_home : (home : Option ℕ) → home ≡ None → IsSome home → ⊥
     no_home None none some = (let impossible : false ≡ true = some in cc)
-    no_home (Some stream) none some = (let impossible : Some stream ≡ None = none in cc)
+    no_home (Some home) none some = (let impossible : Some home ≡ None = none in cc)
 
 pub sorted-homeless : (handles : List (ℕ × Handle)) (rows : List Oplock) (tables : List (ℕ × State)) (handle : ℕ) (change : List Oplock → List Oplock) → IsLocal handle change
-    → stream_of_handle handles handle ≡ None → AreSorted handles rows tables → AreSorted handles (change rows) tables
+    → home_of_handle handles handle ≡ None → AreSorted handles rows tables → AreSorted handles (change rows) tables
 sorted-homeless handles rows tables handle change local none sorted =
     rw (local.stays rows (none-homeless handles rows handle sorted.homes none)) sorted
 
@@ -220,17 +226,17 @@ sorted-homeless handles rows tables handle change local none sorted =
 
 -- it has a home
 pub there-home : (handles : List (ℕ × Handle)) (rows : List Oplock) (o : Oplock) → HaveHomes handles rows → filter (λ (x : Oplock). x.handle == o.handle) rows ≡ o ∷ []
-    → IsSome (stream_of_handle handles o.handle)
+    → IsSome (home_of_handle handles o.handle)
 there-home handles rows o homes there =
-    subst (HaveHomes handles) there (All-filter (λ (x : Oplock). x.handle == o.handle) (λ (x : Oplock). IsSome (stream_of_handle handles x.handle)) rows homes) 0 o (omega arith)
+    subst (HaveHomes handles) there (All-filter (λ (x : Oplock). x.handle == o.handle) (λ (x : Oplock). IsSome (home_of_handle handles x.handle)) rows homes) 0 o (omega arith)
 
--- it is there in the table of its stream
-pub there-at : (handles : List (ℕ × Handle)) (rows : List Oplock) (o : Oplock) (stream : ℕ) → stream_of_handle handles o.handle ≡ Some stream
-    → filter (λ (x : Oplock). x.handle == o.handle) rows ≡ o ∷ [] → filter (λ (x : Oplock). x.handle == o.handle) (filter (is_at handles stream) rows) ≡ o ∷ []
-there-at handles rows o stream found there =
-    let here : is_at handles stream o ≡ true = own-stream handles o.handle stream found in
-    filter-swap (λ (x : Oplock). x.handle == o.handle) (is_at handles stream) rows
-    ∙ ap (filter (is_at handles stream)) there
+-- it is there in the table of its home
+pub there-at : (handles : List (ℕ × Handle)) (rows : List Oplock) (o : Oplock) (home : ℕ) → home_of_handle handles o.handle ≡ Some home
+    → filter (λ (x : Oplock). x.handle == o.handle) rows ≡ o ∷ [] → filter (λ (x : Oplock). x.handle == o.handle) (filter (is_home_to handles home) rows) ≡ o ∷ []
+there-at handles rows o home found there =
+    let here : is_home_to handles home o ≡ true = own-home handles o.handle home found in
+    filter-swap (λ (x : Oplock). x.handle == o.handle) (is_home_to handles home) rows
+    ∙ ap (filter (is_home_to handles home)) there
     ∙ rw here refl
 
 -- ---- those that are chosen
@@ -312,96 +318,142 @@ switches-homes : (handles : List (ℕ × Handle)) (rows switched : List Oplock) 
 switches-homes handles rows [] homes = homes
 switches-homes handles rows (o ∷ switched) homes = switches-homes handles (without_oplock_of o.handle rows) switched (IsLocal.homes (local-without o.handle) handles rows homes)
 
--- two tests by streams that differ aren't both passed
-not-both : (handles : List (ℕ × Handle)) (o x : Oplock) (stream other : ℕ) → is_at handles stream o ≡ true → is_at handles other x ≡ true → (other == stream) ≡ false → (x.handle == o.handle) ≡ false
-not-both handles o x stream other at at_other differ = elim (cases_Bool (x.handle == o.handle)) [
+-- two tests by homes that differ aren't both passed
+not-both : (handles : List (ℕ × Handle)) (o x : Oplock) (home other : ℕ) → is_home_to handles home o ≡ true → is_home_to handles other x ≡ true → (other == home) ≡ false → (x.handle == o.handle) ≡ false
+not-both handles o x home other at at_other differ = elim (cases_Bool (x.handle == o.handle)) [
   | inr not ↦ not
   | inl is ↦ (let same : x.handle ≡ o.handle = eqb-true x.handle o.handle is in
-      let here : option_map_or (is_open_on other) (row_of handles o.handle) false ≡ true = rw same at at_other in
-      absurd (clash here at (option_cases (row_of handles o.handle))))
+      let here : option_map_or (λ own. own == other) (home_of_handle handles o.handle) false ≡ true = rw same at at_other in
+      absurd (no_two (home_of_handle handles o.handle) here at))
 ]
   where
-    no_two : (s : Option ℕ) → option_map_or (λ t. t == other) s false ≡ true → option_map_or (λ t. t == stream) s false ≡ true → ⊥
+    no_two : (own : Option ℕ) → option_map_or (λ h. h == other) own false ≡ true → option_map_or (λ h. h == home) own false ≡ true → ⊥
     no_two None a b = (let impossible : false ≡ true = a in cc)
-    no_two (Some s) a b =
-        let is : s ≡ other = eqb-true s other a in
-        both_ways (other == stream) differ (ap (λ (t : ℕ). t == stream) (sym is) ∙ b)
-
-    clash : option_map_or (is_open_on other) (row_of handles o.handle) false ≡ true → option_map_or (is_open_on stream) (row_of handles o.handle) false ≡ true
-        → (row_of handles o.handle ≡ None) ⊎ ((row : Handle) × (row_of handles o.handle ≡ Some row)) → ⊥
-    clash a b (inl none) = (let impossible : false ≡ true = rw none at a in cc)
-    clash a b (inr some) = no_two some.0.stream (rw some.1 at a) (rw some.1 at b)
+    no_two (Some h) a b =
+        let is : h ≡ other = eqb-true h other a in
+        both_ways (other == home) differ (ap (λ (t : ℕ). t == home) (sym is) ∙ b)
 
 and-left : (a b : Bool) → (a && b) ≡ true → a ≡ true
 and-left true b is = refl
 and-left false b is = is
 
--- one that is granted in the list, and in the table of its stream
-pub sorted-grant : (handles : List (ℕ × Handle)) (rows : List Oplock) (old new : List (ℕ × State)) (handle key stream : ℕ) (level : Level) (turn last taken : ℕ) → stream_of_handle handles handle ≡ Some stream
-    → AreSorted handles rows old → IsStep old new stream (after_grant (λ _. true) handle key level turn (rows_at old stream)) last taken
-    → AreSorted handles (after_grant (is_at handles stream) handle key level turn rows) new
-sorted-grant handles rows old new handle key stream level turn last taken found sorted step = record {
-  each = λ other. elim (cases_Bool (other == stream)) [
-    | inl here ↦ (let is : other ≡ stream = eqb-true other stream here in rw is own)
+-- homes of streams differ as their numbers do
+pub homes-differ : (a b : ℕ) → (home_of_stream a == home_of_stream b) ≡ (a == b)
+homes-differ a b = elim (cases_Bool (a == b)) [
+  | inl is ↦ (let same : a ≡ b = eqb-true a b is in
+      let doubled : home_of_stream a ≡ home_of_stream b = ap home_of_stream same in
+      eq-eqb (home_of_stream a) (home_of_stream b) doubled ∙ sym is)
+  | inr differ ↦ elim (cases_Bool (home_of_stream a == home_of_stream b)) [
+    | inr not ↦ not ∙ sym differ
+    | inl is ↦ (let doubled : 2 * a ≡ 2 * b = eqb-true (2 * a) (2 * b) is in
+        let same : a ≡ b = omega arith in
+        absurd (both_ways (a == b) differ (eq-eqb a b same)))
+  ]
+]
+
+-- the oplocks of a stream's home are those on the stream
+at-home : (handles : List (ℕ × Handle)) (stream : ℕ) (o : Oplock) → is_home_to handles (home_of_stream stream) o ≡ is_at handles stream o
+at-home handles stream o = elim (option_cases (row_of handles o.handle)) [
+  | inl none ↦ rw none refl
+  | inr some ↦ rw some.1 (by_stream some.0.stream)
+]
+  where
+    by_stream : (own : Option ℕ) → option_map_or (λ (h : ℕ). h == home_of_stream stream) (option_map home_of_stream own) false ≡ option_map_or (λ (s : ℕ). s == stream) own false
+    by_stream None = refl
+    by_stream (Some s) = homes-differ s stream
+
+filter-alike : (p q : Oplock → Bool) (rows : List Oplock) → ((o : Oplock) → p o ≡ q o) → filter p rows ≡ filter q rows
+filter-alike p q [] same = refl
+filter-alike p q (o ∷ rows) same = elim (cases_Bool (q o)) [
+  | inl passes ↦ rw (same o, passes) (ap (λ rest. o ∷ rest) (filter-alike p q rows same))
+  | inr fails ↦ rw (same o, fails) (filter-alike p q rows same)
+]
+
+-- the table of a stream's home has the oplocks on the stream
+pub rows-on : (handles : List (ℕ × Handle)) (rows : List Oplock) (tables : List (ℕ × State)) (stream : ℕ) → AreSorted handles rows tables → rows_at tables (home_of_stream stream) ≡ filter (is_at handles stream) rows
+rows-on handles rows tables stream sorted =
+    sorted.each (home_of_stream stream) ∙ filter-alike (is_home_to handles (home_of_stream stream)) (is_at handles stream) rows (at-home handles stream)
+
+switched-alike : (handles : List (ℕ × Handle)) (stream handle key : ℕ) (rows : List Oplock)
+    → switched_among (is_home_to handles (home_of_stream stream)) handle key rows ≡ switched_among (is_at handles stream) handle key rows
+switched-alike handles stream handle key rows =
+    filter-alike (λ o. is_home_to handles (home_of_stream stream) o && is_of_key handle key o) (λ o. is_at handles stream o && is_of_key handle key o) rows
+    (λ o. ap (λ at. at && is_of_key handle key o) (at-home handles stream o))
+
+-- one that is granted in the list, and in the table of its home
+sorted-granted : (handles : List (ℕ × Handle)) (rows : List Oplock) (old new : List (ℕ × State)) (handle key home : ℕ) (level : Level) (turn last taken : ℕ) → home_of_handle handles handle ≡ Some home
+    → AreSorted handles rows old → IsStep old new home (after_grant (λ _. true) handle key level turn (rows_at old home)) last taken
+    → AreSorted handles (after_grant (is_home_to handles home) handle key level turn rows) new
+sorted-granted handles rows old new handle key home level turn last taken found sorted step = record {
+  each = λ other. elim (cases_Bool (other == home)) [
+    | inl here ↦ (let is : other ≡ home = eqb-true other home here in rw is own)
     | inr differ ↦ step.other_rows other differ ∙ sorted.each other ∙ sym (beside other differ)
   ];
-  homes = All-push (λ (o : Oplock). IsSome (stream_of_handle handles o.handle)) (after_switches rows switched) granted (switches-homes handles rows switched sorted.homes) (rw found refl);
+  homes = All-push (λ (o : Oplock). IsSome (home_of_handle handles o.handle)) (after_switches rows switched) granted (switches-homes handles rows switched sorted.homes) (rw found refl);
 }
   where
     switched : List Oplock
-    switched = switched_among (is_at handles stream) handle key rows
+    switched = switched_among (is_home_to handles home) handle key rows
 
     granted : Oplock
     granted = as_granted handle key level turn
 
-    parts : (other : ℕ) → filter (is_at handles other) (after_switches rows switched ++ granted ∷ []) ≡ after_switches (filter (is_at handles other) rows) switched ++ filter (is_at handles other) (granted ∷ [])
-    parts other = filter-append (is_at handles other) (after_switches rows switched) (granted ∷ [])
-        ∙ ap (λ (now : List Oplock). now ++ filter (is_at handles other) (granted ∷ [])) (switches-sort (is_at handles other) rows switched)
+    parts : (other : ℕ) → filter (is_home_to handles other) (after_switches rows switched ++ granted ∷ []) ≡ after_switches (filter (is_home_to handles other) rows) switched ++ filter (is_home_to handles other) (granted ∷ [])
+    parts other = filter-append (is_home_to handles other) (after_switches rows switched) (granted ∷ [])
+        ∙ ap (λ (now : List Oplock). now ++ filter (is_home_to handles other) (granted ∷ [])) (switches-sort (is_home_to handles other) rows switched)
 
-    own : rows_at new stream ≡ filter (is_at handles stream) (after_switches rows switched ++ granted ∷ [])
+    own : rows_at new home ≡ filter (is_home_to handles home) (after_switches rows switched ++ granted ∷ [])
     own =
-        let at : is_at handles stream granted ≡ true = own-stream handles handle stream found in
-        let last_one : filter (is_at handles stream) (granted ∷ []) ≡ granted ∷ [] = rw at refl in
-        step.here ∙ ap (after_grant (λ _. true) handle key level turn) (sorted.each stream)
-        ∙ ap (λ (s : List Oplock). after_switches (filter (is_at handles stream) rows) s ++ granted ∷ []) (switched-on (is_at handles stream) handle key rows)
-        ∙ ap (λ (end : List Oplock). after_switches (filter (is_at handles stream) rows) switched ++ end) (sym last_one)
-        ∙ sym (parts stream)
+        let at : is_home_to handles home granted ≡ true = own-home handles handle home found in
+        let last_one : filter (is_home_to handles home) (granted ∷ []) ≡ granted ∷ [] = rw at refl in
+        step.here ∙ ap (after_grant (λ _. true) handle key level turn) (sorted.each home)
+        ∙ ap (λ (s : List Oplock). after_switches (filter (is_home_to handles home) rows) s ++ granted ∷ []) (switched-on (is_home_to handles home) handle key rows)
+        ∙ ap (λ (end : List Oplock). after_switches (filter (is_home_to handles home) rows) switched ++ end) (sym last_one)
+        ∙ sym (parts home)
 
-    beside : (other : ℕ) → (other == stream) ≡ false → filter (is_at handles other) (after_switches rows switched ++ granted ∷ []) ≡ filter (is_at handles other) rows
+    beside : (other : ℕ) → (other == home) ≡ false → filter (is_home_to handles other) (after_switches rows switched ++ granted ∷ []) ≡ filter (is_home_to handles other) rows
     beside other differ =
-        let at : is_at handles other granted ≡ false = other-stream handles handle stream other found differ in
-        let no_one : filter (is_at handles other) (granted ∷ []) ≡ [] = rw at refl in
-        let apart = filter-passes (λ (o : Oplock). is_at handles stream o && is_of_key handle key o) (λ (o : Oplock). NoneOf o.handle (filter (is_at handles other) rows)) rows
-        (λ o passes. filter-passes (is_at handles other) (λ (x : Oplock). (x.handle == o.handle) ≡ false) rows
-        (λ x at_other. not-both handles o x stream other (and-left _ _ passes) at_other differ)) in
+        let at : is_home_to handles other granted ≡ false = other-home handles handle home other found differ in
+        let no_one : filter (is_home_to handles other) (granted ∷ []) ≡ [] = rw at refl in
+        let apart = filter-passes (λ (o : Oplock). is_home_to handles home o && is_of_key handle key o) (λ (o : Oplock). NoneOf o.handle (filter (is_home_to handles other) rows)) rows
+        (λ o passes. filter-passes (is_home_to handles other) (λ (x : Oplock). (x.handle == o.handle) ≡ false) rows
+        (λ x at_other. not-both handles o x home other (and-left _ _ passes) at_other differ)) in
         parts other
-        ∙ ap (λ (end : List Oplock). after_switches (filter (is_at handles other) rows) switched ++ end) no_one
+        ∙ ap (λ (end : List Oplock). after_switches (filter (is_home_to handles other) rows) switched ++ end) no_one
         ∙ append-nil _
-        ∙ switches-stay (filter (is_at handles other) rows) switched apart
+        ∙ switches-stay (filter (is_home_to handles other) rows) switched apart
+
+-- one that is granted in the list on a stream, and in the table of the stream's home
+pub sorted-grant : (handles : List (ℕ × Handle)) (rows : List Oplock) (old new : List (ℕ × State)) (handle key stream : ℕ) (level : Level) (turn last taken : ℕ) → stream_of_handle handles handle ≡ Some stream
+    → AreSorted handles rows old → IsStep old new (home_of_stream stream) (after_grant (λ _. true) handle key level turn (rows_at old (home_of_stream stream))) last taken
+    → AreSorted handles (after_grant (is_at handles stream) handle key level turn rows) new
+sorted-grant handles rows old new handle key stream level turn last taken found sorted step =
+    subst (λ (switched : List Oplock). AreSorted handles (after_switches rows switched ++ as_granted handle key level turn ∷ []) new) (switched-alike handles stream handle key rows)
+    (sorted-granted handles rows old new handle key (home_of_stream stream) level turn last taken (home-found handles handle stream found) sorted step)
 
 -- ---- room and answers
 
 -- the same oplocks in the tables
 pub sorted-same : (handles : List (ℕ × Handle)) (rows : List Oplock) (old new : List (ℕ × State)) (key last taken : ℕ) → IsStep old new key (rows_at old key) last taken → AreSorted handles rows old → AreSorted handles rows new
 sorted-same handles rows old new key last taken step sorted = record {
-  each = λ stream. elim (cases_Bool (stream == key)) [
-    | inl here ↦ (let is : stream ≡ key = eqb-true stream key here in rw is (step.here ∙ sorted.each key))
-    | inr other ↦ step.other_rows stream other ∙ sorted.each stream
+  each = λ home. elim (cases_Bool (home == key)) [
+    | inl here ↦ (let is : home ≡ key = eqb-true home key here in rw is (step.here ∙ sorted.each key))
+    | inr other ↦ step.other_rows home other ∙ sorted.each home
   ];
   homes = sorted.homes;
 }
 
--- what may stay of the oplock of a handle, by the table of its stream
-pub target-at : (handles : List (ℕ × Handle)) (rows : List Oplock) (tables : List (ℕ × State)) (handle stream : ℕ) → stream_of_handle handles handle ≡ Some stream → AreSorted handles rows tables
-    → target_among handle (rows_at tables stream) ≡ target_among handle rows
-target-at handles rows tables handle stream found sorted =
-    ap (target_among handle) (sorted.each stream)
+-- what may stay of the oplock of a handle, by the table of its home
+pub target-at : (handles : List (ℕ × Handle)) (rows : List Oplock) (tables : List (ℕ × State)) (handle home : ℕ) → home_of_handle handles handle ≡ Some home → AreSorted handles rows tables
+    → target_among handle (rows_at tables home) ≡ target_among handle rows
+target-at handles rows tables handle home found sorted =
+    ap (target_among handle) (sorted.each home)
     ∙ ap (option_and_then (λ (o : Oplock). o.target))
-    (find-filter (λ (o : Oplock). o.handle == handle) (is_at handles stream) rows
-    (λ k d within is. (let same : (get_or rows k d).handle ≡ handle = eqb-true _ _ is in rw same (own-stream handles handle stream found))))
+    (find-filter (λ (o : Oplock). o.handle == handle) (is_home_to handles home) rows
+    (λ k d within is. (let same : (get_or rows k d).handle ≡ handle = eqb-true _ _ is in rw same (own-home handles handle home found))))
 
 -- none, of one that has no home
-pub target-homeless : (handles : List (ℕ × Handle)) (rows : List Oplock) (handle : ℕ) → stream_of_handle handles handle ≡ None → HaveHomes handles rows → target_among handle rows ≡ None
+pub target-homeless : (handles : List (ℕ × Handle)) (rows : List Oplock) (handle : ℕ) → home_of_handle handles handle ≡ None → HaveHomes handles rows → target_among handle rows ≡ None
 target-homeless handles rows handle none homes = ap (option_and_then (λ (o : Oplock). o.target)) (no_one rows (none-homeless handles rows handle homes none))
   where
     no_one : (xs : List Oplock) → NoneOf handle xs → find (λ (o : Oplock). o.handle == handle) xs ≡ None
@@ -455,13 +507,13 @@ fit-taken rooms less last old new key rows step taken others fit = record {
 pub fit-dropped : (rooms : List (ℕ × ℕ)) (last : ℕ) (old new : List (ℕ × State)) (home : Option ℕ) (rows : ℕ → List Oplock) → ForSome home (λ own. IsStep old new own (rows own) (last_at old own) 0) → IfNone home (new ≡ old)
     → FitTables rooms last old → FitTables rooms last new
 fit-dropped rooms last old new None rows own none fit = rw none fit
-fit-dropped rooms last old new (Some stream) rows own none fit = fit-step rooms last old new stream (rows stream) (own stream refl) fit
+fit-dropped rooms last old new (Some home) rows own none fit = fit-step rooms last old new home (rows home) (own home refl) fit
 
-pub sorted-dropped : (handles : List (ℕ × Handle)) (rows : List Oplock) (old new : List (ℕ × State)) (handle : ℕ) (home : Option ℕ) → stream_of_handle handles handle ≡ home
+pub sorted-dropped : (handles : List (ℕ × Handle)) (rows : List Oplock) (old new : List (ℕ × State)) (handle : ℕ) (home : Option ℕ) → home_of_handle handles handle ≡ home
     → ForSome home (λ own. IsStep old new own (without_oplock_of handle (rows_at old own)) (last_at old own) 0) → IfNone home (new ≡ old) → AreSorted handles rows old → AreSorted handles (without_oplock_of handle rows) new
 sorted-dropped handles rows old new handle None is own none sorted = rw none (sorted-homeless handles rows old handle (without_oplock_of handle) (local-without handle) is sorted)
-sorted-dropped handles rows old new handle (Some stream) is own none sorted =
-    sorted-local handles rows old new handle stream (last_at old stream) 0 (without_oplock_of handle) (local-without handle) is sorted (own stream refl)
+sorted-dropped handles rows old new handle (Some home) is own none sorted =
+    sorted-local handles rows old new handle home (last_at old home) 0 (without_oplock_of handle) (local-without handle) is sorted (own home refl)
 
 -- what an answer leaves, by what it keeps
 pub kept-rows : (level kept : Level) (left : Level → List Oplock) (none : List Oplock) (target : Option Level) → Some kept ≡ option_map (λ told. in_both level told) target

@@ -1,4 +1,5 @@
--- The oplocks of a volume: one list of all, and for each stream or directory a table of its own, under a key.
+-- The oplocks of a volume: one list of all, and for each stream or directory a table of its own, under a key, its
+-- home.
 use Rattle.std.specs.Prelude.{◌≡◌, ℕ, Bool, true, false, List, [], ◌∷◌, ◌+◌, ◌≤◌, ◌==◌, filter, All, AllPairs, IsSome, if◌then◌else◌}
 use Rattle.std.specs.Option.{option_map_or}
 use Rattle.fsa_types.specs.OplockGrants.{after_grant, is_refused_among, switched_among}
@@ -8,12 +9,12 @@ use Rattle.fsa_types.specs.Rows.{row_of}
 use Rattle.fsa_model.specs.Lookups.{is_open_on}
 use Rattle.fsa_model.specs.Volume.{Handle}
 use Rattle.fsa_model.specs.Waiting.{is_granted_under}
+use Rattle.oplock_state.specs.Homes.{home_of_handle, is_home_to}
 use Rattle.oplock_state.specs.State.{State}
 use Rattle.oplock_state.specs.declared.stream_oplocks.Grant.{Grant}
 use Rattle.oplock_state.specs.declared.stream_oplocks.Grant.TheVariants as grant
 use Rattle.oplock_state.specs.declared.stream_tables.Asked.{Asked}
 use Rattle.volume_breaks.specs.declared.telling.Told.{Told}
-use Rattle.volume_tables.specs.HandleTable.{stream_of_handle}
 use Rattle.volume_tables.specs.Rooms.{room_in}
 
 -- ---- the tables
@@ -72,7 +73,7 @@ pub record Tabled : Type 0 where
   pub rooms : List (ℕ × ℕ)
   pub tables : List (ℕ × State)
 
--- each table has the room that was promised under its key, and no number of a break that wasn't given
+-- each table has the room that was promised to its home, and no number of a break that wasn't given
 pub record FitTables (rooms : List (ℕ × ℕ)) (last : ℕ) (tables : List (ℕ × State)) : Type 0 where
   pub room : (key : ℕ) → room_in rooms key ≤ room_at tables key
   pub numbers : (key : ℕ) → last_at tables key ≤ last
@@ -89,11 +90,11 @@ given_up turn rows oplock = if is_granted_under turn oplock then without_oplock_
 abbrev pub is_at : List (ℕ × Handle) → ℕ → Oplock → Bool
 is_at handles stream oplock = option_map_or (is_open_on stream) (row_of handles oplock.handle) false
 
--- each stream's table has the oplocks of the stream's handles, in the order of the list, and each oplock is of a
--- handle on a stream
+-- the table of each home has the oplocks of the handles with this home, in the order of the list, and each oplock is
+-- of a handle with a home
 pub record AreSorted (handles : List (ℕ × Handle)) (rows : List Oplock) (tables : List (ℕ × State)) : Type 0 where
-  pub each : (stream : ℕ) → rows_at tables stream ≡ filter (is_at handles stream) rows
-  pub homes : All (λ oplock. IsSome (stream_of_handle handles oplock.handle)) rows
+  pub each : (home : ℕ) → rows_at tables home ≡ filter (is_home_to handles home) rows
+  pub homes : All (λ oplock. IsSome (home_of_handle handles oplock.handle)) rows
 
 -- those that are to be broken are there, each once and as it is, and are of different handles
 pub record AreThere (rows chosen : List Oplock) : Type 0 where

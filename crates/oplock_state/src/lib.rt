@@ -1,7 +1,8 @@
 //! The oplocks of one stream or directory, after [MS-FSA] 'Algorithm to Check for an Oplock Break', 'Server
 //! Requests an Oplock' and 'Server Acknowledges an Oplock Break': `StreamOplocks` knows no handle and no stream; its
 //! caller says which handles a break takes up, and what a grant has to know of the stream. `OplockTable` keeps one
-//! list of all oplocks and such a table for each stream, by the handles that are handed over, and knows no volume.
+//! list of all oplocks and such a table for each stream, by the handles that are handed over, and knows no volume;
+//! tables stand under keys that tell streams from directories (`homes`).
 //!
 //! ```text
 //! oplocks.reserve(1)?;                                  // may be refused
@@ -31,6 +32,7 @@
 //! - Each call takes time linear in the oplocks, and `begin` time square in those that it breaks.
 #![tactic(auto)]
 
+mod homes;
 mod oplock_table;
 mod stream_oplocks;
 mod stream_tables;

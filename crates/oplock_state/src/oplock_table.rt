@@ -8,12 +8,14 @@ ghost use Rattle.fsa_types.specs.Oplocks.{Oplock, in_both};
 ghost use Rattle.fsa_types.specs.Sorting.{in_order};
 ghost use Rattle.fsa_model.specs.Breaks.{is_broken_before, is_chosen};
 ghost use Rattle.fsa_model.specs.Waiting.{is_granted_under};
+ghost use Rattle.oplock_state.specs.Homes.{home_of_handle, home_of_stream, HomesFit};
 ghost use Rattle.oplock_state.specs.Tables.{AreSorted, AreThere, GrantsTabled, IsStep, KeepFit, KeepSorted, given_up, is_at, last_at, room_at, rows_at};
 ghost use Rattle.volume_breaks.specs.Oplocks.{state_of};
 ghost use Rattle.volume_breaks.specs.Told.{told_all};
 ghost use Rattle.volume_tables.specs.HandleTable.{stream_of_handle};
 ghost use Rattle.volume_tables.specs.Rooms.{room_in};
 
+use crate::homes::{home_of_handle, home_of_stream};
 use crate::stream_oplocks::Grant;
 use crate::stream_tables::{Asked, StreamTables};
 use fsa_types::{Class, HandleSet, Level, NoMemory};
@@ -24,21 +26,26 @@ use volume_rows::{BreakEffect, OplockRow, effect};
 use volume_tables::HandleTable;
 
 /// Oplocks, in the order in which they were granted, and once more in a table for each stream, which decides what is
-/// granted on it, what a break does to its oplocks, and what an answer leaves. For each stream there is room for
-/// those that were promised to it. The calls of those that are told or switched are left to the caller.
+/// granted on it and what an answer leaves; a break is made in the list and in the tables. For each stream there is
+/// room for those that were promised to it. The calls of those that are told or switched are left to the caller.
+///
+/// A table stands, and room is promised, under a key of the stream, the home of its oplocks: 2 times the stream's
+/// number, which has to be below 2^63. An odd key, 2 times a directory's file number and 1, is kept for a directory;
+/// no directory has an oplock so far.
 #[derive(Drop)]
 pub struct OplockTable {
     list: Oplocks,
-    // The oplocks once more, stream by stream.
+    // The oplocks once more, home by home.
     tables: StreamTables,
 }
 
 impl Model for OplockTable {
+    ghost use Rattle.oplock_state.specs.Homes.{rooms_of_streams};
     ghost use Rattle.oplock_state.specs.Tables.{FitTables, Tabled};
 
     ghost Value = { Tabled };
 
-    ghost view = { λ o. record { rows = o.list.rows; chosen = o.list.chosen; told = o.list.told; waited = o.list.waited; last = o.list.last; rooms = o.list.rooms; tables = o.tables } };
+    ghost view = { λ o. record { rows = o.list.rows; chosen = o.list.chosen; told = o.list.told; waited = o.list.waited; last = o.list.last; rooms = rooms_of_streams o.list.rooms; tables = o.tables } };
 
     ghost invariant = { λ o. FitTables o.list.rooms o.list.last o.tables };
 }
@@ -62,13 +69,15 @@ impl OplockTable {
     /// `NoMemory` where there is none, or where there would be 2^32 or more in all with those that were
     /// promised to other streams.
     pub fn reserve(&mut self, stream: u64, oplocks: u32) -> Result<(), NoMemory>
+        requires fits { home_of_stream stream < 2 ^ 64 }
         ensures rows { self.new ≡ record self.old { rooms = self.new.rooms; tables = self.new.tables } }
         ensures room { OnOk result (oplocks ≤ room_in self.new.rooms stream) }
         ensures kept { (other : ℕ) → room_in self.old.rooms other ≤ room_in self.new.rooms other }
         ensures sorted { KeepSorted self.old self.new }
     {
-        self.tables.reserve(stream, oplocks)?;
-        self.list.reserve(stream, oplocks)
+        let home = home_of_stream(stream);
+        self.tables.reserve(home, oplocks)?;
+        self.list.reserve(home, oplocks)
     }
 
     /// All oplocks, in the order in which they were granted.
@@ -116,6 +125,7 @@ impl OplockTable {
     /// Breaks the oplocks that are chosen, one after the other, as a request of this class does, each in the table of
     /// its stream and in the list, and puts by who is told.
     pub fn begin(&mut self, handles: &HandleTable, class: Class)
+        requires fit { HomesFit handles.now.rows }
         requires numbers { self.old.last + length self.old.chosen < 2 ^ 64 }
         requires sound { All IsSoundOplock self.old.chosen }
         requires copies { All (IsCopy self.old.rows) self.old.chosen }
@@ -144,6 +154,7 @@ impl OplockTable {
     /// stream end, and are those that were taken up last. There has to be room for one on the stream; that of all
     /// others stays.
     pub fn grant(&mut self, tree: &Tree, stream: u64, asked: &Asked) -> Grant
+        requires fit { HomesFit tree.now.handles }
         requires home { stream_of_handle tree.now.handles asked.now.handle ≡ Some stream }
         requires room { 1 ≤ room_in self.old.rooms stream }
         requires sorted { AreSorted tree.now.handles self.old.rows self.old.tables }
@@ -153,10 +164,11 @@ impl OplockTable {
         ensures others { (other : ℕ) → (other == stream) ≡ false → room_in self.new.rooms other ≡ room_in self.old.rooms other }
         ensures sorted { AreSorted tree.now.handles self.new.rows self.new.tables }
     {
-        match self.tables.grant(stream, asked) {
+        let home = home_of_stream(stream);
+        match self.tables.grant(home, asked) {
             Grant::Refused => Grant::Refused,
             Grant::Granted => {
-                grant_in_list(&mut self.list, tree, stream, asked);
+                grant_in_list(&mut self.list, tree, stream, home, asked);
                 Grant::Granted
             }
         }
@@ -172,15 +184,16 @@ impl OplockTable {
         level: Level,
         turn: u64,
     ) -> Option<Level>
+        requires fit { HomesFit handles.now.rows }
         requires sorted { AreSorted handles.now.rows self.old.rows self.old.tables }
         ensures kept { result ≡ option_map (λ target. in_both level target) (target_among handle self.old.rows) }
         ensures rows { self.new ≡ record self.old { rows = option_map_or (λ kept. after_answer handle kept turn self.old.rows) result self.old.rows; tables = self.new.tables } }
         ensures sorted { AreSorted handles.now.rows self.new.rows self.new.tables }
     {
-        let Some(stream) = stream_of(handles, handle) else {
+        let Some(home) = home_of_handle(handles, handle) else {
             return None;
         };
-        let Some(kept) = self.tables.ack(stream, handle, level, turn) else {
+        let Some(kept) = self.tables.ack(home, handle, level, turn) else {
             return None;
         };
         self.list.answer(handle, kept, turn);
@@ -190,6 +203,7 @@ impl OplockTable {
     /// Takes the oplocks out that are granted to the call that is pending under this turn. No two oplocks may be of
     /// one handle.
     pub fn give_up(&mut self, handles: &HandleTable, turn: u64)
+        requires fit { HomesFit handles.now.rows }
         requires differ { AllPairs (λ a b. (a.handle == b.handle) ≡ false) self.old.rows }
         requires sorted { AreSorted handles.now.rows self.old.rows self.old.tables }
         ensures rows { self.new ≡ record self.old { rows = filter (λ oplock. not (is_granted_under turn oplock)) self.old.rows; tables = self.new.tables } }
@@ -201,29 +215,22 @@ impl OplockTable {
 
     /// Takes the oplock of a handle out.
     pub fn drop_of(&mut self, handles: &HandleTable, handle: u64)
+        requires fit { HomesFit handles.now.rows }
         requires sorted { AreSorted handles.now.rows self.old.rows self.old.tables }
         ensures rows { self.new ≡ record self.old { rows = without_oplock_of handle self.old.rows; tables = self.new.tables } }
         ensures sorted { AreSorted handles.now.rows self.new.rows self.new.tables }
     {
-        drop_in_table(&mut self.tables, stream_of(handles, handle), handle);
+        drop_in_table(&mut self.tables, home_of_handle(handles, handle), handle);
         self.list.drop_of(handle);
     }
 }
 
-// The stream of a handle, where it has one.
-fn stream_of(handles: &HandleTable, handle: u64) -> Option<u64>
-    ensures { result ≡ stream_of_handle handles.now.rows handle }
+// Takes the oplock of a handle out of the table of its home, where it has one.
+fn drop_in_table(tables: &mut StreamTables, home: Option<u64>, handle: u64)
+    ensures own { ForSome home (λ own. IsStep tables.old tables.new own (without_oplock_of handle (rows_at tables.old own)) (last_at tables.old own) 0) }
+    ensures none { IfNone home (tables.new ≡ tables.old) }
 {
-    let row = handles.get(handle)?;
-    row.stream
-}
-
-// Takes the oplock of a handle out of the table of its stream, where it has one.
-fn drop_in_table(tables: &mut StreamTables, stream: Option<u64>, handle: u64)
-    ensures own { ForSome stream (λ own. IsStep tables.old tables.new own (without_oplock_of handle (rows_at tables.old own)) (last_at tables.old own) 0) }
-    ensures none { IfNone stream (tables.new ≡ tables.old) }
-{
-    if let Some(own) = stream {
+    if let Some(own) = home {
         tables.drop_handle(own, handle);
     }
 }
@@ -238,18 +245,21 @@ fn is_granted_under(oplock: &OplockRow, turn: u64) -> bool
     }
 }
 
-// Takes an oplock out of the table of its stream, where it is granted to the call that is pending under this turn.
+// Takes an oplock out of the table of its home, where it is granted to the call that is pending under this turn.
 fn give_up_one(tables: &mut StreamTables, handles: &HandleTable, oplock: &OplockRow, turn: u64)
+    requires fit { HomesFit handles.now.rows }
     ensures sorted { (rows : List Oplock) → AreSorted handles.now.rows rows tables.old → AreSorted handles.now.rows (given_up turn rows oplock.now) tables.new }
     ensures fit { KeepFit tables.old tables.new }
 {
     if is_granted_under(oplock, turn) {
-        drop_in_table(tables, stream_of(handles, oplock.handle), oplock.handle);
+        let home = home_of_handle(handles, oplock.handle);
+        drop_in_table(tables, home, oplock.handle);
     }
 }
 
-// Takes the oplocks that are granted to the call that is pending under this turn out of the tables of their streams.
+// Takes the oplocks that are granted to the call that is pending under this turn out of the tables of their homes.
 fn give_up_all(tables: &mut StreamTables, list: &Oplocks, handles: &HandleTable, turn: u64)
+    requires fit { HomesFit handles.now.rows }
     requires differ { AllPairs (λ a b. (a.handle == b.handle) ≡ false) list.now.rows }
     requires sorted { AreSorted handles.now.rows list.now.rows tables.old }
     ensures sorted { AreSorted handles.now.rows (filter (λ oplock. not (is_granted_under turn oplock)) list.now.rows) tables.new }
@@ -260,21 +270,21 @@ fn give_up_all(tables: &mut StreamTables, list: &Oplocks, handles: &HandleTable,
     }
 }
 
-// Grants an oplock in the list: those of its key on the stream end.
-fn grant_in_list(list: &mut Oplocks, tree: &Tree, stream: u64, asked: &Asked)
+// Grants an oplock in the list: those of its key on the stream end. It takes room of this home.
+fn grant_in_list(list: &mut Oplocks, tree: &Tree, stream: u64, home: u64, asked: &Asked)
     requires home { stream_of_handle tree.now.handles asked.now.handle ≡ Some stream }
-    requires room { 1 ≤ room_in list.old.rooms stream }
+    requires room { 1 ≤ room_in list.old.rooms home }
     ensures rows { list.new.rows ≡ after_grant (is_at tree.now.handles stream) asked.now.handle asked.now.key asked.now.level asked.now.turn list.old.rows }
     ensures chosen { list.new.chosen ≡ switched_among (is_at tree.now.handles stream) asked.now.handle asked.now.key list.old.rows }
     ensures rest { list.new ≡ record list.old { rows = list.new.rows; chosen = list.new.chosen; rooms = list.new.rooms } }
-    ensures left { room_in list.old.rooms stream ≤ room_in list.new.rooms stream + 1 }
-    ensures taken { room_in list.new.rooms stream + 1 ≤ room_in list.old.rooms stream }
-    ensures others { (other : ℕ) → (other == stream) ≡ false → room_in list.new.rooms other ≡ room_in list.old.rooms other }
+    ensures left { room_in list.old.rooms home ≤ room_in list.new.rooms home + 1 }
+    ensures taken { room_in list.new.rooms home + 1 ≤ room_in list.old.rooms home }
+    ensures others { (other : ℕ) → (other == home) ≡ false → room_in list.new.rooms other ≡ room_in list.old.rooms other }
 {
     let asked = *asked;
     list.choose_switched(tree, stream, asked.handle, asked.key);
     drop_chosen(list);
-    list.grant(stream, asked.handle, asked.key, asked.level, asked.turn);
+    list.grant(home, asked.handle, asked.key, asked.level, asked.turn);
 }
 
 // The number of the last break, once an oplock was broken.
@@ -288,7 +298,7 @@ fn last_after(class: Class, oplock: OplockRow, last: u64) -> u64
     }
 }
 
-// Breaks this oplock in the table of its stream. Gives the number of the last break then.
+// Breaks this oplock in the table of its home. Gives the number of the last break then.
 fn begin_in_table(
     tables: &mut StreamTables,
     handles: &HandleTable,
@@ -296,22 +306,24 @@ fn begin_in_table(
     class: Class,
     last: u64,
 ) -> u64
-    requires home { IsSome (stream_of_handle handles.now.rows oplock.handle) }
-    requires there { ForSome (stream_of_handle handles.now.rows oplock.handle) (λ stream. filter (λ other. other.handle == oplock.handle) (rows_at tables.old stream) ≡ oplock ∷ []) }
+    requires fit { HomesFit handles.now.rows }
+    requires home { IsSome (home_of_handle handles.now.rows oplock.handle) }
+    requires there { ForSome (home_of_handle handles.now.rows oplock.handle) (λ home. filter (λ other. other.handle == oplock.handle) (rows_at tables.old home) ≡ oplock ∷ []) }
     requires rising { (key : ℕ) → last_at tables.old key ≤ last }
     requires numbers { last + 1 < 2 ^ 64 }
-    ensures step { ForSome (stream_of_handle handles.now.rows oplock.handle) (λ stream. IsStep tables.old tables.new stream (left_by (effect_on class oplock) oplock.handle (last + 1) (rows_at tables.old stream)) (last_by (effect_on class oplock) last) 0) }
+    ensures step { ForSome (home_of_handle handles.now.rows oplock.handle) (λ home. IsStep tables.old tables.new home (left_by (effect_on class oplock) oplock.handle (last + 1) (rows_at tables.old home)) (last_by (effect_on class oplock) last) 0) }
     ensures number { result ≡ last_by (effect_on class oplock) last }
 {
-    let Some(stream) = stream_of(handles, oplock.handle) else {
+    let Some(home) = home_of_handle(handles, oplock.handle) else {
         unreachable!()
     };
-    tables.begin(stream, oplock, class, last + 1);
+    tables.begin(home, oplock, class, last + 1);
     last_after(class, oplock, last)
 }
 
-// Breaks the oplocks that are chosen, each in the table of its stream.
+// Breaks the oplocks that are chosen, each in the table of its home.
 fn begin_all(tables: &mut StreamTables, list: &Oplocks, handles: &HandleTable, class: Class)
+    requires fit { HomesFit handles.now.rows }
     requires numbers { list.now.last + length list.now.chosen < 2 ^ 64 }
     requires there { AreThere list.now.rows list.now.chosen }
     requires sorted { AreSorted handles.now.rows list.now.rows tables.old }

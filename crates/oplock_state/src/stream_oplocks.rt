@@ -1,6 +1,6 @@
 //! The oplocks of one stream or directory.
 
-ghost use Rattle.std.specs.Prelude.{ℕ, ◌≡◌, ◌≤◌, ◌<◌, ◌+◌, ◌-◌, ◌^◌, ◌++◌, ◌∷◌, ◌==◌, ◌&&◌, not, [], length, option_map, slice_index_or, OnOk, if◌then◌else◌};
+ghost use Rattle.std.specs.Prelude.{◌≡◌, ◌≤◌, ◌<◌, ◌+◌, ◌-◌, ◌^◌, ◌++◌, ◌∷◌, ◌==◌, ◌&&◌, not, [], length, option_map, slice_index_or, OnOk, if◌then◌else◌};
 ghost use Rattle.std.specs.Option.{option_map_or};
 ghost use Rattle.std.specs.List.{list_any};
 ghost use Rattle.std.specs.Vec.{vec_capacity};
@@ -34,7 +34,7 @@ pub struct StreamOplocks {
     marked: Vec<u64>,
 }
 
-// The stream of which room is promised in the list, which has no other.
+// The home to which room is promised in the list, which has no other.
 const OWN: u64 = 0;
 
 impl Model for StreamOplocks {

@@ -1,7 +1,7 @@
 //! The oplocks of streams and directories, for each a table of its own.
 
 ghost use Rattle.std.specs.Prelude.{ℕ, ◌≡◌, ◌≤◌, ◌<◌, ◌-◌, ◌==◌, ◌⊎◌, ◌∷◌, [], true, filter, None, OnOk, option_map, position};
-ghost use Rattle.std.specs.Option.{option_copied, option_map_or};
+ghost use Rattle.std.specs.Option.{option_map_or};
 ghost use Rattle.fsa_types.specs.OplockGrants.{after_answer, target_among};
 ghost use Rattle.fsa_types.specs.OplockLists.{after_effect, effect_on, last_by, without_oplock_of};
 ghost use Rattle.fsa_types.specs.Oplocks.{in_both};
@@ -30,8 +30,8 @@ pub struct Asked {
     pub locked: bool,
 }
 
-/// For each stream or directory its oplocks, under a key of its own. One without oplocks may have no table. No
-/// handle is chosen in any of them.
+/// For each stream or directory its oplocks, under a key of its own, its home. One without oplocks may have no table.
+/// No handle is chosen in any of them.
 #[derive(Drop)]
 pub struct StreamTables {
     tables: Vec<(u64, StreamOplocks)>,

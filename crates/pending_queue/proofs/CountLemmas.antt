@@ -1,6 +1,7 @@
 -- Calls with how many of their blockers live: as a count is put in, lowered or taken out, and what the counts are of.
-use Rattle.std.proofs.Common.{◌≡◌, ℕ, zero, suc, true, false, not, ◌+◌, ◌-◌, ◌<◌, List, [], ◌∷◌, ◌++◌, length, get_or, refl, ap, sym, ◌∙◌, arith, inl, inr, eq-eqb, append_assoc, Option, Some, None}
+use Rattle.std.proofs.Common.{◌≡◌, ℕ, zero, suc, Bool, true, false, not, ◌+◌, ◌-◌, ◌<◌, List, [], ◌∷◌, ◌++◌, length, get_or, refl, ap, sym, subst, ◌∙◌, arith, inl, inr, eq-eqb, append_assoc, Option, Some, None}
 use Rattle.std.specs.List.{list_any, position, All, AllPairs}
+use Rattle.std.specs.Option.{option_map_or}
 use Rattle.std.specs.Prelude.{◌==◌, ◌||◌, filter, remove, IfNone}
 use Rattle.std.proofs.Math.ListN.{set}
 use Rattle.std.proofs.lemmas.Bool.{cases_Bool, ne_eqb, eqb-true, eqb-false, false≢true, lt-ltb}
@@ -8,13 +9,13 @@ use Rattle.std.proofs.lemmas.List.{map-append, length-append, length-map, get_or
 use Rattle.std.proofs.lemmas.List.Sums.{position_or_len_is}
 use Rattle.std.proofs.lemmas.List.Kept.{AllPairs-filter}
 use Rattle.std.proofs.lemmas.List.Quantifiers.{all_pairs_push}
-use Rattle.std.proofs.lemmas.List.Folds.{list_any_at}
+use Rattle.std.proofs.lemmas.List.Folds.{list_any_at, list_any-append}
 use Rattle.fsa_types.specs.Rows.{lives, row_of, with_row_changed, without_row}
 use Rattle.fsa_types.specs.declared.reply.Blocker.{Blocker}
-use Rattle.fsa_types.proofs.RowLemmas.{fails-none}
-use Rattle.pending_queue.specs.Lists.{AreCounted, counted, discounted, is_at, least, ready_turns, turns_of, with_count, with_turn}
+use Rattle.fsa_types.proofs.RowLemmas.{IsAt-position, fails-none, row_of-none}
+use Rattle.pending_queue.specs.Lists.{AreCounted, NoneBeside, counted, discounted, is_at, least, ready_turns, turns_of, with_count, with_turn}
 use Rattle.pending_queue.specs.PendingQueue.{blockers_of, calls_added, held_of, is_same, with_ended, with_held}
-use Rattle.pending_queue.proofs.QueueLemmas.{blockers-append, blockers-kept, held-ended, held-held, held-lives, held-removed, put, put-own, put-others}
+use Rattle.pending_queue.proofs.QueueLemmas.{blockers-append, blockers-ended, blockers-gone, blockers-kept, held-ended, held-held, held-lives, held-removed, put, put-own, put-others}
 
 -- ---- rows under numbers that differ
 
@@ -317,6 +318,50 @@ turns-discounted blocker (e ∷ es) calls =
       | inr kept ↦ rw kept (turns-discounted blocker es calls)
     ]
 
+-- no blocker stands beside the calls
+beside-ended : (calls : List (ℕ × ℕ)) (waited : List (ℕ × Blocker)) (blocker : Blocker) → NoneBeside calls waited → NoneBeside (discounted blocker waited calls) (filter (λ e. not (is_same blocker e.1)) waited)
+beside-ended calls waited blocker beside turn none =
+    let same : lives (discounted blocker waited calls) turn ≡ lives calls turn
+    = sym (turns-lives (discounted blocker waited calls) turn) ∙ ap (λ its. list_any (λ other. other == turn) its) (turns-discounted blocker waited calls) ∙ turns-lives calls turn in
+    blockers-ended waited blocker turn ∙ ap (λ its. filter (λ other. not (is_same blocker other)) its) (beside turn (sym same ∙ none))
+
+neither : (a b : Bool) → (a || (b || false)) ≡ false → (a ≡ false) × (b ≡ false)
+neither true b is = (is, cc)
+neither false true is = (refl, is)
+neither false false is = (refl, refl)
+
+lives-put : (calls : List (ℕ × ℕ)) (turn count other : ℕ) → lives (with_count calls turn count) other ≡ false → ((other == turn) ≡ false) × (lives calls other ≡ false)
+lives-put calls turn count other none =
+    let turns : list_any (λ t. t == other) (with_turn (turns_of calls) turn) ≡ false
+    = ap (λ its. list_any (λ t. t == other) its) (sym (turns-put calls turn count)) ∙ turns-lives (with_count calls turn count) other ∙ none in
+    elim (cases_Bool (list_any (λ t. t == turn) (turns_of calls))) [
+      | inl there ↦ (let its : list_any (λ t. t == other) (turns_of calls) ≡ false = rw there at turns in
+          (ne_eqb other turn (λ same. false≢true (sym its ∙ subst (λ (t : ℕ). list_any (λ u. u == t) (turns_of calls) ≡ true) (sym same) there)), sym (turns-lives calls other) ∙ its))
+      | inr isnt ↦ (let its : list_any (λ t. t == other) (turns_of calls ++ turn ∷ []) ≡ false = rw isnt at turns in
+          let parts = neither (list_any (λ t. t == other) (turns_of calls)) (turn == other) (sym (list_any-append (λ t. t == other) (turns_of calls) (turn ∷ [])) ∙ its) in
+          (other_way turn other parts.1, sym (turns-lives calls other) ∙ parts.0))
+    ]
+
+beside-put : (calls : List (ℕ × ℕ)) (waited : List (ℕ × Blocker)) (turn count : ℕ) (blockers : List Blocker) → NoneBeside calls waited → NoneBeside (with_count calls turn count) (put waited turn blockers)
+beside-put calls waited turn count blockers beside other none =
+    let parts = lives-put calls turn count other none in
+    put-others waited turn blockers other parts.0 ∙ beside other parts.1
+
+lives-left : (calls : List (ℕ × ℕ)) (turn other : ℕ) → (other == turn) ≡ false → lives (without_row calls turn) other ≡ lives calls other
+lives-left [] turn other apart = refl
+lives-left (c ∷ cs) turn other apart = elim (cases_Bool (c.0 == turn)) [
+  | inl gone ↦ (let is : c.0 ≡ turn = eqb-true c.0 turn gone in
+      let not_its : (c.0 == other) ≡ false = rw is (other_way other turn apart) in
+      rw (gone, not_its) (lives-left cs turn other apart))
+  | inr kept ↦ rw kept (ap (λ rest. c.0 == other || rest) (lives-left cs turn other apart))
+]
+
+beside-removed : (calls : List (ℕ × ℕ)) (waited : List (ℕ × Blocker)) (turn : ℕ) → NoneBeside calls waited → NoneBeside (without_row calls turn) (filter (λ e. not (e.0 == turn)) waited)
+beside-removed calls waited turn beside other none = elim (cases_Bool (other == turn)) [
+  | inl own ↦ (let is : other ≡ turn = eqb-true other turn own in rw is (blockers-gone waited turn))
+  | inr apart ↦ blockers-kept waited turn other apart ∙ beside other (sym (lives-left calls turn other apart) ∙ none)
+]
+
 pub AreCounted-ended : (calls : List (ℕ × ℕ)) (waited : List (ℕ × Blocker)) (first : Option ℕ) (blocker : Blocker) → AreCounted calls waited first
     → AreCounted (discounted blocker waited calls) (filter (λ e. not (is_same blocker e.1)) waited) (least (ready_turns (discounted blocker waited calls)))
 AreCounted-ended calls waited first blocker are =
@@ -325,6 +370,7 @@ AreCounted-ended calls waited first blocker are =
       differ = differ-turns calls (discounted blocker waited calls) turns are.differ;
       counts = ap (discounted blocker waited) are.counts ∙ counted-ended (turns_of calls) waited blocker ∙ ap (λ its. counted its (filter (λ e. not (is_same blocker e.1)) waited)) (sym turns);
       is_first = refl;
+      beside = beside-ended calls waited blocker are.beside;
     }
 
 pub AreCounted-put : (calls : List (ℕ × ℕ)) (waited : List (ℕ × Blocker)) (first : Option ℕ) (turn : ℕ) (blockers : List Blocker) → AreCounted calls waited first
@@ -335,6 +381,7 @@ AreCounted-put calls waited first turn blockers are =
       differ = differ-put calls turn count are.differ;
       counts = ap (λ its. with_count its turn count) are.counts ∙ counted-put (turns_of calls) waited turn blockers ∙ ap (λ its. counted its (put waited turn blockers)) (sym (turns-put calls turn count));
       is_first = refl;
+      beside = beside-put calls waited turn count blockers are.beside;
     }
 
 pub AreCounted-removed : (calls : List (ℕ × ℕ)) (waited : List (ℕ × Blocker)) (first : Option ℕ) (turn : ℕ) → AreCounted calls waited first
@@ -343,6 +390,7 @@ AreCounted-removed calls waited first turn are = record {
   differ = differ-removed calls turn are.differ;
   counts = ap (λ its. without_row its turn) are.counts ∙ counted-removed (turns_of calls) waited turn ∙ ap (λ its. counted its (filter (λ e. not (e.0 == turn)) waited)) (sym (turns-removed calls turn));
   is_first = refl;
+  beside = beside-removed calls waited turn are.beside;
 }
 
 -- what is seen of the queue then
@@ -399,3 +447,22 @@ seen-unremoved calls waited turn none = sym (without-none (held_of (turns_of cal
 pub count-is : (calls : List (ℕ × ℕ)) (waited : List (ℕ × Blocker)) (first : Option ℕ) (turn count : ℕ) → AreCounted calls waited first → row_of calls turn ≡ Some count
     → count ≡ length (blockers_of waited turn)
 count-is calls waited first turn count are found = row-counted (turns_of calls) waited turn count (ap (λ its. row_of its turn) (sym are.counts) ∙ found)
+
+-- or 0, where it isn't held
+pub counts-all : (calls : List (ℕ × ℕ)) (waited : List (ℕ × Blocker)) (first : Option ℕ) (turn count : ℕ) → AreCounted calls waited first → count ≡ option_map_or (λ count. count) (row_of calls turn) 0
+    → count ≡ length (blockers_of waited turn)
+counts-all calls waited first turn count are is = is ∙ go (row_of calls turn) refl
+  where
+    go : (kept : Option ℕ) → row_of calls turn ≡ kept → option_map_or (λ count. count) kept 0 ≡ length (blockers_of waited turn)
+    go None none = ap length (sym (are.beside turn (row-lives calls turn none)))
+    go (Some count) some = count-is calls waited first turn count are some
+
+-- how many stand there at a place
+pub count-none : (calls : List (ℕ × ℕ)) (turn : ℕ) → position (λ e. e.0 == turn) calls ≡ None → 0 ≡ option_map_or (λ count. count) (row_of calls turn) 0
+count-none calls turn none = ap (λ (kept : Option ℕ). option_map_or (λ count. count) kept 0) (sym (row_of-none calls turn none))
+
+pub count-at : (calls : List (ℕ × ℕ)) (turn place : ℕ) (d : ℕ × ℕ) → AllDiffer calls → position (λ e. e.0 == turn) calls ≡ Some place
+    → (get_or calls place d).1 ≡ option_map_or (λ count. count) (row_of calls turn) 0
+count-at calls turn place d differ found =
+    let at = IsAt-position calls turn place d found in
+    ap (λ (kept : Option ℕ). option_map_or (λ count. count) kept 0) (sym (row-at calls turn place d differ at.within (at.here d)))

@@ -31,7 +31,7 @@ blockers-kept (e ∷ es) turn other differ =
       ]
     ]
 
-blockers-gone : (waited : List (ℕ × Blocker)) (turn : ℕ) → blockers_of (filter (λ e. not (e.0 == turn)) waited) turn ≡ []
+pub blockers-gone : (waited : List (ℕ × Blocker)) (turn : ℕ) → blockers_of (filter (λ e. not (e.0 == turn)) waited) turn ≡ []
 blockers-gone [] turn = refl
 blockers-gone (e ∷ es) turn =
     elim (cases_Bool (e.0 == turn)) [
@@ -68,7 +68,7 @@ put-others waited turn blockers other differ = blockers-append (filter (λ e. no
     ∙ append-nil (blockers_of (filter (λ e. not (e.0 == turn)) waited) other) ∙ blockers-kept waited turn other differ
 
 -- one blocker taken out
-blockers-ended : (waited : List (ℕ × Blocker)) (blocker : Blocker) (turn : ℕ)
+pub blockers-ended : (waited : List (ℕ × Blocker)) (blocker : Blocker) (turn : ℕ)
     → blockers_of (filter (λ e. not (is_same blocker e.1)) waited) turn ≡ filter (λ other. not (is_same blocker other)) (blockers_of waited turn)
 blockers-ended [] blocker turn = refl
 blockers-ended (e ∷ es) blocker turn =

@@ -46,9 +46,14 @@ discounted blocker (entry ∷ entries) calls = discounted blocker entries (if is
 abbrev pub counted : List ℕ → List (ℕ × Blocker) → List (ℕ × ℕ)
 counted turns waited = map (λ turn. (turn, length (blockers_of waited turn))) turns
 
+-- no blocker stands under a turn that is no call's
+abbrev pub NoneBeside : List (ℕ × ℕ) → List (ℕ × Blocker) → Type 0
+NoneBeside calls waited = (turn : ℕ) → lives calls turn ≡ false → blockers_of waited turn ≡ []
+
 -- no two calls have one turn; their counts are those of the blockers that stand under their turns; and the first that
 -- may be taken up
 pub record AreCounted (calls : List (ℕ × ℕ)) (waited : List (ℕ × Blocker)) (first : Option ℕ) : Type 0 where
   pub differ : AllPairs (λ a b. (a.0 == b.0) ≡ false) calls
   pub counts : calls ≡ counted (turns_of calls) waited
   pub is_first : first ≡ least (ready_turns calls)
+  pub beside : NoneBeside calls waited

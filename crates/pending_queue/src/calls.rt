@@ -1,6 +1,7 @@
 //! What is done to the list of calls, each its turn and how many of its blockers live.
 
 ghost use Rattle.std.specs.Prelude.{◌≡◌, ◌≤◌, ◌-◌, ◌==◌, false, Some, IfNone, IsOk, OnOk, OnErr, AllPairs, length, position, if◌then◌else◌};
+ghost use Rattle.std.specs.Option.{option_map_or};
 ghost use Rattle.std.specs.Vec.{vec_capacity, vec_len};
 ghost use Rattle.fsa_types.specs.Rows.{lives, row_of, with_row_changed, without_row};
 ghost use Rattle.pending_queue.specs.Lists.{discounted, is_at, least, least_of, ready_turns, turns_of, with_count};
@@ -54,6 +55,17 @@ pub fn put_count(calls: &mut Vec<(u64, usize)>, turn: u64, count: usize) -> Resu
         None => calls.push((turn, count))?,
     }
     Ok(())
+}
+
+/// How many blockers of the call of this turn live; 0 where it isn't there.
+pub fn count_of(calls: &[(u64, usize)], turn: u64) -> usize
+    requires differ { AllPairs (λ a b. (a.0 == b.0) ≡ false) calls.now }
+    ensures { result ≡ option_map_or (λ count. count) (row_of calls.now turn) 0 }
+{
+    match place_of(calls, turn) {
+        None => 0,
+        Some(place) => calls[place].1,
+    }
 }
 
 // One blocker of the call of this turn lives no more.

@@ -12,11 +12,10 @@
 //! It asks of its caller that each end of a break or a lock is told, and that the blockers of a call
 //! haven't ended when it is held.
 //!
-//! **Cost.** `next_ready` looks at one number. `hold` and `ended` take time linear in the calls and
-//! blockers that are held, and `ended` besides that in the calls for each of those that waited;
-//! `remove` takes time linear in the calls, and in the blockers where one of the call's lives. `hold`
-//! takes memory only where there is no spare room for what it puts in; nothing else but `reserve`
-//! takes any.
+//! **Cost.** `next_ready` looks at one number. `hold` and `remove` take time linear in the calls that are
+//! held, and in all their blockers where one of the call's own lives; `ended` takes time linear in the
+//! blockers, and besides that in the calls for each of those that waited. `hold` takes memory only where
+//! there is no spare room for what it puts in; nothing else but `reserve` takes any.
 #![tactic(auto)]
 
 mod calls;

@@ -55,15 +55,16 @@ pub fn drop_rest(entries: &mut Vec<(u64, Blocker)>, turn: u64, count: usize)
     }
 }
 
-/// Puts these blockers of the call of this turn in place of those that it has. There has to be room
-/// for them.
-pub fn put_blockers(waited: &mut Vec<(u64, Blocker)>, turn: u64, blockers: &[Blocker])
+/// Puts these blockers of the call of this turn in place of those that it has, of which there are so many. There
+/// has to be room for them.
+pub fn put_blockers(waited: &mut Vec<(u64, Blocker)>, turn: u64, count: usize, blockers: &[Blocker])
+    requires count { count ≡ length (blockers_of waited.old.items turn) }
     requires room { vec_len waited.old + length blockers.now ≤ vec_capacity waited.old }
     ensures items { waited.new.items ≡ filter (λ entry. not (entry.0 == turn)) waited.old.items ++ map (λ blocker. (turn, blocker)) blockers.now }
     ensures few { vec_len waited.new ≤ vec_len waited.old + length blockers.now }
     ensures room { vec_capacity waited.old ≤ vec_capacity waited.new }
 {
-    drop_blockers_of(waited, turn);
+    drop_rest(waited, turn, count);
     add_blockers(waited, turn, blockers);
 }
 

@@ -4,7 +4,7 @@ ghost use Rattle.std.specs.Prelude.{◌≡◌, ◌≤◌, ◌+◌, ◌==◌, [],
 ghost use Rattle.fsa_types.specs.Rows.{lives, without_row};
 ghost use Rattle.pending_queue.specs.PendingQueue.{with_held, with_ended, next_ready, calls_added};
 
-use crate::calls::{count_down_each, least_ready, put_count, take_call};
+use crate::calls::{count_down_each, count_of, least_ready, put_count, take_call};
 use crate::lists::{drop_blocker, drop_rest, is_waited_for, put_blockers};
 use fsa_types::{Blocker, BlockerList, NoMemory};
 use std::alloc::Global;
@@ -87,8 +87,9 @@ impl PendingQueue {
         ensures blockers_left { self.old.room_for_blockers ≤ self.new.room_for_blockers + length blockers.now }
     {
         self.waited.reserve(blockers.len())?;
+        let count = count_of(&self.calls, turn);
         put_count(&mut self.calls, turn, blockers.len())?;
-        put_blockers(&mut self.waited, turn, blockers);
+        put_blockers(&mut self.waited, turn, count, blockers);
         self.first = least_ready(&self.calls);
         Ok(())
     }

@@ -3,6 +3,7 @@ mod ByteLineLemmas
 mod ClockLineLemmas
 mod ControlLineLemmas
 mod DaclLemmas
+pub mod DigitLemmas
 mod GeneratorLemmas
 mod InformationLineLemmas
 mod LeastLemmas

@@ -1,17 +1,17 @@
 //! The generated script: 4,096 requests of four clients, each by a number that is drawn from a seed on.
 
 ghost use Rattle.std.specs.Prelude.{◌≡◌, ◌%◌, ◌∷◌, [], Some, map, replicate, IfOk};
-ghost use Rattle.fsa_types.specs.declared.request.Disposition.TheVariants.{OpenIf};
-ghost use Rattle.fsa_types.specs.declared.request.Request.TheVariants.{Create, Write};
+ghost use Rattle.fsa_types.specs.declared.request.Request.TheVariants.{Write};
 ghost use Rattle.fsa_types.specs.declared.request.What.TheVariants.{Ask};
-ghost use Rattle.fsa_model.specs.Generator.{next_state, drawn, generated_path, level_by, generated_what, generated_call, generated_calls, generated_clients, generated};
+ghost use Rattle.fsa_model.specs.Generator.{next_state, drawn, generated_open, generated_path, level_by, generated_what, generated_call, generated_calls, generated_clients, generated};
 ghost use Rattle.fsa_model.specs.Setup.{client_of};
 ghost use Rattle.script_read.specs.ScriptView.{contents};
 
 use crate::script::Script;
+use bitflags::Flags;
 use fsa_types::{
-    Bytes, Call, CallList, Client, ClientList, Disposition, InfoKind, Level, Name, NoMemory,
-    Request, Setup, SidList, UpcaseTable, What,
+    AccessMask, Bytes, Call, CallList, Client, ClientList, Disposition, InfoKind, Level, Name,
+    NoMemory, Request, Setup, ShareAccess, SidList, UpcaseTable, What,
 };
 use std::alloc::Global;
 
@@ -58,18 +58,22 @@ fn level_by(choice: u64) -> Level
     }
 }
 
-// An open of one of the paths.
+// An open of one of the paths, which reads and writes, and shares all.
 fn generated_open(alloc: Global, number: u64) -> Result<What, NoMemory>
-    ensures { IfOk result (λ what. what ≡ Ask (Create (generated_path number) 0x3 0x7 OpenIf 0x0 0x0 0)) }
+    ensures { IfOk result (λ what. what ≡ generated_open number) }
 {
+    let wanted = AccessMask::READ_DATA.bits() | AccessMask::WRITE_DATA.bits();
+    let share = ShareAccess::SHARE_READ.bits()
+        | ShareAccess::SHARE_WRITE.bits()
+        | ShareAccess::SHARE_DELETE.bits();
     let path = generated_path(alloc, number)?;
     Ok(What::Ask(Request::Create {
         path,
-        wanted: 0x3,
-        share: 0x7,
+        wanted,
+        share,
         disposition: Disposition::OpenIf,
-        options: 0x0,
-        attributes: 0x0,
+        options: 0,
+        attributes: 0,
         key: 0,
     }))
 }

@@ -1,6 +1,7 @@
 //! Texts of UTF-16 units and strings of bytes.
 
-ghost use Rattle.std.specs.Prelude.{◌≡◌, ℕ, ◌<◌, ◌≤◌, [], ◌∷◌, Some, None, if◌then◌else◌, IfOk, IfErr, length};
+ghost use Rattle.std.specs.Prelude.{◌≡◌, ℕ, ◌<◌, ◌≤◌, ◌*◌, [], ◌∷◌, Some, None, Ok, Err, if◌then◌else◌, IfOk, IfErr, length};
+ghost use Rattle.fsa_model.specs.Fault.{BadSyntax};
 ghost use Rattle.fsa_model.specs.Numbers.{digit_of};
 ghost use Rattle.fsa_model.specs.Words.{upper_digit_of, are_upper_digits, unit_of_digits, is_plain, onto, units_of, escaped_units, text_of, text_at, written_bytes, string_of, string_at};
 ghost use Rattle.script_read.specs.ReadsAs.{ReadsAs, Fails};
@@ -117,36 +118,35 @@ pub fn text_at(alloc: Global, bytes: &[u8]) -> Result<(Name, &[u8]), LineFault>
     Ok((name, rest))
 }
 
-// The byte that the two digits at the front write, and what follows them.
-fn byte_at(digits: &[u8]) -> Result<(u8, &[u8]), LineFault>
-    requires { 0 < length digits.now }
-    ensures byte { IfOk result (λ byte. written_bytes digits.now ≡ onto byte.0 (written_bytes byte.1.now)) }
-    ensures shorter { IfOk result (λ byte. length byte.1.now < length digits.now) }
-    ensures err { IfErr result (λ fault. Fails fault (written_bytes digits.now)) }
+// Writes the byte of each two digits, and gives the greatest value of a digit, 16 where one is none.
+fn read_digits(digits: &[u8], bytes: &mut [u8]) -> u8
+    requires { length digits.now ≡ 2 * length bytes.old }
+    ensures digits { result < 16 → written_bytes digits.now ≡ Ok bytes.new }
+    ensures others { 16 ≤ result → written_bytes digits.now ≡ Err BadSyntax }
 {
-    let [high, low, rest @ ..] = digits else {
-        return Err(SYNTAX);
-    };
-    let (high, low) = (digit_of(*high), digit_of(*low));
-    if high < 16 && low < 16 {
-        Ok((high * 16 + low, rest))
-    } else {
-        Err(SYNTAX)
+    let mut greatest: u8 = 0;
+    'bytes: for i in 0..bytes.len() {
+        let (high, low) = (digit_of(digits[2 * i]), digit_of(digits[2 * i + 1]));
+        greatest = greatest.max(high).max(low);
+        bytes[i] = high % 16 * 16 + low % 16;
     }
+    greatest
 }
 
 // The bytes that these digits write, two a byte.
+#[tactic(auto, using(crate::proofs::DigitLemmas::odd_none))]
 fn written_bytes(alloc: Global, digits: &[u8]) -> Result<Vec<u8>, LineFault>
     ensures { ReadsAs (λ bytes. bytes.items) result (written_bytes digits.now) }
 {
-    let mut bytes = Vec::with_capacity(alloc, digits.len() / 2)?;
-    let mut rest = digits;
-    'bytes: while !rest.is_empty() {
-        let (byte, after) = byte_at(rest)?;
-        bytes.push(byte)?;
-        rest = after;
+    if digits.len() % 2 != 0 {
+        return Err(SYNTAX);
     }
-    Ok(bytes)
+    let mut bytes = vec![in alloc; 0; digits.len() / 2]?;
+    if read_digits(digits, &mut bytes) < 16 {
+        Ok(bytes)
+    } else {
+        Err(SYNTAX)
+    }
 }
 
 // The string of bytes that a word writes.

@@ -2,3 +2,4 @@ pub mod ChargeLaws
 pub mod ClashLemmas
 pub mod CountLemmas
 pub mod HeldLemmas
+mod SharingExamples

@@ -41,8 +41,6 @@ mod charges;
 mod held;
 mod share_counts;
 mod sharing;
-#[cfg(test)]
-mod tests;
 
 pub use charges::Charges;
 pub use share_counts::ShareCounts;

@@ -1,2 +1,4 @@
 pub mod BodyLaws
+mod DigitLaws
 pub mod EntryLaws
+mod PartLaws

@@ -9,7 +9,8 @@ ghost use Rattle.fsa_model.specs.Numbers.{glyph, spelled};
 ghost use Rattle.fsa_model.specs.Text.{body_text};
 ghost use Rattle.fsa_model.specs.Words.{is_plain};
 
-use crate::text::{digit, level_word, push_hex, push_text};
+use crate::digits::{digit, push_hex};
+use crate::text::{level_word, push_text};
 use fsa_types::{Level, NoMemory};
 use itoa::Buffer;
 

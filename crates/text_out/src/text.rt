@@ -5,35 +5,18 @@ ghost use Rattle.fsa_types.specs.Status.{status_name};
 ghost use Rattle.fsa_types.specs.declared.reply.Body.TheVariants.{Packed};
 ghost use Rattle.fsa_model.specs.Setup.{client_of};
 ghost use Rattle.fsa_model.specs.Outcome.{out_of};
-ghost use Rattle.fsa_model.specs.Text.{action_text, answer_line, body_text, bytes_text, call_text, digit, end_line, ended_lines, hex_digits, interim_text, last_line, level_word, name_of, turn_text};
+ghost use Rattle.fsa_model.specs.Text.{action_text, answer_line, body_text, bytes_text, call_text, end_line, ended_lines, interim_text, last_line, level_word, name_of, turn_text};
 ghost use Rattle.fsa_model.specs.Verbs.{request_word, verb};
+ghost use Rattle.text_out.specs.LongTurns.{after_bytes, answer_begun, before_bytes};
 
 use crate::bodies::{push_broken, push_quota, push_stopped};
+use crate::digits::push_hex;
 use crate::entries::push_entries;
 use fsa_types::{
     Action, Answer, Body, Call, ClientList, EndOf, Interim, Level, NoMemory, Out, PackKind, Reply,
-    Request, What,
+    Request, Status, What,
 };
 use itoa::Buffer;
-
-/// The digit of a number below 16, in lower case.
-pub fn digit(n: u8) -> u8
-    requires { n < 16 }
-    ensures { result ≡ digit n }
-{
-    if n < 10 { 48 + n } else { 87 + n }
-}
-
-/// Puts two digits for each byte at the end.
-pub fn push_hex(line: &mut Vec<u8>, bytes: &[u8]) -> Result<(), NoMemory>
-    ensures { IfOk result (λ _. line.new.items ≡ line.old.items ++ hex_digits bytes.now) }
-{
-    for byte in bytes {
-        line.push(digit(*byte / 16))?;
-        line.push(digit(*byte % 16))?;
-    }
-    Ok(())
-}
 
 /// Puts a decimal number at the end.
 pub fn push_number(line: &mut Vec<u8>, number: u32) -> Result<(), NoMemory>
@@ -279,6 +262,47 @@ pub fn push_turn(
     push_head(line, clients, call)?;
     push_answer(line, clients, call, &out.answer)?;
     push_ended(line, clients, out.ended.as_slice())
+}
+
+// The line that answers the turn's own call, up to the bytes that it gives.
+fn push_answer_begun(
+    line: &mut Vec<u8>,
+    clients: &ClientList,
+    call: &Call,
+    status: Status,
+) -> Result<(), NoMemory>
+    ensures { IfOk result (λ _. line.new.items ≡ line.old.items ++ answer_begun (map client_of clients.now.items) call.now status) }
+{
+    push_call(line, clients, call.client, call.number)?;
+    line.push(32)?;
+    push_text(line, status.name())?;
+    line.push(32)?;
+    Ok(())
+}
+
+/// Puts the lines of a turn at the end, up to the bytes that its answer gives with this status.
+pub fn push_before_bytes(
+    line: &mut Vec<u8>,
+    clients: &ClientList,
+    call: &Call,
+    status: Status,
+) -> Result<(), NoMemory>
+    ensures { IfOk result (λ _. line.new.items ≡ line.old.items ++ before_bytes (map client_of clients.now.items) call.now status) }
+{
+    push_head(line, clients, call)?;
+    push_answer_begun(line, clients, call, status)
+}
+
+/// Puts the lines of a turn at the end, from behind the bytes that its answer gives.
+pub fn push_after_bytes(
+    line: &mut Vec<u8>,
+    clients: &ClientList,
+    ended: &[EndOf],
+) -> Result<(), NoMemory>
+    ensures { IfOk result (λ _. line.new.items ≡ line.old.items ++ after_bytes (map client_of clients.now.items) ended.now) }
+{
+    line.push(10)?;
+    push_ended(line, clients, ended)
 }
 
 /// Puts the last line at the end: the number of turns.

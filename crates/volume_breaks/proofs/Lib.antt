@@ -4,3 +4,4 @@ pub mod GrantLemmas
 pub mod OrderLemmas
 pub mod ReleaseLemmas
 pub mod ToldLemmas
+pub mod WaitingLemmas

@@ -1,10 +1,10 @@
 -- Pending calls in the order of their turns.
 use Rattle.std.specs.Fn.{Called, ReturnsEach, AlwaysReturns}
-use Rattle.std.proofs.Common.{◌≡◌, ℕ, suc, ◌<◌, ◌≤◌, ◌-◌, ◌++◌, Bool, true, false, not, List, [], ◌∷◌, length, get_or, ap, sym, ◌∙◌, refl, arith, inl, inr}
+use Rattle.std.proofs.Common.{◌≡◌, ℕ, suc, ◌<◌, ◌≤◌, ◌-◌, ◌++◌, Bool, true, false, List, [], ◌∷◌, length, get_or, ap, sym, ◌∙◌, refl, arith, inl, inr}
 use Rattle.std.specs.List.{filter, list_any, find, All, AllPairs, position_or_len}
 use Rattle.std.specs.List.Sorted.{IsNonDecreasingBy, IsPartitionPoint}
 use Rattle.std.specs.Prelude.{◌&&◌, nat_lt, option_map, slice_get}
-use Rattle.std.proofs.lemmas.Bool.{cases_lt, cases_eq, and_left, lt-ltb, le-ltb}
+use Rattle.std.proofs.lemmas.Bool.{cases_lt, and_left, lt-ltb, le-ltb}
 use Rattle.std.proofs.lemmas.List.{get_or_default}
 use Rattle.std.proofs.lemmas.List.Folds.{find_at, list_any_none}
 use Rattle.std.proofs.lemmas.List.Kept.{AllPairs-filter}

@@ -1,12 +1,13 @@
 -- The pending calls as they are kept, with the queue of those that are held.
-use Rattle.std.specs.Prelude.{◌≡◌, ℕ, suc, Bool, true, false, List, ◌==◌, ◌&&◌, ◌≤◌, ◌<◌, length, nat_lt, not, AllPairs, get_or}
+use Rattle.std.specs.Prelude.{◌≡◌, ℕ, suc, Bool, true, false, List, ◌==◌, ◌&&◌, ◌≤◌, ◌<◌, length, nat_lt, not, AllPairs, get_or, slice_get}
 use Rattle.std.specs.List.{list_any}
+use Rattle.std.specs.Option.{option_map_or}
 use Rattle.fsa_types.specs.Pending.{is_held}
 use Rattle.fsa_types.specs.declared.reply.Blocker.{Blocker}
 use Rattle.fsa_types.specs.declared.reply.Blocker.TheVariants as blocker
 use Rattle.fsa_model.specs.Edits.{is_call}
 use Rattle.fsa_model.specs.Volume.{Lock, Oplock, Pending}
-use Rattle.fsa_model.specs.Waiting.{is_breaking}
+use Rattle.fsa_model.specs.Waiting.{is_breaking, is_wait}
 use Rattle.pending_queue.specs.PendingQueue.{held_among}
 
 -- the pending calls; those of them that are held, each with its blockers that live; how many more calls
@@ -29,6 +30,14 @@ is_next_turn pending after entry = nat_lt after entry.0 && not (list_any (λ oth
 -- where it is said so, the turns rise
 abbrev pub AreInOrder : Bool → List (ℕ × Pending) → Type 0
 AreInOrder rising pending = rising ≡ true → AllPairs (λ a b. a.0 < b.0) pending
+
+-- some call waits for another
+abbrev pub has_wait : List (ℕ × Pending) → Bool
+has_wait pending = list_any (λ entry. is_wait entry.1.call.what) pending
+
+-- the row at this place is the one of this turn
+abbrev pub is_at : List (ℕ × Pending) → ℕ → ℕ → Bool
+is_at pending place turn = option_map_or (λ entry. entry.0 == turn) (slice_get pending place) false
 
 -- the last of these has a lower turn
 abbrev pub IsBehind : List (ℕ × Pending) → ℕ → Type 0

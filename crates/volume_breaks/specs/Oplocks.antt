@@ -5,7 +5,7 @@ use Rattle.fsa_model.specs.Volume.{Oplock}
 use Rattle.volume_breaks.specs.declared.telling.Told.{Told}
 
 -- the oplocks; copies of those that the last break chose, in order; whom it told, and the breaks that it
--- waits for; the number of the last break that began; and how many more oplocks can be put in on each stream
+-- waits for; the number of the last break that began; and how many more oplocks of each home can be put in
 -- without taking memory, none where it isn't told
 pub record Held : Type 0 where
   pub rows : List Oplock

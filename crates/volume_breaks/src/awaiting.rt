@@ -1,6 +1,6 @@
 //! The breaks of oplocks that a request waits for.
 
-ghost use Rattle.std.specs.Prelude.{ℕ, ◌≡◌, ◌≤◌, ◌<◌, ◌+◌, ◌++◌, ◌∷◌, [], length, filter, map, if◌then◌else◌};
+ghost use Rattle.std.specs.Prelude.{◌≡◌, ◌≤◌, ◌<◌, ◌+◌, ◌++◌, ◌∷◌, [], length, map, if◌then◌else◌};
 ghost use Rattle.std.specs.Vec.{vec_capacity};
 ghost use Rattle.fsa_types.specs.OplockLists.{awaited_among, number_of_break};
 ghost use Rattle.fsa_types.specs.Oplocks.{is_awaited};

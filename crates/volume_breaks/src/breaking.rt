@@ -1,23 +1,19 @@
 //! The calls that end where oplocks are broken, after [MS-FSA] 'Algorithm to Check for an Oplock Break'.
 
-ghost use Rattle.std.specs.Prelude.{ℕ, ◌≡◌, ◌≤◌, ◌<◌, ◌+◌, ◌++◌, ◌∷◌, ◌^◌, ◌&&◌, [], not, true, length, filter, fold, is_some, option_map, option_and_then, All, if◌then◌else◌};
+ghost use Rattle.std.specs.Prelude.{◌≡◌, ◌≤◌, ◌+◌, ◌++◌, ◌∷◌, [], not, true, length, filter, fold, is_some, option_map, option_and_then, if◌then◌else◌};
 ghost use Rattle.std.specs.Option.{option_map_or};
-ghost use Rattle.fsa_types.specs.OplockLists.{effect_on, told_among, IsCopy, IsSoundOplock};
 ghost use Rattle.fsa_types.specs.Rows.{row_of};
-ghost use Rattle.fsa_types.specs.declared.reply.Body.TheVariants.{Broken};
-ghost use Rattle.fsa_types.specs.declared.status.Status.TheVariants.{Success};
-ghost use Rattle.fsa_model.specs.Breaks.{with_effect, with_told};
+ghost use Rattle.fsa_model.specs.Breaks.{with_told};
 ghost use Rattle.fsa_model.specs.Edits.{is_call, with_end};
 ghost use Rattle.fsa_model.specs.Volume.{Volume};
 ghost use Rattle.object_tables.specs.Series.{HoldsAsMany};
-ghost use Rattle.volume_breaks.specs.Breaks.{with_calls, with_held, with_holder_told};
+ghost use Rattle.volume_breaks.specs.Breaks.{with_calls, with_holder_told};
 ghost use Rattle.volume_breaks.specs.Calls.{StayHeld};
 ghost use Rattle.volume_breaks.specs.Told.{has_call};
 
-use crate::oplock_list::Oplocks;
 use crate::pending_calls::PendingCalls;
-use crate::telling::{Told, break_oplocks};
-use fsa_types::{Body, Class, EndOf, Level, Reply, Status};
+use crate::telling::Told;
+use fsa_types::{Body, EndOf, Level, Reply, Status};
 use object_tables::Series;
 use volume_rows::{PendingRow, find_pending};
 
@@ -125,27 +121,4 @@ pub fn end_told(pending: &mut PendingCalls, ended: &mut Series<EndOf>, told: &[T
     for one in told {
         end_one(pending, ended, one);
     }
-}
-
-/// Breaks the oplocks that were chosen, one after the other, as a request of this class does; the calls of those
-/// who are told end. They have to be copies of those that are there.
-pub fn break_chosen(
-    oplocks: &mut Oplocks,
-    pending: &mut PendingCalls,
-    ended: &mut Series<EndOf>,
-    class: Class,
-)
-    requires room { length (told_among class oplocks.old.chosen) ≤ ended.old.room }
-    requires numbers { oplocks.old.last + length oplocks.old.chosen < 2 ^ 64 }
-    requires sound { All IsSoundOplock oplocks.old.chosen }
-    requires copies { All (IsCopy oplocks.old.rows) oplocks.old.chosen }
-    ensures done { (v : Volume) → with_held v oplocks.new.rows oplocks.new.last pending.new.items ended.new.items ≡ fold (λ w oplock. with_effect w oplock (effect_on class oplock)) (with_held v oplocks.old.rows oplocks.old.last pending.old.items ended.old.items) oplocks.old.chosen }
-    ensures others { oplocks.new ≡ record oplocks.old { rows = oplocks.new.rows; last = oplocks.new.last; told = oplocks.new.told } }
-    ensures held { StayHeld pending.old pending.new }
-    ensures room { (pending.new.room ≡ pending.old.room) × (pending.new.blockers ≡ pending.old.blockers) }
-    ensures left { ended.old.room ≤ ended.new.room + length (told_among class oplocks.old.chosen) }
-    ensures ends { HoldsAsMany ended.old ended.new }
-{
-    break_oplocks(oplocks, class);
-    end_told(pending, ended, oplocks.told());
 }

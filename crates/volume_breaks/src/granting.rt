@@ -1,13 +1,12 @@
 //! When no oplock is granted, and what a grant ends, after [MS-FSA] 'Server Requests an Oplock'.
 
-ghost use Rattle.std.specs.Prelude.{◌≡◌, ◌≤◌, ◌+◌, ◌&&◌, not, true, length, fold, is_some, if◌then◌else◌};
+ghost use Rattle.std.specs.Prelude.{◌≡◌, ◌≤◌, ◌+◌, ◌&&◌, not, true, length, fold};
 ghost use Rattle.fsa_types.specs.OplockGrants.{after_switches, is_of_key, is_refused_among, some_breaking, some_more, some_writer};
 ghost use Rattle.fsa_types.specs.OplockLists.{without_oplock_of};
 ghost use Rattle.fsa_types.specs.Oplocks.{has_write, is_within};
-ghost use Rattle.fsa_model.specs.Grant.{with_switched};
 ghost use Rattle.fsa_model.specs.Volume.{Volume};
 ghost use Rattle.object_tables.specs.Series.{HoldsAsMany};
-ghost use Rattle.volume_breaks.specs.Breaks.{with_calls, with_held, with_switch_told};
+ghost use Rattle.volume_breaks.specs.Breaks.{with_calls, with_switch_told};
 ghost use Rattle.volume_breaks.specs.Calls.{StayHeld};
 
 use crate::breaking::end_pending;
@@ -120,19 +119,4 @@ pub fn end_switched(pending: &mut PendingCalls, ended: &mut Series<EndOf>, switc
     for oplock in switched {
         end_one(pending, ended, oplock);
     }
-}
-
-/// Ends the oplocks that were chosen to be switched, one after the other; the call of each is told so.
-/// Room for the ends of as many calls has to be there.
-pub fn switch_chosen(oplocks: &mut Oplocks, pending: &mut PendingCalls, ended: &mut Series<EndOf>)
-    requires room { length oplocks.old.chosen ≤ ended.old.room }
-    ensures oplocks { oplocks.new ≡ record oplocks.old { rows = after_switches oplocks.old.rows oplocks.old.chosen } }
-    ensures done { (v : Volume) → with_held v oplocks.new.rows oplocks.new.last pending.new.items ended.new.items ≡ fold with_switched (with_held v oplocks.old.rows oplocks.old.last pending.old.items ended.old.items) oplocks.old.chosen }
-    ensures held { StayHeld pending.old pending.new }
-    ensures room { (pending.new.room ≡ pending.old.room) × (pending.new.blockers ≡ pending.old.blockers) }
-    ensures left { ended.old.room ≤ ended.new.room + length oplocks.old.chosen }
-    ensures ends { HoldsAsMany ended.old ended.new }
-{
-    drop_chosen(oplocks);
-    end_switched(pending, ended, oplocks.chosen());
 }

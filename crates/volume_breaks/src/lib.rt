@@ -4,35 +4,38 @@
 //!
 //! ```text
 //! oplocks.choose(&tree, on, acting, key);                          // which are broken, in order
-//! break_chosen(&mut oplocks, &mut pending, &mut ended, class);     // what becomes of each
+//! break_oplocks(&mut oplocks, class);                              // what becomes of each, and who is told
+//! end_told(&mut pending, &mut ended, oplocks.told());              // whose calls end
 //! let waits = oplocks.await_breaks(class);                         // for which the request waits
 //!
 //! oplocks.choose_on(&tree, stream);                                // beside which one is asked for
 //! is_refused(handle, key, level, others, locked, oplocks.chosen());
 //! oplocks.choose_switched(&tree, stream, handle, key);             // which a grant ends
-//! switch_chosen(&mut oplocks, &mut pending, &mut ended);           // and tells their calls
-//! oplocks.grant(stream, handle, key, level, turn);
+//! drop_chosen(&mut oplocks);
+//! end_switched(&mut pending, &mut ended, oplocks.chosen());        // whose calls end
+//! oplocks.grant(home, handle, key, level, turn);                   // takes room that was promised to its home
 //! ```
 //!
 //! The parts: which oplocks a break breaks, and in what order (`choosing`, over a `Tree` of a volume's
 //! tables), or of one stream by their handles alone (`marking`); what it does to each, and whom it tells
 //! (`telling`), and the calls that end with that (`breaking`); for which breaks the request waits (`awaiting`);
 //! when no oplock is granted, and what a grant ends (`granting`); the list of the oplocks, with what a break or a
-//! grant puts by and with the room that was promised to each stream (`Oplocks`); the pending calls with
-//! the queue of those that are held (`PendingCalls`), which is told what ends where a handle goes
-//! (`releasing`); and a list whose room stays as items go (`SpareList`).
+//! grant puts by and with the room that was promised to each stream or directory, under a key that its caller
+//! gives it, its *home* (`Oplocks`); the pending calls with the queue of those that are held (`PendingCalls`),
+//! which is told what ends where a handle goes (`releasing`); and a list whose room stays as items go (`SpareList`).
 //!
 //! `oplock_state` has the oplocks of one stream by `break_oplocks` and `drop_chosen`, and leaves the calls to its
-//! caller; a volume's break and grant end them too.
+//! caller; a volume's break and grant end them after that.
 //!
 //! - None of these takes memory but `reserve`: there is always room for copies of all oplocks, for the numbers
 //!   of as many breaks, and for what as many holders are told. Room for the ends of the calls that are told has
-//!   to be there, and for a grant room for one oplock on its stream; that of other streams stays.
+//!   to be there, and for a grant room for one oplock of its home; that of other homes stays.
 //! - A break goes over all oplocks, with a look at the handles for each, takes time square in the number
 //!   of those that it breaks, with a few looks at handles, links and streams for each pair, and goes over
 //!   the pending calls for each one that it tells.
-//! - The next pending call is found by halves as long as calls came in the order of their turns; once one
-//!   didn't, by a look at each.
+//! - The next pending call, and the call of a turn, are found by halves as long as calls came in the order of
+//!   their turns; once one didn't, or where no call has the turn, by a look at each. A call of a client is found by a
+//!   look at each.
 #![tactic(auto)]
 
 mod awaiting;
@@ -47,11 +50,11 @@ mod spare_list;
 mod telling;
 
 pub use awaiting::push_breaks;
-pub use breaking::{break_chosen, end_call, end_told};
+pub use breaking::{end_call, end_told};
 pub use choosing::Tree;
-pub use granting::{drop_chosen, end_switched, is_refused, switch_chosen};
+pub use granting::{drop_chosen, end_switched, is_refused};
 pub use oplock_list::Oplocks;
-pub use pending_calls::PendingCalls;
+pub use pending_calls::{PendingCalls, is_wait};
 pub use releasing::{release_breaks, release_locks};
 pub use spare_list::SpareList;
 pub use telling::{Told, break_oplocks};

@@ -1,12 +1,11 @@
 //! The oplocks of a volume, with room for what a break of them sets aside.
 
-ghost use Rattle.std.specs.Prelude.{ℕ, ◌≡◌, ◌≤◌, ◌<◌, ◌+◌, ◌++◌, ◌∷◌, ◌^◌, ◌==◌, ◌-◌, not, true, false, All, [], List, Some, None, length, map, filter, OnOk, if◌then◌else◌, max, slice_index_or};
+ghost use Rattle.std.specs.Prelude.{ℕ, ◌≡◌, ◌≤◌, ◌<◌, ◌+◌, ◌++◌, ◌∷◌, ◌^◌, ◌==◌, ◌-◌, not, true, false, All, [], length, map, filter, OnOk, max, slice_index_or};
 ghost use Rattle.fsa_types.specs.Sorting.{in_order};
 ghost use Rattle.fsa_types.specs.OplockGrants.{after_answer, as_answered, as_granted, is_of_key, switched_among};
 ghost use Rattle.fsa_types.specs.OplockLists.{awaited_among, begun, lowered, without_oplock_of, CanBegin, CanGoOn, IsCopy, IsSoundOplock};
 ghost use Rattle.fsa_model.specs.Breaks.{is_broken_before, is_chosen};
 ghost use Rattle.fsa_model.specs.Grant.{is_oplock_on};
-ghost use Rattle.fsa_model.specs.Volume.{Oplock};
 ghost use Rattle.fsa_model.specs.Waiting.{is_granted_under};
 ghost use Rattle.volume_breaks.specs.Marks.{is_marked, is_opened_before};
 ghost use Rattle.volume_breaks.specs.Oplocks.{Held};
@@ -23,11 +22,11 @@ use std::marker::Model;
 use volume_rows::{OplockRow, has_read, is_oplock_of};
 use volume_tables::RoomList;
 
-/// Oplocks, in the order in which they were granted, and for each stream how many more can be granted on it
-/// without taking memory. A break of them takes no memory: there is room for copies of all of them, for the
-/// numbers of as many breaks, and for what as many holders are told. There are fewer than 2^32. At most one is
-/// of a handle, with a numbered break exactly where it has a target, which is within its level; the numbers of
-/// breaks differ, and none is above the last one given.
+/// Oplocks, in the order in which they were granted, and under the key of each stream or directory, its *home*, how
+/// many more can be granted on it without taking memory. A break of them takes no memory: there is room for copies
+/// of all of them, for the numbers of as many breaks, and for what as many holders are told. There are fewer than
+/// 2^32. At most one is of a handle, with a numbered break exactly where it has a target, which is within its
+/// level; the numbers of breaks differ, and none is above the last one given.
 #[derive(Drop)]
 pub struct Oplocks {
     rows: Vec<OplockRow>,
@@ -39,7 +38,7 @@ pub struct Oplocks {
     waited: Vec<u64>,
     // The number of the last break that began.
     last: u64,
-    // What was promised to each stream, all of which the lists have.
+    // What was promised to each home, all of which the lists have.
     rooms: RoomList,
 }
 
@@ -75,21 +74,21 @@ impl Oplocks {
         }
     }
 
-    /// Takes room for so many oplocks on this stream, in all that it has room for, and for breaks of them.
+    /// Takes room for so many oplocks of this home, in all that it has room for, and for breaks of them.
     /// `NoMemory` where there is none, or where there would be 2^32 or more in all with those that were
-    /// promised to other streams.
-    pub fn reserve(&mut self, stream: u64, oplocks: u32) -> Result<(), NoMemory>
+    /// promised to other homes.
+    pub fn reserve(&mut self, home: u64, oplocks: u32) -> Result<(), NoMemory>
         ensures rows { self.new ≡ record self.old { rooms = self.new.rooms } }
-        ensures room { OnOk result (oplocks ≤ room_in self.new.rooms stream) }
+        ensures room { OnOk result (oplocks ≤ room_in self.new.rooms home) }
         ensures kept { (other : ℕ) → room_in self.old.rooms other ≤ room_in self.new.rooms other }
-        ensures most { room_in self.new.rooms stream ≤ max (room_in self.old.rooms stream) oplocks }
-        ensures others { (other : ℕ) → (other == stream) ≡ false → room_in self.new.rooms other ≡ room_in self.old.rooms other }
+        ensures most { room_in self.new.rooms home ≤ max (room_in self.old.rooms home) oplocks }
+        ensures others { (other : ℕ) → (other == home) ≡ false → room_in self.new.rooms other ≡ room_in self.old.rooms other }
     {
         let oplocks = oplocks as usize;
-        if oplocks <= self.rooms.room_in(stream) {
+        if oplocks <= self.rooms.room_in(home) {
             return Ok(());
         }
-        let Some(all) = self.rooms.all_with(stream, oplocks) else {
+        let Some(all) = self.rooms.all_with(home, oplocks) else {
             return Err(NoMemory);
         };
         if all > u32::MAX as usize - self.rows.len() {
@@ -100,7 +99,7 @@ impl Oplocks {
         reserve_for(&mut self.chosen, in_all)?;
         reserve_for(&mut self.told, in_all)?;
         reserve_for(&mut self.waited, in_all)?;
-        self.rooms.set(stream, oplocks)
+        self.rooms.set(home, oplocks)
     }
 
     /// All oplocks, in the order in which they were granted.
@@ -246,17 +245,17 @@ impl Oplocks {
         drop_granted(&mut self.rows, turn);
     }
 
-    /// Adds an oplock of this handle on this stream, which has this key and no oplock yet; its call is pending
-    /// under this turn. There has to be room for one on the stream; that of all others stays.
-    pub fn grant(&mut self, stream: u64, handle: u64, key: u64, level: Level, turn: u64)
-        requires room { 1 ≤ room_in self.old.rooms stream }
+    /// Adds an oplock of this handle, which has this key and no oplock yet, to this home; its call is pending
+    /// under this turn. There has to be room for one in the home; that of all others stays.
+    pub fn grant(&mut self, home: u64, handle: u64, key: u64, level: Level, turn: u64)
+        requires room { 1 ≤ room_in self.old.rooms home }
         requires new { All (λ oplock. (oplock.handle == handle) ≡ false) self.old.rows }
         ensures rows { self.new ≡ record self.old { rows = self.old.rows ++ as_granted handle key level turn ∷ []; rooms = self.new.rooms } }
-        ensures left { room_in self.old.rooms stream ≤ room_in self.new.rooms stream + 1 }
-        ensures taken { room_in self.new.rooms stream + 1 ≤ room_in self.old.rooms stream }
-        ensures others { (other : ℕ) → (other == stream) ≡ false → room_in self.new.rooms other ≡ room_in self.old.rooms other }
+        ensures left { room_in self.old.rooms home ≤ room_in self.new.rooms home + 1 }
+        ensures taken { room_in self.new.rooms home + 1 ≤ room_in self.old.rooms home }
+        ensures others { (other : ℕ) → (other == home) ≡ false → room_in self.new.rooms other ≡ room_in self.old.rooms other }
     {
-        self.rooms.take_one(stream);
+        self.rooms.take_one(home);
         let Ok(()) = self.rows.push(OplockRow {
             handle,
             key,

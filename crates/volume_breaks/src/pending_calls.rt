@@ -1,17 +1,18 @@
 //! The pending calls of a volume, with the queue of those that are held.
 
-ghost use Rattle.std.specs.Prelude.{Bool, ◌≡◌, ◌≤◌, ◌<◌, ◌+◌, ◌++◌, ◌∷◌, [], ◌==◌, not, true, false, filter, find, length, option_map, position, slice_get, All, AllPairs, IsTrue, OnOk, if◌then◌else◌};
-ghost use Rattle.std.specs.Option.{option_map_or};
+ghost use Rattle.std.specs.Prelude.{Bool, ◌≡◌, ◌≤◌, ◌<◌, ◌+◌, ◌++◌, ◌∷◌, [], ◌==◌, ◌&&◌, ◌||◌, not, true, false, filter, find, length, option_map, position, slice_get, All, AllPairs, IsTrue, OnOk, if◌then◌else◌};
+ghost use Rattle.std.specs.Option.{option_copied};
 ghost use Rattle.std.specs.Vec.{vec_capacity, vec_len};
-ghost use Rattle.fsa_types.specs.Rows.{lives, with_row_changed, without_row};
+ghost use Rattle.fsa_types.specs.Rows.{lives, row_of, with_row_changed, without_row};
 ghost use Rattle.fsa_types.specs.declared.reply.Blocker.{Blocker};
 ghost use Rattle.fsa_model.specs.Edits.{is_call};
 ghost use Rattle.fsa_model.specs.Lookups.{has_row, number_of};
+ghost use Rattle.fsa_model.specs.Waiting.{is_wait};
 ghost use Rattle.pending_queue.specs.PendingQueue.{next_ready, with_ended, with_held};
 ghost use Rattle.std.specs.List.Sorted.{IsPartitionPoint};
-ghost use Rattle.volume_breaks.specs.Calls.{AreHeld, IsBehind, StayHeld, is_held_under, is_next_turn};
+ghost use Rattle.volume_breaks.specs.Calls.{AreHeld, IsBehind, StayHeld, has_wait, is_at, is_held_under, is_next_turn};
 
-use fsa_types::{Blocker, BlockerList, Call, NoMemory};
+use fsa_types::{Blocker, BlockerList, Call, NoMemory, What};
 use pending_queue::PendingQueue;
 use std::alloc::Global;
 use std::marker::Model;
@@ -30,18 +31,20 @@ pub struct PendingCalls {
     blockers: usize,
     // That the turns of the rows rise.
     rising: bool,
+    // Whether some call waits for another.
+    waiting: bool,
 }
 
 impl Model for PendingCalls {
-    ghost use Rattle.std.specs.Prelude.{◌+◌, ◌≤◌};
+    ghost use Rattle.std.specs.Prelude.{◌≡◌, ◌+◌, ◌≤◌};
     ghost use Rattle.std.specs.Vec.{vec_capacity, vec_len};
-    ghost use Rattle.volume_breaks.specs.Calls.{Calls, AreCalls, AreInOrder, HasPlaces};
+    ghost use Rattle.volume_breaks.specs.Calls.{Calls, AreCalls, AreInOrder, HasPlaces, has_wait};
 
     ghost Value = { Calls };
 
     ghost view = { λ p. record { items = p.rows.items; held = p.queue.held; room = p.room; blockers = p.blockers } };
 
-    ghost invariant = { λ p. AreCalls p.rows.items × HasPlaces (vec_len p.rows + p.room) (vec_capacity p.rows) p.room p.queue.room_for_calls p.blockers p.queue.room_for_blockers × AreInOrder p.rising p.rows.items };
+    ghost invariant = { λ p. AreCalls p.rows.items × HasPlaces (vec_len p.rows + p.room) (vec_capacity p.rows) p.room p.queue.room_for_calls p.blockers p.queue.room_for_blockers × AreInOrder p.rising p.rows.items × (p.waiting ≡ has_wait p.rows.items) };
 }
 
 impl PendingCalls {
@@ -56,6 +59,7 @@ impl PendingCalls {
             room: 0,
             blockers: 0,
             rising: true,
+            waiting: false,
         }
     }
 
@@ -104,6 +108,20 @@ impl PendingCalls {
         self.rows.as_slice()
     }
 
+    /// The call that is pending under this turn; `None` exactly where there is none.
+    pub fn call_of(&self, turn: u64) -> Option<&Call>
+        ensures { option_copied result ≡ option_map (λ row. row.call) (row_of self.now.items turn) }
+    {
+        call_of(&self.rows, turn)
+    }
+
+    /// Whether some call waits for another.
+    pub fn has_wait(&self) -> bool
+        ensures { result ≡ has_wait self.now.items }
+    {
+        self.waiting
+    }
+
     /// The least turn above `after` under which a call is pending; `None` exactly where there is none.
     pub fn next_turn(&self, after: u64) -> Option<u64>
         ensures { result ≡ option_map (λ entry. entry.0) (find (is_next_turn self.now.items after) self.now.items) }
@@ -135,6 +153,7 @@ impl PendingCalls {
         ensures places_left { self.old.blockers ≤ self.new.blockers + length blockers.items }
     {
         self.rising = stays_rising(self.rising, &self.rows, turn);
+        self.waiting = waits_with(self.waiting, &call.what);
         hold(&mut self.queue, turn, blockers.as_slice());
         self.room -= 1;
         self.blockers -= blockers.len();
@@ -166,8 +185,12 @@ impl PendingCalls {
         ensures items { self.new ≡ record self.old { items = filter (λ entry. not (is_call client number entry.1)) self.old.items; held = self.new.held } }
         ensures held { StayHeld self.old self.new }
     {
-        release(&mut self.queue, turn_of(&self.rows, client, number));
+        let Some(turn) = turn_of(&self.rows, client, number) else {
+            return;
+        };
+        self.queue.remove(turn);
         drop_call(&mut self.rows, client, number);
+        self.waiting = still_waits(self.waiting, &self.rows);
     }
 
     /// A break or a lock has ended: no call waits for it any more.
@@ -243,17 +266,6 @@ fn hold(queue: &mut PendingQueue, turn: u64, blockers: &[Blocker])
     };
 }
 
-// Holds the call of this turn no more, where there is one.
-fn release(queue: &mut PendingQueue, turn: Option<u64>)
-    ensures held { queue.new.held ≡ option_map_or (λ number. without_row queue.old.held number) turn queue.old.held }
-    ensures room { queue.old.room_for_calls ≤ queue.new.room_for_calls }
-    ensures places { queue.old.room_for_blockers ≤ queue.new.room_for_blockers }
-{
-    if let Some(turn) = turn {
-        queue.remove(turn);
-    }
-}
-
 // The turn under which this call of this client is pending.
 fn turn_of(rows: &[(u64, PendingRow)], client: u32, number: u32) -> Option<u64>
     ensures { result ≡ number_of (is_call client number) rows.now }
@@ -272,11 +284,68 @@ fn drop_call(rows: &mut Vec<(u64, PendingRow)>, client: u32, number: u32)
     rows.retain(|entry| !is_call(&entry.1, client, number));
 }
 
-// The place of the row of this turn.
+/// Whether a call waits for another.
+pub fn is_wait(what: &What) -> bool
+    ensures { result ≡ is_wait what.now }
+{
+    matches!(what, What::WaitFor(_))
+}
+
+// Whether one of these calls does.
+fn some_wait(rows: &[(u64, PendingRow)]) -> bool
+    ensures { result ≡ has_wait rows.now }
+{
+    rows.iter().any(|entry| is_wait(&entry.1.call.what))
+}
+
+// Whether some call waits for another once one comes that does this.
+fn waits_with(waiting: bool, what: &What) -> bool
+    ensures { result ≡ (waiting || is_wait what.now) }
+{
+    waiting || is_wait(what)
+}
+
+// Whether one still does; these are looked at only where one did.
+fn still_waits(waiting: bool, rows: &[(u64, PendingRow)]) -> bool
+    ensures { result ≡ (waiting && has_wait rows.now) }
+{
+    waiting && some_wait(rows)
+}
+
+// Whether the row at this place is the one of this turn.
+fn is_at(rows: &[(u64, PendingRow)], place: usize, turn: u64) -> bool
+    ensures { result ≡ is_at rows.now place turn }
+{
+    match rows.get(place) {
+        None => false,
+        Some(row) => row.0 == turn,
+    }
+}
+
+// The place of the row of this turn. It is found by halves where the turns rise; else by a look at each.
 fn place_of(rows: &[(u64, PendingRow)], turn: u64) -> Option<usize>
+    requires differ { AllPairs (λ a b. (a.0 == b.0) ≡ false) rows.now }
     ensures { result ≡ position (λ entry. entry.0 == turn) rows.now }
 {
+    let place = rows.partition_point(|row| row.0 < turn);
+    if is_at(rows, place, turn) {
+        return Some(place);
+    }
     rows.iter().position(|entry| entry.0 == turn)
+}
+
+// The call that is pending under this turn.
+fn call_of(rows: &[(u64, PendingRow)], turn: u64) -> Option<&Call>
+    requires differ { AllPairs (λ a b. (a.0 == b.0) ≡ false) rows.now }
+    ensures { option_copied result ≡ option_map (λ row. row.call) (row_of rows.now turn) }
+{
+    match place_of(rows, turn) {
+        None => None,
+        Some(place) => {
+            let row = &rows[place].1;
+            Some(&row.call)
+        }
+    }
 }
 
 // Puts these blockers in place of those of the row of this turn.

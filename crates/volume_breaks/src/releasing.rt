@@ -1,6 +1,6 @@
 //! The end of what calls wait for, where a handle goes.
 
-ghost use Rattle.std.specs.Prelude.{◌≡◌, ◌∷◌, [], ◌==◌, ◌&&◌};
+ghost use Rattle.std.specs.Prelude.{◌≡◌, ◌∷◌, []};
 ghost use Rattle.volume_breaks.specs.Calls.{LoseBlockers, is_break_of, is_lock_of};
 
 use crate::pending_calls::PendingCalls;

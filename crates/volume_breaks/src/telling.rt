@@ -1,7 +1,7 @@
 //! What a break does to the oplocks that were chosen, and whom it tells, after [MS-FSA] 'Algorithm to Check for
 //! an Oplock Break'.
 
-ghost use Rattle.std.specs.Prelude.{◌≡◌, ◌≤◌, ◌<◌, ◌+◌, ◌++◌, ◌^◌, [], All, length};
+ghost use Rattle.std.specs.Prelude.{◌≡◌, ◌≤◌, ◌<◌, ◌+◌, ◌++◌, ◌^◌, All, length};
 ghost use Rattle.fsa_types.specs.OplockLists.{CanHave, IsCopy, IsSoundOplock, after_breaks, after_effect, effect_on};
 ghost use Rattle.volume_breaks.specs.Oplocks.{state_of};
 ghost use Rattle.volume_breaks.specs.Told.{told_all, told_by_effect, told_of};

@@ -1,5 +1,5 @@
 -- The links of a directory behind a name, in the order of their names.
-use Rattle.std.specs.Prelude.{ℕ, Bool, true, ◌&&◌, ◌==◌, List, Option, Some, filter, if◌then◌else◌}
+use Rattle.std.specs.Prelude.{ℕ, Bool, true, ◌&&◌, ◌==◌, List, Option, filter}
 use Rattle.std.specs.Option.{option_map_or}
 use Rattle.std.specs.Ordering.{is_lt}
 use Rattle.fsa_types.specs.CaseTable.{cmp_name}
@@ -18,12 +18,3 @@ is_child_after table dir after link = link.parent == dir && is_name_after table 
 -- such links in order, marked or not
 abbrev pub links_after : List (ℕ × ℕ) → ℕ → Option (List ℕ) → List (ℕ × Link) → List (ℕ × Link)
 links_after table dir after links = in_order (is_listed_before table) (filter (λ entry. is_child_after table dir after entry.1) links)
-
--- the first of a link and that one, where there is one
-abbrev pub first_of : List (ℕ × ℕ) → ℕ × Link → Option (ℕ × Link) → ℕ × Link
-first_of table entry other = option_map_or (λ first. if is_listed_before table entry first then entry else first) other entry
-
--- and where the link stands behind the name; else the one that there was
-abbrev pub first_with : List (ℕ × ℕ) → ℕ → Option (List ℕ) → ℕ × Link → Option (ℕ × Link) → Option (ℕ × Link)
-first_with table dir after entry first =
-    if is_child_after table dir after entry.1 then Some (first_of table entry first) else first

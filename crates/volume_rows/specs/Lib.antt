@@ -3,6 +3,7 @@ pub mod Cursors
 pub mod Effects
 pub mod Enumerated
 pub mod Infos
+pub mod Links
 pub mod NextHandle
 pub mod Noting
 pub mod Streams

@@ -1,4 +1,4 @@
--- The changes that were noted, and the room for more of them.
+-- The changes that were noted, the place of the first that is kept, and the room for more of them.
 use Rattle.std.specs.Prelude.{ℕ, List, [], ◌∷◌, Option}
 use Rattle.std.specs.Option.{option_map_or}
 use Rattle.std.specs.Borrow.{Bor}
@@ -6,6 +6,7 @@ use Rattle.fsa_model.specs.Volume.{Change}
 
 pub record Noted : Type 0 where
   pub changes : List Change
+  pub base : ℕ
   pub room : ℕ
   pub units : ℕ
   pub dirs : ℕ

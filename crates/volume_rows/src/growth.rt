@@ -10,7 +10,7 @@ pub fn clusters_of(stream: &StreamRow) -> u64
     ensures clusters { result ≡ clusters_for (length stream.now.stream.bytes) }
     ensures few { 4096 * result < 2 ^ 64 }
 {
-    (stream.bytes().len() as u64 + 4095) / 4096
+    (stream.length() + 4095) / 4096
 }
 
 /// The clusters of all streams of a file.

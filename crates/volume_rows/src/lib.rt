@@ -1,41 +1,40 @@
 //! What the tables of a volume hold, and scans over it: the rows of files, links, streams, handles,
-//! oplocks, pending calls and watches, the bytes of one stream, changes that are noted, and look-ups over
-//! slices of rows. It knows no volume; `volume_state` keeps its tables of these rows, and answers by
-//! these scans.
+//! oplocks and pending calls, the bytes of one stream, changes that are noted, links by their files, and
+//! look-ups over slices of rows. It knows no volume; `volume_state` keeps its tables of these rows, and
+//! answers by these look-ups.
 //!
 //! ```text
-//! find_child(links, &table, 1, units)     // the first link of this name in the root
-//! find_link_of(links, dir)                // the link of a directory, which leads up
-//! count_on(handles, links, HandleSet::Below(dir))
-//! some_clashes(handles, links, on, access, share)
+//! links.reserve(1)?;                      // may be refused
+//! links.add(row);                         // takes no memory
+//! links.first_of(dir)                     // the link of a directory, which leads up
+//! count_on(handles, &links, HandleSet::Below(dir))
+//! some_clashes(handles, &links, on, access, share)
 //!
 //! changes.reserve(1, units, dirs)?;       // may be refused
-//! changes.note(links, 1, name, None, action, bits);   // takes no memory
+//! changes.note(&links, 1, name, None, action, bits);  // takes no memory
 //! ```
 //!
-//! The calls group so: links (`find_child`, `find_child_after`, `find_link_of`, `find_link_number`, `has_link`,
-//! `has_child`, `count_links`, `count_unmarked_links`, `is_at_or_below`); files (`FileRow::set_basic`,
+//! The calls group so: links (`LinksByFile`, `is_at_or_below`); files (`FileRow::set_basic`,
 //! `set_owner`, `set_dacl`, `set_point`); handles (`is_opened_by`, `find_next`,
-//! `count_on`, `is_one_of`, `is_clashing`, `some_clashes`, `is_open_by_others`) and their enumerations (`Enumeration`, `Cursor`); streams (`find_stream`, `is_stream_of`, and `StreamRow` with
-//! its bytes); the space that streams take (`clusters_of`, `clusters_of_file`) and what an owner may be
+//! `count_on`, `is_one_of`, `is_clashing`, `some_clashes`, `is_open_by_others`) and their enumerations (`Enumeration`,
+//! `Cursor`); streams (`is_stream_named`, `is_stream_of`, and `StreamRow` with its bytes in the pages of
+//! `stream_pages`); the space that streams take (`clusters_of`, `clusters_of_file`) and what an owner may be
 //! charged (`find_limit`); oplocks (`effect`, `is_awaited`, `in_both`, `is_within`, `is_same_key`, `is_oplock_of`,
 //! `find_break`, `find_target`);
-//! pending calls (`find_pending`, `find_next_pending`, `is_call`) and watches (`find_watch`,
-//! `is_watch_of`); and changes noted (`Changes`), in the log of `notify_queue`.
+//! pending calls (`find_pending`, `find_next_pending`, `is_call`); and changes noted (`Changes`), in the log
+//! of `notify_queue`.
 //!
 //! Contracts see a row as the row of `fsa_model`'s record, a stream beside the room that was taken for
 //! its bytes, and the changes that were noted beside the room for more.
 //!
 //! - Nothing is asked of the rows: not that their numbers rise, nor that what they name is there. What
 //!   is found is the first row that passes.
-//! - Room for bytes and changes has to be reserved, and a sum of clusters has to fit 64 bits.
-//! - A scan takes time linear in the rows; one of handles below a directory, the next handle of a
-//!   client, or the next pending call, takes that for each row, and `is_at_or_below` for each directory
-//!   above.
+//! - Room for links, bytes and changes has to be reserved, and a sum of clusters has to fit 64 bits.
+//! - A scan takes time linear in the rows; one for the next pending call takes that for each row. The links of a
+//!   file are found in time logarithmic in all links, and `is_at_or_below` and a note take that for each directory
+//!   above; handles below a directory take the way up for each handle.
 #![tactic(auto)]
 
-mod bytes;
-mod children;
 mod cursors;
 mod effects;
 mod growth;
@@ -48,24 +47,20 @@ mod sharing;
 mod streams;
 mod waiting;
 
-pub use children::find_child_after;
 pub use cursors::{Cursor, Enumeration};
 pub use effects::{
     BreakEffect, effect, has_read, has_write, in_both, is_awaited, is_same_key, is_within,
 };
 pub use growth::{clusters_of, clusters_of_file};
 pub use handles::is_opened_by;
-pub use links::{
-    count_links, count_unmarked_links, find_child, find_link_number, find_link_of, has_child,
-    has_link,
-};
+pub use links::LinksByFile;
 pub use noting::Changes;
 pub use opens::{
     count_on, find_next, is_at_or_below, is_clashing, is_one_of, is_open_by_others, some_clashes,
 };
 pub use rows::{FileRow, HandleRow, LinkRow, Need, StreamInfo, StreamRow};
-pub use streams::{find_stream, is_stream_of};
+pub use streams::{is_stream_named, is_stream_of};
 pub use waiting::{
-    OplockRow, PendingRow, WatchRow, find_break, find_limit, find_next_pending, find_pending,
-    find_target, find_watch, is_call, is_oplock_of, is_watch_of,
+    OplockRow, PendingRow, find_break, find_limit, find_next_pending, find_pending, find_target,
+    is_call, is_oplock_of,
 };

@@ -10,14 +10,14 @@ ghost use Rattle.volume_rows.specs.NextHandle.{lesser_of, next_of, next_with};
 ghost use Rattle.fsa_model.specs.Lookups.{has_row, is_after, is_at_or_below, is_below, is_one_of, is_open_on, leads_to};
 
 use crate::effects::is_same_key;
-use crate::links::find_link_of;
-use crate::rows::{HandleRow, LinkRow};
+use crate::links::LinksByFile;
+use crate::rows::HandleRow;
 use crate::sharing::clash;
 use fsa_types::HandleSet;
 
 /// Whether a directory is that one or lies below it.
-pub fn is_at_or_below(links: &[(u64, LinkRow)], above: u64, dir: u64) -> bool
-    ensures { result ≡ is_at_or_below links.now above dir }
+pub fn is_at_or_below(links: &LinksByFile, above: u64, dir: u64) -> bool
+    ensures { result ≡ is_at_or_below links.now.rows above dir }
 {
     let mut at = dir;
     let mut more = links.len();
@@ -28,7 +28,7 @@ pub fn is_at_or_below(links: &[(u64, LinkRow)], above: u64, dir: u64) -> bool
         if more == 0 {
             return false;
         }
-        let Some(link) = find_link_of(links, at) else {
+        let Some(link) = links.first_of(at) else {
             return false;
         };
         at = link.parent;
@@ -37,28 +37,18 @@ pub fn is_at_or_below(links: &[(u64, LinkRow)], above: u64, dir: u64) -> bool
 }
 
 // Whether this link lies below that directory.
-fn is_below(links: &[(u64, LinkRow)], above: u64, link: u64) -> bool
-    ensures { result ≡ is_below links.now above link }
+fn is_below(links: &LinksByFile, above: u64, link: u64) -> bool
+    ensures { result ≡ is_below links.now.rows above link }
 {
-    match find_row(links, link) {
+    match links.get(link) {
         None => false,
         Some(row) => is_at_or_below(links, above, row.parent),
     }
 }
 
-// The link of this number.
-fn find_row(links: &[(u64, LinkRow)], link: u64) -> Option<&LinkRow>
-    ensures { option_copied result ≡ row_of links.now link }
-{
-    links
-        .iter()
-        .find(|entry| entry.0 == link)
-        .map(|entry| &entry.1)
-}
-
 /// Whether a handle is one of the set.
-pub fn is_one_of(links: &[(u64, LinkRow)], on: HandleSet, handle: &HandleRow) -> bool
-    ensures { result ≡ is_one_of links.now on handle.now }
+pub fn is_one_of(links: &LinksByFile, on: HandleSet, handle: &HandleRow) -> bool
+    ensures { result ≡ is_one_of links.now.rows on handle.now }
 {
     match on {
         HandleSet::Stream(stream) => handle.stream == Some(stream),
@@ -68,8 +58,8 @@ pub fn is_one_of(links: &[(u64, LinkRow)], on: HandleSet, handle: &HandleRow) ->
 }
 
 /// How many handles are of the set.
-pub fn count_on(handles: &[(u64, HandleRow)], links: &[(u64, LinkRow)], on: HandleSet) -> usize
-    ensures { result ≡ length (filter (λ entry. is_one_of links.now on entry.1) handles.now) }
+pub fn count_on(handles: &[(u64, HandleRow)], links: &LinksByFile, on: HandleSet) -> usize
+    ensures { result ≡ length (filter (λ entry. is_one_of links.now.rows on entry.1) handles.now) }
 {
     handles
         .iter()
@@ -79,13 +69,13 @@ pub fn count_on(handles: &[(u64, HandleRow)], links: &[(u64, LinkRow)], on: Hand
 
 /// Whether a handle is of the set and clashes with these access and share masks.
 pub fn is_clashing(
-    links: &[(u64, LinkRow)],
+    links: &LinksByFile,
     on: HandleSet,
     access: u32,
     share: u32,
     handle: &HandleRow,
 ) -> bool
-    ensures { result ≡ (is_one_of links.now on handle.now && clash access share handle.now.access handle.now.share) }
+    ensures { result ≡ (is_one_of links.now.rows on handle.now && clash access share handle.now.access handle.now.share) }
 {
     is_one_of(links, on, handle) && clash(access, share, handle.access, handle.share)
 }
@@ -93,12 +83,12 @@ pub fn is_clashing(
 /// Whether some handle is of the set and clashes.
 pub fn some_clashes(
     handles: &[(u64, HandleRow)],
-    links: &[(u64, LinkRow)],
+    links: &LinksByFile,
     on: HandleSet,
     access: u32,
     share: u32,
 ) -> bool
-    ensures { result ≡ has_row (λ handle. is_one_of links.now on handle && clash access share handle.access handle.share) handles.now }
+    ensures { result ≡ has_row (λ handle. is_one_of links.now.rows on handle && clash access share handle.access handle.share) handles.now }
 {
     handles
         .iter()

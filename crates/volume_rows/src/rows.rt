@@ -1,12 +1,13 @@
 //! The rows of a volume: files, links, streams and handles.
 
-ghost use Rattle.std.specs.Prelude.{◌≡◌, ◌≤◌, ◌+◌, ◌⊎◌, length, option_map, OnOk};
-ghost use Rattle.fsa_types.specs.StreamBytes.{put, cut};
+ghost use Rattle.std.specs.Prelude.{◌≡◌, ◌≤◌, ◌+◌, ◌^◌, length, option_map, OnOk};
+ghost use Rattle.std.specs.List.{concat};
+ghost use Rattle.fsa_types.specs.StreamBytes.{put, cut, slice};
 
-use crate::bytes::put_at;
 use crate::cursors::Enumeration;
 use fsa_types::{Bytes, Dacl, Name, NoMemory};
 use std::marker::Model;
+use stream_pages::{Parts, Stream};
 
 /// A file or a directory, after [MS-FSA] 'Per File'. Times are ticks of the volume's clock.
 #[derive(Debug, Drop)]
@@ -172,22 +173,21 @@ pub struct StreamRow {
     /// All but its bytes.
     pub info: StreamInfo,
     /// Its bytes.
-    pub bytes: Vec<u8>,
+    pub bytes: Stream,
 }
 
 impl Model for StreamRow {
-    ghost use Rattle.std.specs.Prelude.{◌≡◌};
-    ghost use Rattle.std.specs.Vec.{vec_capacity, vec_len};
+    ghost use Rattle.std.specs.Prelude.{◌≡◌, length};
     ghost use Rattle.volume_rows.specs.Streams.{StreamRowView};
 
     ghost Value = { StreamRowView };
 
     ghost view = { λ r. record {
-      stream = record { file = r.info.file; name = r.info.name; bytes = r.bytes.items; deleted = r.info.deleted };
-      room = record { from = 0; to = vec_capacity r.bytes };
+      stream = record { file = r.info.file; name = r.info.name; bytes = r.bytes.bytes; deleted = r.info.deleted };
+      room = record { from = r.bytes.room.from; to = r.bytes.room.to };
     } };
 
-    ghost invariant = { λ r. r.info.length ≡ vec_len r.bytes };
+    ghost invariant = { λ r. r.info.length ≡ length r.bytes.bytes };
 }
 
 /// Room to be taken, for how many more of each kind.
@@ -274,42 +274,50 @@ impl StreamRow {
         self.info.name.units()
     }
 
-    /// The bytes.
-    pub fn bytes(&self) -> &[u8]
-        ensures { result.now ≡ self.now.stream.bytes }
+    /// How many bytes there are, at most 2^26.
+    pub fn length(&self) -> u64
+        ensures length { result ≡ length self.now.stream.bytes }
+        ensures few { result ≤ 2 ^ 26 }
     {
-        self.bytes.as_slice()
+        self.bytes.len()
     }
 
-    /// Takes room for bytes up to `end`. `NoMemory` where there is none.
-    pub fn reserve(&mut self, end: usize) -> Result<(), NoMemory>
+    /// `count` bytes from `at` on, lent in parts. They have to be there.
+    pub fn parts(&self, at: u64, count: u64) -> Parts<'_>
+        requires { at + count ≤ length self.now.stream.bytes }
+        ensures { concat result ≡ slice self.now.stream.bytes at count }
+    {
+        self.bytes.parts(at, count)
+    }
+
+    /// Takes room for `count` bytes from `at` on, in place of the room that was taken before. Their end is
+    /// at most 2^26. `NoMemory` where there is none.
+    pub fn reserve(&mut self, at: u64, count: u64) -> Result<(), NoMemory>
+        requires { at + count ≤ 2 ^ 26 }
         ensures stream { self.new.stream ≡ self.old.stream }
-        ensures room { OnOk result ((self.new.room.from ≡ 0) × (end ≤ self.new.room.to)) }
+        ensures room { OnOk result (self.new.room ≡ record { from = at; to = at + count }) }
     {
-        let length = self.bytes.len();
-        if length < end {
-            self.bytes.reserve(end - length)?;
-        }
-        Ok(())
+        self.bytes.reserve(at, count)
     }
 
-    /// Puts the piece at this place, a gap before it filled with zeros.
-    pub fn put(&mut self, at: usize, piece: &[u8])
-        requires room { at + length piece.now ≤ self.old.room.to }
+    /// Puts the piece at this place, a gap before it filled with zeros. Its end is at most 2^26.
+    pub fn put(&mut self, at: u64, piece: &[u8])
+        requires room { (self.old.room.from ≤ at) × (at + length piece.now ≤ self.old.room.to) }
+        requires fits { at + length piece.now ≤ 2 ^ 26 }
         ensures stream { self.new.stream ≡ record self.old.stream { bytes = put self.old.stream.bytes at piece.now } }
     {
-        put_at(&mut self.bytes, at, piece);
-        self.info.length = self.bytes.len() as u64;
-    }
-
-    /// Makes the stream so long.
-    pub fn set_length(&mut self, new_length: usize)
-        requires room { (new_length ≤ self.old.room.to) ⊎ (new_length ≤ length self.old.stream.bytes) }
-        ensures stream { self.new.stream ≡ record self.old.stream { bytes = cut self.old.stream.bytes new_length } }
-    {
-        let Ok(()) = self.bytes.resize(new_length, 0) else {
+        let Ok(()) = self.bytes.write(at, piece) else {
             unreachable!()
         };
-        self.info.length = new_length as u64;
+        self.info.length = self.bytes.len();
+    }
+
+    /// Makes the stream so long, at most 2^26 bytes. It takes no memory.
+    pub fn set_length(&mut self, new_length: u64)
+        requires fits { new_length ≤ 2 ^ 26 }
+        ensures stream { self.new.stream ≡ record self.old.stream { bytes = cut self.old.stream.bytes new_length } }
+    {
+        self.bytes.set_len(new_length);
+        self.info.length = new_length;
     }
 }

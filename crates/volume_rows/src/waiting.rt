@@ -1,4 +1,4 @@
-//! What waits in a volume: oplocks, pending calls and watches; and the limits of owners.
+//! What waits in a volume: oplocks and pending calls; and the limits of owners.
 
 ghost use Rattle.std.specs.Prelude.{ℕ, ◌≡◌, ◌==◌, ◌&&◌, not, nat_lt, find, option_map};
 ghost use Rattle.std.specs.List.{list_any};
@@ -68,29 +68,6 @@ impl Model for PendingRow {
     ghost view = { λ r. record { call = r.call; blockers = r.blockers.items } };
 }
 
-/// A watch of a directory, after [MS-FSA] 'Per ChangeNotifyEntry'.
-#[derive(Clone, Copy, Debug)]
-pub struct WatchRow {
-    /// Its handle.
-    pub handle: u64,
-    /// What it asks for, as a `NotifyFilter`.
-    pub filter: u32,
-    /// Whether all below the directory counts.
-    pub tree: bool,
-    /// The place in the list of changes, from 0, from which on they are due.
-    pub from: u64,
-}
-
-impl Model for WatchRow {
-    ghost use Rattle.fsa_model.specs.Volume.{Watch};
-
-    ghost Value = { Watch };
-
-    ghost view = { λ r. record { handle = r.handle; filter = r.filter; tree = r.tree; from = r.from } };
-
-    ghost inverse = { λ w. record { handle = w.handle; filter = w.filter; tree = w.tree; from = w.from } };
-}
-
 /// Whether an oplock is of this handle.
 pub fn is_oplock_of(oplock: &OplockRow, handle: u64) -> bool
     ensures { result ≡ (oplock.now.handle == handle) }
@@ -124,20 +101,6 @@ pub fn find_target(oplocks: &[OplockRow], handle: u64) -> Option<Level>
         None => None,
         Some(oplock) => oplock.target,
     }
-}
-
-/// Whether a watch is of this handle.
-pub fn is_watch_of(watch: &WatchRow, handle: u64) -> bool
-    ensures { result ≡ (watch.now.handle == handle) }
-{
-    watch.handle == handle
-}
-
-/// The watch of this handle; `None` exactly where there is none.
-pub fn find_watch(watches: &[WatchRow], handle: u64) -> Option<&WatchRow>
-    ensures { option_copied result ≡ find (λ watch. watch.handle == handle) watches.now }
-{
-    watches.iter().find(|watch| is_watch_of(watch, handle))
 }
 
 /// Whether this call of this client is the one that is pending.

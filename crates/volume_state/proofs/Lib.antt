@@ -1,8 +1,10 @@
 pub mod ChildLaws
 pub mod DropLaws
+pub mod DueLaws
 pub mod GrantLaws
 pub mod GrowthLemmas
 pub mod HandleLaws
+pub mod KeptLaws
 pub mod KindLaws
 pub mod MarkLaws
 pub mod MovedLaws
@@ -18,3 +20,4 @@ pub mod TallyLaws
 pub mod ThereLaws
 pub mod WaitLaws
 pub mod WatchLaws
+pub mod WatchedLaws

@@ -1,52 +1,17 @@
 -- Streams beside their room: what a change of one of them is to the streams, and what room they have.
 use Rattle.std.proofs.Common.{◌≡◌, ℕ, Bool, true, false, ◌+◌, ◌<◌, ◌≤◌, ◌==◌, List, [], ◌∷◌, length, get_or, ◌++◌, refl, ap, sym, subst, ◌∙◌, arith, inl, inr, Option, Some, None, length-append, length-take, length-drop}
 use Rattle.std.specs.Prelude.{map, filter, option_map, IfSome, OnOk, Result, Ok, Err}
-use Rattle.std.specs.Option.{option_map_or, ForSome}
+use Rattle.std.specs.Option.{ForSome}
 use Rattle.std.proofs.lemmas.Bool.{cases_Bool, eqb-true, eq-eqb, ne_eqb, both_ways}
 use Rattle.std.proofs.lemmas.List.{length-replicate, length-map, get_or-map}
 use Rattle.std.proofs.lemmas.List.Folds.{find-append, list_any_none}
 use Rattle.std.proofs.lemmas.List.Elements.{All-filter}
 use Rattle.std.specs.List.{All, find}
-use Rattle.fsa_types.specs.Rows.{row_of, lives, with_row_changed}
+use Rattle.fsa_types.specs.Rows.{row_of, lives}
 use Rattle.fsa_types.specs.StreamBytes.{put, cut}
-use Rattle.fsa_types.proofs.RowLemmas.{AreRising, AreRising-rest, AreRising-first, map-change, map-unseen, row_of-map, with_row_changed-none}
-use Rattle.fsa_model.specs.Volume.{Stream}
+use Rattle.fsa_types.proofs.RowLemmas.{AreRising, AreRising-rest, AreRising-first, row_of-map}
 use Rattle.fsa_model.proofs.RowLaws.{option_cases}
-use Rattle.volume_rows.specs.Streams.{StreamRowView, Reserved, streams_in}
-
--- a change of the row of a number, where the row is found, as a table tells it
-abbrev pub ChangesOne : List (ℕ × StreamRowView) → ℕ → Type 0
-ChangesOne rows id = (change : StreamRowView → StreamRowView) → option_map_or (λ row. with_row_changed (λ _. change row) rows id) (row_of rows id) rows ≡ with_row_changed change rows id
-
-pub streams_in-changed : (rows : List (ℕ × StreamRowView)) (id : ℕ) (before after : StreamRowView) (change : Stream → Stream) → ChangesOne rows id
-    → row_of rows id ≡ Some before → after.stream ≡ change before.stream
-    → streams_in (with_row_changed (λ _. after) rows id) ≡ with_row_changed change (streams_in rows) id
-streams_in-changed rows id before after change one found same =
-    let whole : StreamRowView → StreamRowView = λ row. record { stream = change row.stream; room = after.room } in
-    let told : with_row_changed (λ _. whole before) rows id ≡ with_row_changed whole rows id = rw found at (one whole) in
-    let is : after ≡ whole before = ap (λ (s : Stream). record { stream = s; room = after.room }) same in
-    ap (λ (w : StreamRowView). streams_in (with_row_changed (λ _. w) rows id)) is ∙ ap streams_in told ∙ map-change (λ kept. kept.stream) whole change rows id (λ row. refl)
-
-pub streams_in-kept : (rows : List (ℕ × StreamRowView)) (id : ℕ) (before after : StreamRowView) → ChangesOne rows id
-    → row_of rows id ≡ Some before → after.stream ≡ before.stream → streams_in (with_row_changed (λ _. after) rows id) ≡ streams_in rows
-streams_in-kept rows id before after one found same =
-    let whole : StreamRowView → StreamRowView = λ row. record { stream = row.stream; room = after.room } in
-    let told : with_row_changed (λ _. whole before) rows id ≡ with_row_changed whole rows id = rw found at (one whole) in
-    let is : after ≡ whole before = ap (λ (s : Stream). record { stream = s; room = after.room }) same in
-    ap (λ (w : StreamRowView). streams_in (with_row_changed (λ _. w) rows id)) is ∙ ap streams_in told ∙ map-unseen (λ kept. kept.stream) whole rows id (λ row. refl)
-
--- where there is no such stream, there is none to change
-pub streams_in-none : (rows : List (ℕ × StreamRowView)) (id : ℕ) (change : Stream → Stream) → row_of rows id ≡ None → streams_in rows ≡ with_row_changed change (streams_in rows) id
-streams_in-none rows id change none =
-    sym (with_row_changed-none (streams_in rows) id change (row_of-map (λ kept. kept.stream) rows id ∙ ap (option_map (λ (kept : StreamRowView). kept.stream)) none))
-
--- the row that was changed is found
-pub row_of-changed : {R : Type 0} (rows : List (ℕ × R)) (id : ℕ) (before after : R) → row_of rows id ≡ Some before → row_of (with_row_changed (λ _. after) rows id) id ≡ Some after
-row_of-changed [] id before after found = cc
-row_of-changed (x ∷ xs) id before after found = elim (cases_Bool (x.0 == id)) [
-  | inl here ↦ rw (here, here) refl
-  | inr other ↦ rw (other, other) (row_of-changed xs id before after (rw other at found))
-]
+use Rattle.volume_rows.specs.Streams.{StreamRowView, Reserved}
 
 -- the rooms alone
 abbrev pub rooms_in : List (ℕ × StreamRowView) → List (ℕ × Reserved)
@@ -84,18 +49,6 @@ length-cut bytes n = omega (arith, length-append {A = ℕ}, length-take {A = ℕ
 pub OnOk-weaker : {T E : Type 0} (P Q : Type 0) (r : Result T E) → (P → Q) → OnOk r P → OnOk r Q
 OnOk-weaker P Q (Ok x) weaker holds = weaker holds
 OnOk-weaker P Q (Err e) weaker holds = tt
-
--- the row of another number stays where one is changed
-pub row_of-other : {R : Type 0} (change : R → R) (rows : List (ℕ × R)) (id other : ℕ) → (other == id) ≡ false → row_of (with_row_changed change rows id) other ≡ row_of rows other
-row_of-other change [] id other differ = refl
-row_of-other change (x ∷ xs) id other differ =
-    elim (cases_Bool (x.0 == other)) [
-      | inl here ↦ (let is : x.0 ≡ other = eqb-true _ _ here in let kept : (x.0 == id) ≡ false = ap (λ i. i == id) is ∙ differ in rw (kept, here) refl)
-      | inr on ↦ elim (cases_Bool (x.0 == id)) [
-        | inl changed ↦ rw (changed, on) (row_of-other change xs id other differ)
-        | inr kept ↦ rw (kept, on) (row_of-other change xs id other differ)
-      ]
-    ]
 
 -- where rows are taken out
 pub row_of-filter : {R : Type 0} (keep : ℕ × R → Bool) (rows : List (ℕ × R)) (id : ℕ) → AreRising rows → lives (filter keep rows) id ≡ true → row_of (filter keep rows) id ≡ row_of rows id

@@ -14,7 +14,7 @@ use Rattle.fsa_model.specs.Volume.{File, Stream}
 use Rattle.fsa_model.proofs.RowLaws.{change_at, change_at-same, found-all, lives-found, option_cases, without_row-none}
 use Rattle.tallies.specs.Charges.{sum_of}
 use Rattle.volume_state.specs.Tallied.{AreTallied, charged, clusters_at, clusters_of_all, clusters_of_file, part_of_file, part_of_stream}
-use Rattle.volume_state.proofs.StreamLemmas.{row_of-other}
+use Rattle.volume_tables.proofs.StreamLemmas.{row_of-other}
 use Rattle.volume_state.proofs.SumLemmas.{row_of-change_here, sum-changed, sum-filtered, sum-same, sum-scaled, sum-without, sum-zero}
 use Rattle.volume_tables.specs.Space.{Admits, HandsOver, MayResize, Resizes, Space, share}
 use Rattle.volume_tables.proofs.PlaceLemmas.{row_of-append, row_of-without}

@@ -5,7 +5,7 @@ use Rattle.std.proofs.lemmas.Bool.{cases_Bool}
 use Rattle.std.proofs.lemmas.List.Elements.{All-cons, All-map, All-nil}
 use Rattle.fsa_types.specs.Rows.{lives}
 use Rattle.fsa_model.specs.Sound.{IsSound}
-use Rattle.fsa_model.specs.Volume.{Volume, Watch}
+use Rattle.fsa_model.specs.Volume.{Change, Volume, Watch}
 use Rattle.fsa_model.specs.Watching.{begun_at, due, packed_changes, report, with_watch_seen}
 use Rattle.fsa_model.proofs.RowLaws.{AllPairs-map}
 use Rattle.notify_queue.specs.Due.{packed_within}
@@ -36,6 +36,26 @@ IsSound-with_watch_seen v handle sound =
         watches_differ = AllPairs-map (λ a b. (a.handle == b.handle) ≡ false) (begun_at handle (length v.changes)) v.watches
             (λ j k d below within. rw (begun-handle handle (length v.changes) (get_or v.watches j d), begun-handle handle (length v.changes) (get_or v.watches k d)) (sound.of_handles.watches_differ j k d below within));
       };
+      files_numbered = sound.files_numbered;
+      links_numbered = sound.links_numbered;
+      streams_numbered = sound.streams_numbered;
+      handles_numbered = sound.handles_numbered;
+      locks_numbered = sound.locks_numbered;
+      oplocks = sound.oplocks;
+      blockers_given = sound.blockers_given;
+      streams_fit = sound.streams_fit;
+      points_fit = sound.points_fit;
+      bounded = record { files = sound.bounded.files; links = sound.bounded.links; streams = sound.bounded.streams; handles = sound.bounded.handles; clock = sound.bounded.clock; locks = sound.bounded.locks; breaks = sound.bounded.breaks };
+    }
+
+pub IsSound-with_changes : (v : Volume) (changes : List Change) → IsSound v → IsSound (record v { changes = changes })
+IsSound-with_changes v changes sound =
+    record {
+      tree = sound.tree;
+      opens = sound.opens;
+      pending = sound.pending;
+      clients = sound.clients;
+      of_handles = sound.of_handles;
       files_numbered = sound.files_numbered;
       links_numbered = sound.links_numbered;
       streams_numbered = sound.streams_numbered;

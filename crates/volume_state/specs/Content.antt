@@ -3,6 +3,7 @@ use Rattle.std.specs.Prelude.{map}
 use Rattle.fsa_model.specs.Setup.{client_of}
 use Rattle.fsa_model.specs.Volume.{Volume}
 use Rattle.volume_state.specs.VolumeView.{Beside, Spare}
+use Rattle.volume_state.specs.Watches.{watch_of_row}
 use Rattle.volume_state.specs.declared.volume.Volume.TheInside.{Inside}
 
 abbrev pub content_of : Inside → Volume
@@ -17,7 +18,7 @@ content_of v = record {
   oplocks = v.oplocks.rows;
   pending = v.pending.items;
   ended = v.ended.items;
-  watches = v.watches.items;
+  watches = map watch_of_row v.watches.items;
   changes = v.changes.changes;
   limits = v.limits.items;
   clock = v.clock;
@@ -31,7 +32,7 @@ content_of v = record {
 }
 
 abbrev pub beside_of : Inside → Beside
-beside_of v = record { base = 0; waited = v.oplocks.waited }
+beside_of v = record { base = v.changes.base; waited = v.oplocks.waited }
 
 abbrev pub spare_of : Inside → Spare
 spare_of v = record {

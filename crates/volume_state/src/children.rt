@@ -9,14 +9,14 @@ ghost use Rattle.volume_rows.specs.Children.{is_name_after};
 ghost use Rattle.volume_state.specs.Children.{children_after, children_from, is_unmarked};
 
 use crate::volume::Volume;
-use volume_rows::{LinkRow, find_link_of};
+use volume_rows::LinkRow;
 
 impl Volume {
     /// The first link of a file; a directory has one, and the root has none.
     pub fn link_of(&self, file: u64) -> Option<&LinkRow>
         ensures { option_copied result ≡ option_map (λ entry. entry.1) (link_of_file self.now.content.links file) }
     {
-        find_link_of(self.links.as_slice(), file)
+        self.links.by_file().first_of(file)
     }
 
     /// The link of a directory, marked or not, with the least name; `None` exactly where there is none.

@@ -13,7 +13,7 @@ use fsa_types::NoMemory;
 use object_tables::Table;
 use std::alloc::Global;
 use volume_rows::{FileRow, StreamRow, clusters_of, clusters_of_file, find_limit};
-use volume_tables::SpaceTally;
+use volume_tables::{SpaceTally, StreamTable};
 
 impl Volume {
     /// How many clusters, of 4,096 bytes each, all streams take.
@@ -71,7 +71,7 @@ fn part_of_row(files: &Table<FileRow>, stream: &StreamRow) -> Option<(u32, u64)>
 // its file is gone.
 pub(crate) fn part_of_stream(
     files: &Table<FileRow>,
-    streams: &Table<StreamRow>,
+    streams: &StreamTable,
     stream: u64,
 ) -> Option<(u32, u64)>
     ensures { result ≡ part_of_stream files.now.rows (streams_in streams.now.rows) stream }
@@ -86,7 +86,7 @@ pub(crate) fn part_of_stream(
 // file.
 pub(crate) fn part_of_file(
     files: &Table<FileRow>,
-    streams: &Table<StreamRow>,
+    streams: &StreamTable,
     file: u64,
 ) -> Option<(u32, u64)>
     requires fits { sum_by (λ entry. clusters_for (length entry.1.bytes)) (streams_in streams.now.rows) < 2 ^ 64 }
@@ -99,7 +99,7 @@ pub(crate) fn part_of_file(
 }
 
 // The clusters of a stream; 0 where there is none.
-pub(crate) fn clusters_at(streams: &Table<StreamRow>, stream: u64) -> u64
+pub(crate) fn clusters_at(streams: &StreamTable, stream: u64) -> u64
     ensures { result ≡ clusters_at (streams_in streams.now.rows) stream }
 {
     match streams.get(stream) {

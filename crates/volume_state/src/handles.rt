@@ -10,8 +10,9 @@ ghost use Rattle.volume_state.specs.Living.{CanBeLinked};
 ghost use Rattle.volume_state.specs.Room.{IsNoLess};
 
 use crate::volume::Volume;
+use crate::watch_row::{WatchRow, is_watch_of};
 use volume_breaks::{SpareList, release_breaks, release_locks};
-use volume_rows::{HandleRow, WatchRow, is_watch_of};
+use volume_rows::HandleRow;
 
 impl Volume {
     /// The handle of this number; `None` exactly where there is none.
@@ -71,8 +72,8 @@ impl Volume {
 
 // Takes the watch of a handle out.
 fn drop_watch(watches: &mut SpareList<WatchRow>, handle: u64)
-    ensures watches { watches.new.items ≡ filter (λ watch. not (watch.handle == handle)) watches.old.items }
+    ensures watches { watches.new.items ≡ filter (λ row. not (row.handle == handle)) watches.old.items }
     ensures room { watches.new.room ≡ watches.old.room }
 {
-    watches.retain(|watch| !is_watch_of(watch, handle));
+    watches.retain(|row| !is_watch_of(row, handle));
 }

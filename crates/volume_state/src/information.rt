@@ -10,7 +10,7 @@ ghost use Rattle.volume_state.specs.InOrder.{first_of, is_kept_before, is_stream
 
 use crate::volume::Volume;
 use fsa_types::UpcaseTable;
-use volume_rows::{StreamRow, find_stream};
+use volume_rows::StreamRow;
 
 impl Volume {
     /// The default stream of a file; `None` exactly where there is none. It is the first in the order of names.
@@ -22,7 +22,7 @@ impl Volume {
         ensures first { IfSome result (λ id. IfSome (row_of self.now.content.streams id) (λ row. streams_of self.now.content file ≡ (id, row) ∷ streams_after self.now.content file [])) }
         ensures none { IfNone result (streams_of self.now.content file ≡ streams_after self.now.content file []) }
     {
-        find_stream(self.streams.as_slice(), self.links.table(), file, &[])
+        self.streams.named(self.links.table(), file, &[])
     }
 
     /// The stream of this file with the least name after this one, by upcased units; `None` exactly where

@@ -15,10 +15,11 @@
 //! ```
 //!
 //! The calls group so: making and room (`new`, `reserve`, `reserve_bytes`); what is there (`file`,
-//! `link`, `stream`, `handle`, `pending`, `ended`, each by number, and `child`, `first_child`, `child_after`,
+//! `link`, `stream`, `handle`, `pending`, `ended`, each by number, `next_file`, `next_link`, `next_stream`,
+//! `next_handle`, and `child`, `first_child`, `child_after`,
 //! `link_of`, `cursor`, `stream_of`, `default_stream`, `stream_after`,
 //! `handle_of`, `next_handle_of`, `next_pending`, `pending_calls`, `pending_room`, `root`, `is_directory`,
-//! `dir_link`, `has_child`, `links_of`, `is_at_or_below`, `handles_on`, `clashes`, `locks_of`, `bytes_of`,
+//! `dir_link`, `has_child`, `links_of`, `is_at_or_below`, `handles_on`, `clashes`, `locks_of`, `parts_of`,
 //! `clock`, `has_left`, `table`, `sids`,
 //! `oplocks`); waits for calls (`waits`, `all_wait`, `next_over`, `next_due`,
 //! `list_waits`); the space that streams
@@ -27,7 +28,8 @@
 //! changes of one table (`add_..`, `move_link`, `drop_..`, `mark_..`, `put_bytes`, `set_..`, `end`, `leave`,
 //! `advance`); changes noted (`note`); and oplocks: their grant (`grant`), their break
 //! (`begin`, `waited`), the answer to it (`answer_break`), and their end (`give_up`, `drop_oplock`); and watches
-//! (`has_watch`, `start_watch`) with what is due to them (`due_size`, `take_report`).
+//! (`has_watch`, `start_watch`) with what is due to them (`due_size`, `take_report`), and the changes that they may
+//! still be told (`trim_changes`).
 //!
 //! Contracts see a volume as three things: its content, which is the record of plain lists of
 //! `fsa_model`; what stands beside it, the breaks that the last `begin` waits for among it; and the
@@ -39,19 +41,22 @@
 //! call that finds or adds it, so that no caller needs a law of its own.
 //!
 //! A file, a link, a stream or a handle is found by its number in time logarithmic in the rows of its
-//! table, and an owner's charge in time logarithmic in the owners; the clusters of all streams are kept. Any
-//! other look-up costs time linear in the rows. The next handle of a client and the handles below a directory
-//! cost that for each row, and a note and `is_at_or_below` cost a look through the links for each directory
-//! above. The next pending call is found in time logarithmic in those that are pending, as long as they came in
-//! the order of their turns, as those of a run do. A break costs what `volume_breaks` and `oplock_state` say.
+//! table, and so is the least number above another; an owner's charge in time logarithmic in the owners; the
+//! clusters of all streams are kept. The links of a file, and its streams by name, are found in time logarithmic in
+//! all of them, and linear in the file's own; so a note and `is_at_or_below` cost that for each directory above.
+//! Any other look-up costs time linear in the rows; one of the handles below a directory, the way up for each. The
+//! next pending call is found in time logarithmic in those that are pending, as long as they came in the order of
+//! their turns, as those of a run do. A break costs what `volume_breaks` and `oplock_state` say, and the bytes of a
+//! stream what `stream_pages` says.
 //!
 //! A call that is held waits for breaks and locks; whatever ends one of these tells the queue of held calls,
 //! in time linear in what they wait for, and `next_held` asks nothing but the queue. `next_over` looks through
 //! the pending calls for each wait among them, and never through the calls that have ended; `list_waits` puts
-//! each wait in its place among the others. `next_due` looks through them once too. Whether something is due to
-//! a Notify is known without a look at the changes where nothing is, as long as one watch of that directory and
-//! filter was kept beside them; else what was noted since its watch began or last reported is gone through. A
-//! note looks at each watch that is kept: one for each directory and filter that was ever watched.
+//! each wait in its place among the others. Of each watch it is kept whether something may be due, and whether a
+//! Notify may be pending on its handle: a note looks once at each watch to which nothing was due, and through the
+//! pending calls for each to which the change is; `next_due` looks once at each watch, and through the pending calls
+//! and the changes only for those to which something may be due while a Notify may be pending. A watch is looked for
+//! among all.
 #![tactic(auto)]
 
 mod children;
@@ -66,6 +71,7 @@ mod kinds;
 mod links;
 mod locks;
 mod notes;
+mod numbers;
 mod opens;
 mod oplocks;
 mod pending;
@@ -74,6 +80,7 @@ mod streams;
 mod tried;
 mod volume;
 mod waits;
+mod watch_row;
 mod watches;
 
 pub use fsa_types::{Class, HandleSet};

@@ -13,12 +13,9 @@ ghost use Rattle.volume_state.specs.Paths.{units_in, dirs_in};
 ghost use Rattle.volume_state.specs.VolumeView.{room_for};
 
 use crate::growth::{part_of_file, resize};
-use crate::streams::drop_streams_of;
 use crate::volume::Volume;
 use fsa_types::Name;
-use volume_rows::{
-    LinkRow, count_links, count_unmarked_links, find_link_number, has_link, is_at_or_below,
-};
+use volume_rows::{LinkRow, is_at_or_below};
 
 impl Volume {
     /// The link of this number; `None` exactly where there is none.
@@ -53,7 +50,7 @@ impl Volume {
     pub fn dir_link(&self, dir: u64) -> u64
         ensures { result ≡ dir_link self.now.content dir }
     {
-        find_link_number(self.links.as_slice(), dir).unwrap_or(0)
+        self.links.by_file().number_of(dir).unwrap_or(0)
     }
 
     /// Whether some link, marked or not, has this parent.
@@ -67,16 +64,16 @@ impl Volume {
     pub fn links_of(&self, file: u64) -> (u32, u32)
         ensures { result ≡ links_of self.now.content file }
     {
-        let links = self.links.as_slice();
-        let unmarked = count_unmarked_links(links, file) as u32;
-        (unmarked, count_links(links, file) as u32)
+        let links = self.links.by_file();
+        let unmarked = links.count_unmarked_of(file) as u32;
+        (unmarked, links.count_of(file) as u32)
     }
 
     /// Whether a directory is that one or lies below it.
     pub fn is_at_or_below(&self, above: u64, dir: u64) -> bool
         ensures { result ≡ is_at_or_below self.now.content.links above dir }
     {
-        is_at_or_below(self.links.as_slice(), above, dir)
+        is_at_or_below(self.links.by_file(), above, dir)
     }
 
     /// Adds a link of a file to a directory, and gives its number.
@@ -174,10 +171,10 @@ impl Volume {
             return;
         };
         let file = row.file;
-        if !has_link(self.links.as_slice(), file) {
+        if !self.links.by_file().has_link_of(file) {
             let part = part_of_file(&self.files, &self.streams, file);
             let _ = self.files.remove(file);
-            drop_streams_of(&mut self.streams, file);
+            self.streams.remove_all_of(file);
             resize(&mut self.space, part, 0);
         }
     }

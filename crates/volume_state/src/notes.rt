@@ -6,8 +6,8 @@ ghost use Rattle.volume_rows.specs.Noting.{suffix_of};
 ghost use Rattle.volume_rows.specs.Streams.{streams_in};
 
 use crate::volume::Volume;
-use object_tables::Table;
-use volume_rows::StreamRow;
+use crate::watches::pass_change;
+use volume_tables::StreamTable;
 
 impl Volume {
     /// Notes a change of a link, of this stream of its file or else of the file, with this action and
@@ -29,16 +29,21 @@ impl Volume {
         let Some(row) = self.links.get(link) else {
             return;
         };
-        let links = self.links.as_slice();
+        let links = self.links.by_file();
         let suffix = name_of_stream(&self.streams, stream);
         let name = row.name.units();
         self.changes
             .note(links, row.parent, name, suffix, action, bits);
+        pass_change(
+            &mut self.watches,
+            self.changes.log(),
+            self.pending.as_slice(),
+        );
     }
 }
 
 // The name of a stream, where one is asked for and there.
-pub(crate) fn name_of_stream(streams: &Table<StreamRow>, stream: Option<u64>) -> Option<&[u16]>
+pub(crate) fn name_of_stream(streams: &StreamTable, stream: Option<u64>) -> Option<&[u16]>
     ensures { suffix_of result ≡ stream_suffix (streams_in streams.now.rows) stream }
 {
     match stream {

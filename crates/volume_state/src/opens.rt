@@ -15,7 +15,7 @@ impl Volume {
     pub fn handles_on(&self, on: HandleSet) -> u32
         ensures { result ≡ length (handles_on self.now.content on) }
     {
-        self.handles.count_on(self.links.as_slice(), on) as u32
+        self.handles.count_on(self.links.by_file(), on) as u32
     }
 
     /// Whether an open with these access and share masks clashes with some handle of the set.
@@ -23,7 +23,7 @@ impl Volume {
         ensures { result ≡ clashes_on self.now.content on access share }
     {
         self.handles
-            .some_clashes(self.links.as_slice(), on, access, share)
+            .some_clashes(self.links.by_file(), on, access, share)
     }
 
     /// That client's handle with the least number above `after`; `None` exactly where there is none.

@@ -1,11 +1,10 @@
 //! Oplocks: their grant, their break, and what is answered to a break.
 
-ghost use Rattle.std.specs.Prelude.{ℕ, ◌≡◌, ◌≤◌, ◌<◌, ◌+◌, ◌-◌, ◌^◌, ◌++◌, ◌==◌, All, fold, length, map, [], false, Some, IsSome, option_map};
+ghost use Rattle.std.specs.Prelude.{ℕ, ◌≡◌, ◌≤◌, ◌<◌, ◌+◌, ◌-◌, ◌^◌, ◌==◌, All, fold, length, map, [], false, Some, IsSome, option_map};
 ghost use Rattle.std.specs.Option.{option_map_or, ForSome};
 ghost use Rattle.fsa_types.specs.OplockGrants.{after_answer, target_among};
 ghost use Rattle.fsa_types.specs.OplockLists.{effect_on, told_among, IsCopy, IsSoundOplock};
 ghost use Rattle.fsa_types.specs.Oplocks.{in_both};
-ghost use Rattle.fsa_types.specs.declared.reply.Blocker.{Blocker};
 ghost use Rattle.fsa_types.specs.declared.reply.Blocker.TheVariants.{Break};
 ghost use Rattle.fsa_types.specs.declared.oplock.Class.{Class};
 ghost use Rattle.fsa_types.specs.declared.oplock.HandleSet.{HandleSet};
@@ -16,6 +15,7 @@ ghost use Rattle.fsa_model.specs.Volume.{Volume as OfVolume};
 ghost use Rattle.fsa_model.specs.Waiting.{with_oplock_given_up};
 ghost use Rattle.std.specs.Prelude.{Option};
 ghost use Rattle.object_tables.specs.Series.{HoldsAsMany};
+ghost use Rattle.oplock_state.specs.Homes.{HomesFit};
 ghost use Rattle.oplock_state.specs.Tables.{AreSorted, AreThere};
 ghost use Rattle.volume_breaks.specs.Breaks.{with_held};
 ghost use Rattle.volume_breaks.specs.Calls.{StayHeld};
@@ -245,6 +245,7 @@ fn break_chosen(
     requires sound { All IsSoundOplock oplocks.old.chosen }
     requires copies { All (IsCopy oplocks.old.rows) oplocks.old.chosen }
     requires there { AreThere oplocks.old.rows oplocks.old.chosen }
+    requires fit { HomesFit handles.now.rows }
     requires sorted { AreSorted handles.now.rows oplocks.old.rows oplocks.old.tables }
     ensures done { (v : OfVolume) → with_held v oplocks.new.rows oplocks.new.last pending.new.items ended.new.items ≡ fold (λ w oplock. with_effect w oplock (effect_on class oplock)) (with_held v oplocks.old.rows oplocks.old.last pending.old.items ended.old.items) oplocks.old.chosen }
     ensures others { oplocks.new ≡ record oplocks.old { rows = oplocks.new.rows; last = oplocks.new.last; told = oplocks.new.told; tables = oplocks.new.tables } }
@@ -268,6 +269,7 @@ fn answer(
     kept: Level,
 )
     requires kept { Some kept ≡ option_map (λ target. in_both level target) (target_among handle oplocks.old.rows) }
+    requires fit { HomesFit handles.now.rows }
     requires sorted { AreSorted handles.now.rows oplocks.old.rows oplocks.old.tables }
     ensures rows { oplocks.new ≡ record oplocks.old { rows = after_answer handle kept turn oplocks.old.rows; tables = oplocks.new.tables } }
     ensures sorted { AreSorted handles.now.rows oplocks.new.rows oplocks.new.tables }

@@ -12,9 +12,9 @@ ghost use Rattle.fsa_model.specs.Waiting.{blocker_lives};
 ghost use Rattle.volume_state.specs.Room.{KeepsEnds};
 
 use crate::volume::Volume;
+use crate::watches::ask_by;
 use fsa_types::{BlockerList, Call, EndOf, Reply};
 use volume_breaks::end_call;
-use volume_rows::find_pending;
 
 impl Volume {
     /// The call that is pending under this turn; `None` exactly where there is none.
@@ -23,7 +23,7 @@ impl Volume {
         ensures lives { lives self.now.content.pending turn ≡ true → IsSome result }
         ensures client { IfSome result (λ call. call.now.client < length self.now.content.clients) }
     {
-        find_pending(self.pending.as_slice(), turn)
+        self.pending.call_of(turn)
     }
 
     /// How many calls are pending.
@@ -83,6 +83,7 @@ impl Volume {
         ensures left { self.old.spare.pending ≤ self.new.spare.pending + 1 }
         ensures places_left { self.old.spare.blockers ≤ self.new.spare.blockers + length blockers.items }
     {
+        ask_by(&mut self.watches, call.client, &call.what);
         self.pending.pend(turn, call, blockers);
     }
 

@@ -7,7 +7,7 @@ ghost use Rattle.volume_state.specs.Paths.{units_above, dirs_above, units_in, di
 
 use crate::notes::name_of_stream;
 use crate::volume::Volume;
-use volume_rows::{LinkRow, find_link_of};
+use volume_rows::LinksByFile;
 
 /// The room that a note of one change takes.
 #[derive(Clone, Copy, Debug, PartialEq, Eq)]
@@ -32,7 +32,7 @@ impl Volume {
         };
         let suffix = units_of(name_of_stream(&self.streams, stream));
         let name = row.name.units().len();
-        room_above(self.links.as_slice(), row.parent, (name + suffix) as u64)
+        room_above(self.links.by_file(), row.parent, (name + suffix) as u64)
     }
 
     /// The room that a note takes of a link that is to be made in this directory, as things stand, so
@@ -44,7 +44,7 @@ impl Volume {
         ensures few { IfSome result (λ room. room.dirs ≤ 2 ^ 32) }
         ensures none { IfNone result (2 ^ 64 ≤ units_in self.now.content parent units) }
     {
-        room_above(self.links.as_slice(), parent, units)
+        room_above(self.links.by_file(), parent, units)
     }
 }
 
@@ -59,11 +59,11 @@ fn units_of(stream: Option<&[u16]>) -> usize
 }
 
 // The room for a note of so many units in this directory.
-fn room_above(links: &[(u64, LinkRow)], parent: u64, units: u64) -> Option<NoteRoom>
-    ensures units { IfSome result (λ room. room.units ≡ units + units_above (length links.now) links.now parent) }
-    ensures dirs { IfSome result (λ room. room.dirs ≡ 1 + dirs_above (length links.now) links.now parent) }
-    ensures few { IfSome result (λ room. room.dirs ≤ 1 + length links.now) }
-    ensures none { IfNone result (2 ^ 64 ≤ units + units_above (length links.now) links.now parent) }
+fn room_above(links: &LinksByFile, parent: u64, units: u64) -> Option<NoteRoom>
+    ensures units { IfSome result (λ room. room.units ≡ units + units_above (length links.now.rows) links.now.rows parent) }
+    ensures dirs { IfSome result (λ room. room.dirs ≡ 1 + dirs_above (length links.now.rows) links.now.rows parent) }
+    ensures few { IfSome result (λ room. room.dirs ≤ 1 + length links.now.rows) }
+    ensures none { IfNone result (2 ^ 64 ≤ units + units_above (length links.now.rows) links.now.rows parent) }
 {
     let mut dir = parent;
     let mut more = links.len();
@@ -73,7 +73,7 @@ fn room_above(links: &[(u64, LinkRow)], parent: u64, units: u64) -> Option<NoteR
         if more == 0 {
             return Some(NoteRoom { units, dirs });
         }
-        let Some(link) = find_link_of(links, dir) else {
+        let Some(link) = links.first_of(dir) else {
             return Some(NoteRoom { units, dirs });
         };
         units = units.checked_add(link.name.units().len() as u64 + 1)?;

@@ -11,14 +11,14 @@ ghost use Rattle.fsa_model.specs.Sound.{is_stream_of_link};
 ghost use Rattle.volume_rows.specs.Infos.{info_of};
 ghost use Rattle.volume_state.specs.Living.{is_link_to};
 ghost use Rattle.volume_state.specs.VolumeView.{CanWrite, CanReach};
-ghost use Rattle.volume_rows.specs.Streams.{KeepsStreams, ChangesStream};
-ghost use Rattle.fsa_types.specs.StreamBytes.{put, cut};
+ghost use Rattle.fsa_types.specs.StreamBytes.{slice};
+ghost use Rattle.std.specs.List.{concat};
 
 use crate::growth::{clusters_at, part_of_stream, resize};
 use crate::volume::Volume;
 use fsa_types::{Name, NoMemory};
-use object_tables::Table;
-use volume_rows::{StreamInfo, StreamRow, find_stream, is_stream_of};
+use stream_pages::{Parts, Stream};
+use volume_rows::{StreamInfo, StreamRow};
 
 impl Volume {
     /// The stream of this number, without its bytes; `None` exactly where there is none.
@@ -41,18 +41,19 @@ impl Volume {
         ensures lives { IfSome result (λ id. IsTrue (lives self.now.content.streams id)) }
         ensures of_link { IfSome result (λ id. (link : ℕ) → IsTrue (is_link_to self.now.content.links link file) → IsTrue (is_stream_of_link self.now.content.links self.now.content.streams link id)) }
     {
-        find_stream(self.streams.as_slice(), self.links.table(), file, units)
+        self.streams.named(self.links.table(), file, units)
     }
 
-    /// The bytes of a stream. There has to be one.
-    pub fn bytes_of(&self, stream: u64) -> &[u8]
+    /// `count` bytes of a stream from place `at` on, lent in parts. There has to be such a stream, and it
+    /// has to have these bytes. It takes no memory.
+    pub fn parts_of(&self, stream: u64, at: u64, count: u64) -> Parts<'_>
         requires lives { IsTrue (lives self.now.content.streams stream) }
-        ensures bytes { result.now ≡ bytes_of self.now.content stream }
-        ensures few { length result.now ≤ 2 ^ 26 }
+        requires within { at + count ≤ length (bytes_of self.now.content stream) }
+        ensures bytes { concat result ≡ slice (bytes_of self.now.content stream) at count }
     {
         match self.streams.get(stream) {
             None => unreachable!(),
-            Some(row) => row.bytes(),
+            Some(row) => row.parts(at, count),
         }
     }
 
@@ -84,11 +85,8 @@ impl Volume {
             length: 0,
             deleted: false,
         };
-        let bytes = Vec::new(self.alloc);
-        let Ok(id) = self.streams.add(StreamRow { info, bytes }) else {
-            unreachable!()
-        };
-        id
+        let bytes = Stream::new(self.alloc);
+        self.streams.add(StreamRow { info, bytes })
     }
 
     /// Marks a stream for deletion, or clears its mark.
@@ -101,7 +99,7 @@ impl Volume {
         ensures units { (link : ℕ) (of : Option ℕ) → units_noted self.new.content link of ≡ units_noted self.old.content link of }
         ensures dirs { (link : ℕ) (of : Option ℕ) → dirs_noted self.new.content link of ≡ dirs_noted self.old.content link of }
     {
-        mark_stream(&mut self.streams, stream, deleted);
+        self.streams.mark(stream, deleted);
     }
 
     /// Takes room for `count` bytes of a stream from place `at` on, and for making it so long as their
@@ -116,7 +114,7 @@ impl Volume {
         ensures room { OnOk result (CanWrite self.new.spare stream at count) }
         ensures reach { OnOk result (CanReach self.new.spare stream (at + count)) }
     {
-        reserve_in(&mut self.streams, stream, (at + count) as usize)
+        self.streams.reserve_bytes(stream, at, count)
     }
 
     /// Puts bytes into a stream at place `at`, a gap before them filled with zeros. Room for them has
@@ -130,7 +128,7 @@ impl Volume {
         ensures bytes { (other : ℕ) → (other == stream) ≡ false → row_of self.new.spare.bytes other ≡ row_of self.old.spare.bytes other }
     {
         let part = part_of_stream(&self.files, &self.streams, stream);
-        put_in(&mut self.streams, stream, at as usize, bytes);
+        self.streams.put(stream, at, bytes);
         let after = clusters_at(&self.streams, stream);
         resize(&mut self.space, part, after);
     }
@@ -146,7 +144,7 @@ impl Volume {
         ensures bytes { (other : ℕ) → (other == stream) ≡ false → row_of self.new.spare.bytes other ≡ row_of self.old.spare.bytes other }
     {
         let part = part_of_stream(&self.files, &self.streams, stream);
-        set_length_in(&mut self.streams, stream, bytes as usize);
+        self.streams.set_length(stream, bytes);
         let after = clusters_at(&self.streams, stream);
         resize(&mut self.space, part, after);
     }
@@ -165,68 +163,7 @@ impl Volume {
         ensures dirs { (other : ℕ) (of : Option ℕ) → dirs_noted self.new.content other of ≤ dirs_noted self.old.content other of }
     {
         let part = part_of_stream(&self.files, &self.streams, stream);
-        let _ = self.streams.remove(stream);
+        self.streams.remove(stream);
         resize(&mut self.space, part, 0);
     }
-}
-
-// Marks a stream for deletion, or clears its mark.
-fn mark_stream(streams: &mut Table<StreamRow>, stream: u64, deleted: bool)
-    ensures rows { streams.new.rows ≡ with_row_changed (λ row. record row { stream = record row.stream { deleted = deleted } }) streams.old.rows stream }
-    ensures last { streams.new.last ≡ streams.old.last }
-    ensures room { streams.new.room ≡ streams.old.room }
-{
-    if let Some(row) = streams.get_mut(stream) {
-        row.info.deleted = deleted;
-    }
-}
-
-// Takes room for the bytes of a stream up to `end`.
-fn reserve_in(streams: &mut Table<StreamRow>, stream: u64, end: usize) -> Result<(), NoMemory>
-    requires { IsTrue (lives streams.old.rows stream) }
-    ensures rows { KeepsStreams streams.old.rows streams.new.rows }
-    ensures others { (other : ℕ) → (other == stream) ≡ false → row_of streams.new.rows other ≡ row_of streams.old.rows other }
-    ensures last { streams.new.last ≡ streams.old.last }
-    ensures room { streams.new.room ≡ streams.old.room }
-    ensures reserved { OnOk result (IfSome (row_of streams.new.rows stream) (λ row. (row.room.from ≡ 0) × (end ≤ row.room.to))) }
-{
-    match streams.get_mut(stream) {
-        None => Ok(()),
-        Some(row) => row.reserve(end),
-    }
-}
-
-// Puts the piece into a stream.
-fn put_in(streams: &mut Table<StreamRow>, stream: u64, at: usize, piece: &[u8])
-    requires { IfSome (row_of streams.old.rows stream) (λ row. at + length piece.now ≤ row.room.to) }
-    ensures rows { ChangesStream streams.old.rows streams.new.rows stream (λ row. record row { bytes = put row.bytes at piece.now }) }
-    ensures others { (other : ℕ) → (other == stream) ≡ false → row_of streams.new.rows other ≡ row_of streams.old.rows other }
-    ensures last { streams.new.last ≡ streams.old.last }
-    ensures room { streams.new.room ≡ streams.old.room }
-{
-    if let Some(row) = streams.get_mut(stream) {
-        row.put(at, piece);
-    }
-}
-
-// Makes a stream so many bytes long.
-fn set_length_in(streams: &mut Table<StreamRow>, stream: u64, bytes: usize)
-    requires { IfSome (row_of streams.old.rows stream) (λ row. (bytes ≤ row.room.to) ⊎ (bytes ≤ length row.stream.bytes)) }
-    ensures rows { ChangesStream streams.old.rows streams.new.rows stream (λ row. record row { bytes = cut row.bytes bytes }) }
-    ensures others { (other : ℕ) → (other == stream) ≡ false → row_of streams.new.rows other ≡ row_of streams.old.rows other }
-    ensures last { streams.new.last ≡ streams.old.last }
-    ensures room { streams.new.room ≡ streams.old.room }
-{
-    if let Some(row) = streams.get_mut(stream) {
-        row.set_length(bytes);
-    }
-}
-
-// Takes all streams of a file out.
-pub(crate) fn drop_streams_of(streams: &mut Table<StreamRow>, file: u64)
-    ensures rows { streams.new.rows ≡ filter (λ entry. not (entry.1.stream.file == file)) streams.old.rows }
-    ensures last { streams.new.last ≡ streams.old.last }
-    ensures room { streams.old.room ≤ streams.new.room }
-{
-    streams.retain(|entry| !is_stream_of(&entry.1, file));
 }

@@ -7,20 +7,22 @@ ghost use Rattle.fsa_model.specs.Edits.{with_end, with_left, with_ticks};
 ghost use Rattle.fsa_model.specs.Lookups.{has_left};
 ghost use Rattle.fsa_model.specs.Setup.{setup_of};
 ghost use Rattle.fsa_model.specs.Volume.{fresh, root};
+ghost use Rattle.oplock_state.specs.Homes.{HomesFit};
 ghost use Rattle.oplock_state.specs.Tables.{KeepSorted};
 ghost use Rattle.volume_state.specs.Room.{HasRoom, IsNoLess};
 ghost use Rattle.volume_tables.specs.HandleTable.{stream_of_handle};
 ghost use Rattle.volume_tables.specs.Rooms.{room_in};
 
 use crate::growth::space_of_root;
+use crate::watch_row::WatchRow;
 use fsa_types::{Client, ClientList, EndOf, NoMemory, Setup, UpcaseTable};
 use object_tables::{Series, Table};
 use oplock_state::OplockTable;
 use std::alloc::{AllocError, Global};
 use std::marker::Model;
 use volume_breaks::{PendingCalls, SpareList};
-use volume_rows::{Changes, FileRow, Need, StreamRow, WatchRow};
-use volume_tables::{HandleTable, LinkTable, SpaceTally};
+use volume_rows::{Changes, FileRow, Need};
+use volume_tables::{HandleTable, LinkTable, SpaceTally, StreamTable};
 
 /// A volume: its case table and clients, its files, links, streams and handles, the locks, oplocks and
 /// watches of handles, its changes, the calls that are pending and those that have ended, and the limits of
@@ -31,7 +33,7 @@ pub struct Volume {
     pub(crate) clients: ClientList,
     pub(crate) files: Table<FileRow>,
     pub(crate) links: LinkTable,
-    pub(crate) streams: Table<StreamRow>,
+    pub(crate) streams: StreamTable,
     // What owners are charged for the streams of their files, and how many clusters all streams take.
     pub(crate) space: SpaceTally,
     pub(crate) handles: HandleTable,
@@ -56,10 +58,12 @@ impl Model for Volume {
     ghost use Rattle.volume_state.specs.Held.{is_there};
     ghost use Rattle.volume_state.specs.Content.{content_of, beside_of, spare_of};
     ghost use Rattle.volume_state.specs.Tallied.{AreTallied};
+    ghost use Rattle.std.specs.Prelude.{length};
+    ghost use Rattle.volume_state.specs.Watches.{AreKept, AreWatched};
 
     ghost view = { λ v. record { content = content_of v; beside = beside_of v; spare = spare_of v } };
 
-    ghost invariant = { λ v. IsSound (content_of v) × AreHeld (is_there v.oplocks.rows v.handles.locks) v.pending × AreTallied v.files.rows (content_of v).streams v.space × AreSorted v.handles.rows v.oplocks.rows v.oplocks.tables };
+    ghost invariant = { λ v. IsSound (content_of v) × AreHeld (is_there v.oplocks.rows v.handles.locks) v.pending × AreTallied v.files.rows (content_of v).streams v.space × AreSorted v.handles.rows v.oplocks.rows v.oplocks.tables × AreWatched v.handles.rows v.links.rows v.changes.changes v.pending.items v.watches.items × AreKept v.changes.base (length v.changes.changes) v.watches.items };
 }
 
 // One drop of the whole, so that a function that holds a volume has one step for it at each of its ends.
@@ -106,7 +110,7 @@ impl Volume {
             clients,
             files,
             links: LinkTable::new(alloc, table),
-            streams: Table::new(alloc),
+            streams: StreamTable::new(alloc),
             space,
             handles: HandleTable::new(alloc),
             changes: Changes::new(alloc),
@@ -204,6 +208,7 @@ fn reserve_oplocks(
     handle: u64,
     more: u32,
 ) -> Result<(), NoMemory>
+    requires fit { HomesFit handles.now.rows }
     ensures rows { oplocks.new ≡ record oplocks.old { rooms = oplocks.new.rooms; tables = oplocks.new.tables } }
     ensures room { OnOk result ((stream : ℕ) → stream_of_handle handles.now.rows handle ≡ Some stream → more ≤ room_in oplocks.new.rooms stream) }
     ensures kept { (other : ℕ) → room_in oplocks.old.rooms other ≤ room_in oplocks.new.rooms other }

@@ -1,20 +1,26 @@
 //! Watches of directories, and what is due to them.
 
-ghost use Rattle.std.specs.Prelude.{ℕ, ◌≡◌, ◌≤◌, ◌<◌, ◌+◌, ◌==◌, [], IsTrue, IfOk, IfSome, IfNone, None, OnErr, OnOk, find, is_some, length, map};
-ghost use Rattle.fsa_types.specs.Rows.{lives};
+ghost use Rattle.std.specs.Prelude.{ℕ, All, false, ◌≡◌, ◌≤◌, ◌<◌, ◌+◌, ◌==◌, ◌||◌, [], IsTrue, IfOk, IfSome, IfNone, None, Some, OnErr, OnOk, find, is_some, length, map, min, option_map, true};
+ghost use Rattle.std.specs.List.{list_any};
+ghost use Rattle.std.specs.Option.{option_copied};
+ghost use Rattle.fsa_types.specs.Rows.{lives, row_of};
 ghost use Rattle.fsa_model.specs.Edits.{with_watch};
 ghost use Rattle.fsa_model.specs.Lookups.{file_of_link};
 ghost use Rattle.fsa_model.specs.Watching.{begun_at, dir_of, due, due_size, is_something_due, report, watch_of, with_watch_seen};
+ghost use Rattle.fsa_model.specs.Waiting.{is_notify_of, is_notify_on};
 ghost use Rattle.notify_queue.specs.Due.{due_of};
 ghost use Rattle.volume_state.specs.Reports.{reply_of};
+ghost use Rattle.volume_state.specs.Room.{IsNoLess};
+ghost use Rattle.volume_state.specs.Watches.{asked_by, asking, least_place, row_begun, row_noted, watch_of_row, IsOfHandle};
 
 use crate::volume::Volume;
-use fsa_types::{Bytes, NoMemory};
-use notify_queue::Watch;
+use crate::watch_row::{WatchRow, find_watch};
+use fsa_types::{Bytes, NoMemory, Request, What};
+use notify_queue::{ChangeLog, Watch};
 use std::alloc::Global;
 use volume_breaks::SpareList;
-use volume_rows::{Changes, WatchRow, find_watch};
-use volume_tables::LinkTable;
+use volume_rows::PendingRow;
+use volume_tables::{HandleTable, LinkTable};
 
 impl Volume {
     /// Whether a handle has a watch.
@@ -35,14 +41,9 @@ impl Volume {
         ensures others { self.new.spare ≡ record self.old.spare { watches = self.new.spare.watches } }
         ensures left { self.old.spare.watches ≤ self.new.spare.watches + 1 }
     {
-        let dir = self.dir_of(handle);
-        expect(&mut self.changes, dir, filter, tree);
-        self.watches.push(WatchRow {
-            handle,
-            filter,
-            tree,
-            from: self.changes.log().len() as u64,
-        });
+        let place = self.changes.log().len();
+        let row = new_row(&self.handles, &self.links, handle, filter, tree, place);
+        self.watches.push(row);
     }
 
     /// How many bytes a report of what is due to a handle takes; `None` exactly where nothing is due, as to a
@@ -53,7 +54,7 @@ impl Volume {
     {
         match self.watch_on(handle) {
             None => None,
-            Some(watch) => self.changes.due_size(&watch),
+            Some(watch) => watch.due_size(self.changes.log()),
         }
     }
 
@@ -74,9 +75,22 @@ impl Volume {
         ensures room { self.new.spare ≡ self.old.spare }
     {
         let packed = self.packed_for(alloc, handle, room)?;
-        let place = self.changes.log().len() as u64;
+        let place = self.changes.log().len();
         begin_at(&mut self.watches, handle, place);
         Ok(packed)
+    }
+
+    /// Keeps the changes from the least place on from which a watch is due, or, where there is no watch, none of those
+    /// that were noted; the memory of the others is room for new ones once they are half of those that are held. It
+    /// takes no memory.
+    pub fn trim_changes(&mut self)
+        ensures content { self.new.content ≡ self.old.content }
+        ensures beside { self.new.beside ≡ record self.old.beside { base = least_place self.old.content.watches (length self.old.content.changes) } }
+        ensures room { IsNoLess self.old.spare self.new.spare }
+    {
+        let end = self.changes.log().len();
+        let base = least_place(self.watches.as_slice(), end);
+        self.changes.trim(base);
     }
 
     // What is due to a handle, packed, where it takes at most so many bytes.
@@ -93,11 +107,15 @@ impl Volume {
     // The watch of a handle, of the directory that the handle is of.
     fn watch_on(&self, handle: u64) -> Option<Watch>
         ensures due { IfSome result (λ watch. due_of self.now.content.changes watch ≡ due self.now.content handle) }
+        ensures kept { IfSome result (λ watch. self.now.beside.base ≤ watch.from) }
         ensures none { IfNone result (due self.now.content handle ≡ []) }
     {
         let Some(row) = find_watch(self.watches.as_slice(), handle) else {
             return None;
         };
+        if !row.due {
+            return None;
+        }
         let Some(dir) = self.dir_of(handle) else {
             return None;
         };
@@ -120,15 +138,6 @@ impl Volume {
     }
 }
 
-// A watch of this directory begins here, where there is one.
-fn expect(changes: &mut Changes, dir: Option<u64>, filter: u32, tree: bool)
-    ensures { changes.new ≡ changes.old }
-{
-    if let Some(dir) = dir {
-        changes.expect(dir, filter, tree);
-    }
-}
-
 // The file of a link; of link 0 it is the root.
 fn file_of_link(links: &LinkTable, link: u64) -> Option<u64>
     ensures { result ≡ file_of_link links.now.rows link }
@@ -142,29 +151,198 @@ fn file_of_link(links: &LinkTable, link: u64) -> Option<u64>
     }
 }
 
-// The watch, where it is this handle's, from this place on.
-fn begun_at(watch: WatchRow, handle: u64, place: u64) -> WatchRow
-    ensures { result ≡ begun_at handle place watch }
+// The smaller of two numbers.
+fn smaller(a: u64, b: u64) -> u64
+    ensures { result ≡ min a b }
 {
-    if watch.handle == handle {
-        WatchRow {
-            handle: watch.handle,
-            filter: watch.filter,
-            tree: watch.tree,
-            from: place,
-        }
-    } else {
-        watch
+    if a < b { a } else { b }
+}
+
+// The least place from which one of these is due, or the end, where no place is behind it.
+fn least_place(rows: &[WatchRow], end: u64) -> u64
+    requires within { All (λ row. row.from ≤ end) rows.now }
+    ensures { result ≡ least_place (map watch_of_row rows.now) end }
+{
+    let mut rest = rows;
+    let mut least = end;
+    'rows: while let Some((row, more)) = rest.split_first() {
+        least = smaller(row.from, least);
+        rest = more;
+    }
+    least
+}
+
+// The row of a new watch of a handle that lives, due from this place on. That a Notify is pending on the handle
+// isn't known to be false.
+fn new_row(
+    handles: &HandleTable,
+    links: &LinkTable,
+    handle: u64,
+    filter: u32,
+    tree: bool,
+    from: u64,
+) -> WatchRow
+    requires living { lives handles.now.rows handle ≡ true }
+    requires linked { IfSome (row_of handles.now.rows handle) (λ row. (row.link == 0 || lives links.now.rows row.link) ≡ true) }
+    ensures watch { watch_of_row result ≡ record { handle = handle; filter = filter; tree = tree; from = from } }
+    ensures of_handle { IsOfHandle handles.now.rows links.now.rows result }
+    ensures quiet { result.due ≡ false }
+    ensures asked { result.asked ≡ true }
+{
+    let Some(row) = handles.get(handle) else {
+        unreachable!()
+    };
+    let Some(dir) = file_of_link(links, row.link) else {
+        unreachable!()
+    };
+    WatchRow {
+        handle,
+        filter,
+        tree,
+        from,
+        dir,
+        client: row.client,
+        number: row.number,
+        due: false,
+        asked: true,
     }
 }
 
-// The watch of a handle is due from this place on.
+// The row, where it is of this handle, from this place on, at which nothing is due.
+fn row_begun(row: WatchRow, handle: u64, place: u64) -> WatchRow
+    ensures { result ≡ row_begun handle place row }
+{
+    if row.handle == handle {
+        WatchRow {
+            handle: row.handle,
+            filter: row.filter,
+            tree: row.tree,
+            from: place,
+            dir: row.dir,
+            client: row.client,
+            number: row.number,
+            due: false,
+            asked: row.asked,
+        }
+    } else {
+        row
+    }
+}
+
+// The watch of a handle is due from this place on, at which nothing is due.
 fn begin_at(watches: &mut SpareList<WatchRow>, handle: u64, place: u64)
-    ensures items { watches.new.items ≡ map (begun_at handle place) watches.old.items }
+    ensures items { watches.new.items ≡ map (row_begun handle place) watches.old.items }
     ensures room { watches.new.room ≡ watches.old.room }
 {
     for i in 0..watches.as_slice().len() {
-        let watch = begun_at(watches.as_slice()[i], handle, place);
-        watches.set(i, watch);
+        let row = row_begun(watches.as_slice()[i], handle, place);
+        watches.set(i, row);
+    }
+}
+
+// The watch of a row, of its directory.
+fn asking(row: &WatchRow) -> Watch
+    ensures { result ≡ asking row.now }
+{
+    Watch {
+        dir: row.dir,
+        filter: row.filter,
+        tree: row.tree,
+        from: row.from,
+    }
+}
+
+// Whether a call is a Notify on the handle of this number.
+fn is_notify_of(what: &What, handle: u32) -> bool
+    ensures { result ≡ is_notify_of handle what.now }
+{
+    match what {
+        What::Ask(Request::Notify { handle: other, .. }) => *other == handle,
+        _ => false,
+    }
+}
+
+// Whether a pending call is a Notify on this handle of this client.
+pub(crate) fn is_notify_on(row: &PendingRow, client: u32, handle: u32) -> bool
+    ensures { result ≡ is_notify_on client handle row.now }
+{
+    row.call.client == client && is_notify_of(&row.call.what, handle)
+}
+
+// Whether one of these is a Notify on this handle of this client.
+fn has_notify(pending: &[(u64, PendingRow)], client: u32, handle: u32) -> bool
+    ensures { result ≡ list_any (λ entry. is_notify_on client handle entry.1) pending.now }
+{
+    pending
+        .iter()
+        .any(|entry| is_notify_on(&entry.1, client, handle))
+}
+
+// The row, once the last change of the log was noted.
+fn row_noted(row: WatchRow, log: &ChangeLog, pending: &[(u64, PendingRow)]) -> WatchRow
+    requires kept { log.now.base < length log.now.changes }
+    ensures { result ≡ row_noted log.now.changes pending.now row }
+{
+    if row.due || !asking(&row).asks_for_last(log) {
+        return row;
+    }
+    WatchRow {
+        handle: row.handle,
+        filter: row.filter,
+        tree: row.tree,
+        from: row.from,
+        dir: row.dir,
+        client: row.client,
+        number: row.number,
+        due: true,
+        asked: has_notify(pending, row.client, row.number),
+    }
+}
+
+// The watches, once the last change of the log was noted: which of them it is due to, and on which of those a Notify
+// is pending.
+pub(crate) fn pass_change(
+    watches: &mut SpareList<WatchRow>,
+    log: &ChangeLog,
+    pending: &[(u64, PendingRow)],
+)
+    requires kept { log.now.base < length log.now.changes }
+    ensures items { watches.new.items ≡ map (row_noted log.now.changes pending.now) watches.old.items }
+    ensures room { watches.new.room ≡ watches.old.room }
+{
+    for i in 0..watches.as_slice().len() {
+        let row = row_noted(watches.as_slice()[i], log, pending);
+        watches.set(i, row);
+    }
+}
+
+// The row, once this client has asked this.
+fn asked_by(row: WatchRow, client: u32, what: &What) -> WatchRow
+    ensures { result ≡ asked_by client what.now row }
+{
+    if row.client != client || !is_notify_of(what, row.number) {
+        return row;
+    }
+    WatchRow {
+        handle: row.handle,
+        filter: row.filter,
+        tree: row.tree,
+        from: row.from,
+        dir: row.dir,
+        client: row.client,
+        number: row.number,
+        due: row.due,
+        asked: true,
+    }
+}
+
+// The watches, once this call of this client is pending.
+pub(crate) fn ask_by(watches: &mut SpareList<WatchRow>, client: u32, what: &What)
+    ensures items { watches.new.items ≡ map (asked_by client what.now) watches.old.items }
+    ensures room { watches.new.room ≡ watches.old.room }
+{
+    for i in 0..watches.as_slice().len() {
+        let row = asked_by(watches.as_slice()[i], client, what);
+        watches.set(i, row);
     }
 }

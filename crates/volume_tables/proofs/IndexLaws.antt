@@ -6,7 +6,7 @@ use Rattle.std.specs.Option.{option_map_or}
 use Rattle.std.proofs.lemmas.Bool.{cases_Bool, and_parts, false≢true}
 use Rattle.fsa_types.specs.Rows.{IsNumbered, with_row_changed}
 use Rattle.fsa_types.specs.Sharing.{clash}
-use Rattle.fsa_model.specs.Lookups.{is_one_of, is_open_on, is_opened_by, number_of}
+use Rattle.fsa_model.specs.Lookups.{is_one_of, is_opened_by, number_of}
 use Rattle.fsa_model.specs.Volume.{Handle, Link}
 use Rattle.fsa_types.specs.declared.oplock.HandleSet.TheVariants as set
 use Rattle.key_index.specs.Index.{entries_of}

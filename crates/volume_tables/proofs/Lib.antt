@@ -7,3 +7,4 @@ pub mod PlaceLemmas
 pub mod RangeLemmas
 pub mod RoomLemmas
 pub mod SpaceLemmas
+pub mod StreamLemmas

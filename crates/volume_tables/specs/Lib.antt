@@ -5,3 +5,4 @@ pub mod Names
 pub mod Ranges
 pub mod Rooms
 pub mod Space
+pub mod StreamTable

@@ -10,7 +10,7 @@ ghost use Rattle.key_index.specs.RowsByKey.{row_passes};
 
 use fsa_types::HandleSet;
 use object_tables::Table;
-use volume_rows::{HandleRow, LinkRow, is_clashing, is_one_of, is_opened_by};
+use volume_rows::{HandleRow, LinksByFile, is_clashing, is_one_of, is_opened_by};
 
 // Whether the handle of this number is there, and this call of this client opened it.
 fn opened_at(table: &Table<HandleRow>, id: u64, client: u32, number: u32) -> bool
@@ -38,8 +38,8 @@ pub fn find_opened(
 }
 
 // Whether the handle of this number is there, and of the set.
-fn is_one_at(table: &Table<HandleRow>, id: u64, links: &[(u64, LinkRow)], on: HandleSet) -> bool
-    ensures { result ≡ option_map_or (λ row. is_one_of links.now on row) (row_of table.now.rows id) false }
+fn is_one_at(table: &Table<HandleRow>, id: u64, links: &LinksByFile, on: HandleSet) -> bool
+    ensures { result ≡ option_map_or (λ row. is_one_of links.now.rows on row) (row_of table.now.rows id) false }
 {
     match table.get(id) {
         None => false,
@@ -51,10 +51,10 @@ fn is_one_at(table: &Table<HandleRow>, id: u64, links: &[(u64, LinkRow)], on: Ha
 pub fn count_among(
     table: &Table<HandleRow>,
     entries: &[(u64, u64)],
-    links: &[(u64, LinkRow)],
+    links: &LinksByFile,
     on: HandleSet,
 ) -> usize
-    ensures { result ≡ length (filter (row_passes table.now.rows (λ entry. is_one_of links.now on entry.1)) entries.now) }
+    ensures { result ≡ length (filter (row_passes table.now.rows (λ entry. is_one_of links.now.rows on entry.1)) entries.now) }
 {
     entries
         .iter()
@@ -66,12 +66,12 @@ pub fn count_among(
 fn clashes_at(
     table: &Table<HandleRow>,
     id: u64,
-    links: &[(u64, LinkRow)],
+    links: &LinksByFile,
     on: HandleSet,
     access: u32,
     share: u32,
 ) -> bool
-    ensures { result ≡ option_map_or (λ row. is_one_of links.now on row && clash access share row.access row.share) (row_of table.now.rows id) false }
+    ensures { result ≡ option_map_or (λ row. is_one_of links.now.rows on row && clash access share row.access row.share) (row_of table.now.rows id) false }
 {
     match table.get(id) {
         None => false,
@@ -83,12 +83,12 @@ fn clashes_at(
 pub fn some_clash_among(
     table: &Table<HandleRow>,
     entries: &[(u64, u64)],
-    links: &[(u64, LinkRow)],
+    links: &LinksByFile,
     on: HandleSet,
     access: u32,
     share: u32,
 ) -> bool
-    ensures { result ≡ list_any (row_passes table.now.rows (λ entry. is_one_of links.now on entry.1 && clash access share entry.1.access entry.1.share)) entries.now }
+    ensures { result ≡ list_any (row_passes table.now.rows (λ entry. is_one_of links.now.rows on entry.1 && clash access share entry.1.access entry.1.share)) entries.now }
 {
     entries.iter().any(|entry| clashes_at(table, entry.1, links, on, access, share))
 }

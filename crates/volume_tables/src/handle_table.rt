@@ -7,6 +7,7 @@ ghost use Rattle.fsa_model.specs.Edits.{is_lock_on};
 ghost use Rattle.fsa_model.specs.Lookups.{has_row, is_one_of, is_opened_by, number_of};
 ghost use Rattle.fsa_types.specs.Sharing.{clash};
 ghost use Rattle.fsa_types.specs.Ranges.{without_first};
+ghost use Rattle.object_tables.specs.Next.{IsNext};
 ghost use Rattle.range_locks.specs.RangeTable.{is_of, is_range};
 ghost use Rattle.volume_tables.specs.HandleIndex.{AreIndexed};
 ghost use Rattle.volume_tables.specs.HandleTable.{stream_of_handle, ranges_on};
@@ -23,7 +24,7 @@ use object_tables::Table;
 use range_locks::{Range, RangeTable};
 use std::alloc::Global;
 use std::marker::Model;
-use volume_rows::{Enumeration, HandleRow, LinkRow, count_on, some_clashes};
+use volume_rows::{Enumeration, HandleRow, LinksByFile, count_on, some_clashes};
 
 /// Handles under numbers that rise from 1, the byte-range locks that they hold, under numbers of their
 /// own, and for each stream how many more locks can be added on it without taking memory. A lock is on
@@ -110,6 +111,13 @@ impl HandleTable {
         self.table.as_slice()
     }
 
+    /// The least number above `after` that a handle has; `None` exactly where there is none.
+    pub fn next(&self, after: u64) -> Option<u64>
+        ensures { IsNext self.now.rows after result }
+    {
+        self.table.next(after)
+    }
+
     /// The handle of this number; `None` exactly where there is none.
     pub fn get(&self, id: u64) -> Option<&HandleRow>
         ensures { option_copied result ≡ row_of self.now.rows id }
@@ -144,8 +152,8 @@ impl HandleTable {
     }
 
     /// How many handles are of the set. Of those on a stream or by a link it looks at these alone.
-    pub fn count_on(&self, links: &[(u64, LinkRow)], on: HandleSet) -> usize
-        ensures count { result ≡ length (filter (λ entry. is_one_of links.now on entry.1) self.now.rows) }
+    pub fn count_on(&self, links: &LinksByFile, on: HandleSet) -> usize
+        ensures count { result ≡ length (filter (λ entry. is_one_of links.now.rows on entry.1) self.now.rows) }
         ensures numbered { IsNumbered self.now.rows self.now.last }
     {
         let rows = self.table.as_slice();
@@ -160,14 +168,8 @@ impl HandleTable {
 
     /// Whether some handle of the set clashes with these access and share masks. Of those on a stream or by a
     /// link it looks at these alone.
-    pub fn some_clashes(
-        &self,
-        links: &[(u64, LinkRow)],
-        on: HandleSet,
-        access: u32,
-        share: u32,
-    ) -> bool
-        ensures { result ≡ has_row (λ handle. is_one_of links.now on handle && clash access share handle.access handle.share) self.now.rows }
+    pub fn some_clashes(&self, links: &LinksByFile, on: HandleSet, access: u32, share: u32) -> bool
+        ensures { result ≡ has_row (λ handle. is_one_of links.now.rows on handle && clash access share handle.access handle.share) self.now.rows }
     {
         let rows = self.table.as_slice();
         match on {

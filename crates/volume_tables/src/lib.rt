@@ -1,7 +1,7 @@
 //! Tables of a volume in which room is promised apart: links, with room for more of them in each
 //! directory, and handles with the byte-range locks that they hold, with room for more locks on each
-//! stream; and a tally of the space that streams take, for each owner and in all. They know no volume;
-//! `volume_state` keeps its links, handles and tally in them.
+//! stream; streams, found by their files; and a tally of the space that streams take, for each owner and in all.
+//! They know no volume; `volume_state` keeps its links, handles, streams and tally in them.
 //!
 //! ```text
 //! links.reserve(dir, 1)?;                 // may be refused
@@ -13,6 +13,10 @@
 //! handles.opened_by(client, number);      // looks at those alone that calls of this number opened
 //! handles.some_clashes(links, on, access, share);     // at those alone on a stream, or by a link
 //! handles.remove(handle);                 // with its locks
+//!
+//! streams.reserve(1)?;
+//! let stream = streams.add(row);          // takes no memory
+//! streams.named(&upcase, file, units);    // looks at the streams of the file alone
 //!
 //! names.reserve(1)?;
 //! names.add(&table, &upcase, id, dir, units);     // before the link is added to its table
@@ -30,7 +34,7 @@
 //! handles, by calls, streams and links, have all of them.
 //!
 //! `NameIndex` has the numbers of all links in the order of their directories and names, beside the table that has
-//! the names; no table keeps one so far.
+//! the names; `LinkTable` keeps one.
 //!
 //! - It asks that room was reserved and that numbers are left; `add_lock` asks that the handle has a
 //!   stream, and not whether the range conflicts with another. A tally asks that owners are admitted, that
@@ -50,6 +54,7 @@ mod name_index;
 mod ranges;
 mod room_list;
 mod space;
+mod stream_table;
 
 pub use handle_table::HandleTable;
 pub use link_table::LinkTable;
@@ -57,3 +62,4 @@ pub use lock_row::LockRow;
 pub use name_index::NameIndex;
 pub use room_list::RoomList;
 pub use space::SpaceTally;
+pub use stream_table::StreamTable;

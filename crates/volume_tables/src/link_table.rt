@@ -5,16 +5,16 @@ ghost use Rattle.std.specs.List.{list_any};
 ghost use Rattle.std.specs.Option.{option_copied};
 ghost use Rattle.fsa_types.specs.Rows.{row_of, without_row, with_row_changed, IsNumbered};
 ghost use Rattle.fsa_model.specs.Lookups.{has_child, is_named};
+ghost use Rattle.object_tables.specs.Next.{IsNext};
 ghost use Rattle.volume_rows.specs.Children.{links_after};
 ghost use Rattle.volume_tables.specs.Rooms.{room_in};
 
 use crate::name_index::NameIndex;
 use crate::room_list::RoomList;
 use fsa_types::{Name, NoMemory, UpcaseTable};
-use object_tables::Table;
 use std::alloc::Global;
 use std::marker::Model;
-use volume_rows::LinkRow;
+use volume_rows::{LinkRow, LinksByFile};
 
 /// Links under numbers that rise from 1, and for each directory how many more can be added to it
 /// without taking memory. Adding to one directory leaves the room of the others. A name is found in its
@@ -23,7 +23,8 @@ use volume_rows::LinkRow;
 #[derive(Debug, Drop)]
 pub struct LinkTable {
     table: UpcaseTable,
-    links: Table<LinkRow>,
+    // Links by number and by file.
+    links: LinksByFile,
     // The numbers of all links, in the order of their directories and names.
     names: NameIndex,
     // What was promised to each directory, all of which the table has.
@@ -53,7 +54,7 @@ impl LinkTable {
     {
         LinkTable {
             table,
-            links: Table::new(alloc),
+            links: LinksByFile::new(alloc),
             names: NameIndex::new(alloc),
             rooms: RoomList::new(alloc),
         }
@@ -93,14 +94,11 @@ impl LinkTable {
         ensures id { result ≡ self.old.last + 1 }
     {
         self.rooms.take_one(row.parent);
-        let id = self.links.last() + 1;
+        let links = self.links.table();
+        let id = links.last() + 1;
         let units = row.name.units();
-        self.names
-            .add(&self.links, &self.table, id, row.parent, units);
-        let Ok(_) = self.links.add(row) else {
-            unreachable!()
-        };
-        id
+        self.names.add(links, &self.table, id, row.parent, units);
+        self.links.add(row)
     }
 
     /// The case table by which names compare.
@@ -114,7 +112,8 @@ impl LinkTable {
     pub fn child(&self, parent: u64, units: &[u16]) -> Option<u64>
         ensures { result ≡ option_map (λ entry. entry.0) (find (λ entry. is_named self.now.table parent units.now entry.1) self.now.rows) }
     {
-        self.names.child(&self.links, &self.table, parent, units)
+        self.names
+            .child(self.links.table(), &self.table, parent, units)
     }
 
     /// The first of the links of a directory, marked or not, whose names are greater than that one, in the order of
@@ -122,7 +121,8 @@ impl LinkTable {
     pub fn child_after(&self, dir: u64, after: Option<&[u16]>) -> Option<u64>
         ensures { result ≡ option_map (λ entry. entry.0) (slice_get (links_after self.now.table dir (option_copied after.entry) self.now.rows) 0) }
     {
-        self.names.child_after(&self.links, &self.table, dir, after)
+        self.names
+            .child_after(self.links.table(), &self.table, dir, after)
     }
 
     /// Whether there is a link in this directory.
@@ -140,6 +140,21 @@ impl LinkTable {
         self.links.as_slice()
     }
 
+    /// The least number above `after` that a link has; `None` exactly where there is none.
+    pub fn next(&self, after: u64) -> Option<u64>
+        ensures { IsNext self.now.rows after result }
+    {
+        self.links.next(after)
+    }
+
+    /// The links by their files, where the way from a directory up leads.
+    pub fn by_file(&self) -> &LinksByFile
+        ensures rows { result.now.rows ≡ self.now.rows }
+        ensures last { result.now.last ≡ self.now.last }
+    {
+        &self.links
+    }
+
     /// The link of this number; `None` exactly where there is none.
     pub fn get(&self, id: u64) -> Option<&LinkRow>
         ensures { option_copied result ≡ row_of self.now.rows id }
@@ -154,7 +169,7 @@ impl LinkTable {
         ensures last { self.new.last ≡ self.old.last }
         ensures rooms { self.new.rooms ≡ self.old.rooms }
     {
-        mark(&mut self.links, id, deleted);
+        self.links.mark(id, deleted);
     }
 
     /// Gives a link another name, in this directory or in another one, which no other link has there. It takes no
@@ -170,8 +185,8 @@ impl LinkTable {
             return;
         }
         self.names
-            .move_to(&self.links, &self.table, id, parent, name.units());
-        move_to(&mut self.links, id, parent, name);
+            .move_to(self.links.table(), &self.table, id, parent, name.units());
+        self.links.move_to(id, parent, name);
     }
 
     /// Takes the link of this number out; `None` exactly where there is none. It takes no memory, and
@@ -183,30 +198,7 @@ impl LinkTable {
         ensures last { self.new.last ≡ self.old.last }
         ensures rooms { self.new.rooms ≡ self.old.rooms }
     {
-        self.names.take(&self.links, &self.table, id);
+        self.names.take(self.links.table(), &self.table, id);
         self.links.remove(id)
-    }
-}
-
-// Marks a link for deletion, or clears its mark.
-fn mark(links: &mut Table<LinkRow>, id: u64, deleted: bool)
-    ensures rows { links.new.rows ≡ with_row_changed (λ row. record row { deleted = deleted }) links.old.rows id }
-    ensures last { links.new.last ≡ links.old.last }
-    ensures room { links.new.room ≡ links.old.room }
-{
-    if let Some(row) = links.get_mut(id) {
-        row.deleted = deleted;
-    }
-}
-
-// Gives a link another name, in this directory or in another one.
-fn move_to(links: &mut Table<LinkRow>, id: u64, parent: u64, name: Name)
-    ensures rows { links.new.rows ≡ with_row_changed (λ row. record row { parent = parent; name = name }) links.old.rows id }
-    ensures last { links.new.last ≡ links.old.last }
-    ensures room { links.new.room ≡ links.old.room }
-{
-    if let Some(row) = links.get_mut(id) {
-        row.parent = parent;
-        row.name = name;
     }
 }

@@ -1,5 +1,5 @@
 //! Tests that cross crates: whole runs of the program over bytes in memory, each with the bytes
-//! that it has to write. It has no code of its own.
+//! that it has to write, and turns of a machine (`turns`). It has no code of its own.
 #![tactic(auto)]
 
 #[cfg(test)]
@@ -16,3 +16,5 @@ mod rows;
 mod tests;
 #[cfg(test)]
 mod troubles;
+#[cfg(test)]
+mod turns;

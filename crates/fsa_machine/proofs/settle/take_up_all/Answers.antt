@@ -15,6 +15,8 @@ turns-init g c = record {
   told = told-none (g.S.Store.content c.args.store.now) c.args.ended.now.items;
   told_room = refl;
   named_room = refl;
+  tries = omega arith;
+  rises = omega arith;
   named = rw c.requires.none (omega (arith, c.requires.named));
 }
 
@@ -32,6 +34,8 @@ turns-preserved g c =
       told = told-on _ _ _ _ _ _ _ _ on c.turns.invariant.told c.take_up.ensures.told;
       named_room = c.take_up.ensures.named_room ∙ c.turns.invariant.named_room;
       told_room = c.take_up.ensures.told_room ∙ c.turns.invariant.told_room;
+      tries = omega (arith, c.turns.invariant.tries, c.take_up.ensures.tries);
+      rises = omega (arith, c.turns.invariant.rises, c.take_up.ensures.rises);
       named = omega (arith, on.named, c.turns.invariant.named, c.take_up.ensures.named_room);
     }
 

@@ -1,6 +1,9 @@
-use Rattle.std.proofs.Common.{List, length, ap, lt-ltb, arith}
+use Rattle.std.proofs.Common.{◌≡◌, List, length, ap, lt-ltb, arith}
 use Rattle.fsa_types.specs.declared.reply.EndOf.{EndOf}
+use Rattle.fsa_model.specs.Engine.{own_tried}
 use Rattle.fsa_model.specs.Turn.{try, turn_number, volume_after}
+use Rattle.fsa_model.specs.Volume.{Volume}
+use Rattle.fsa_machine.specs.Released.{how_many_let_go}
 use Rattle.fsa_machine.proofs.ServeLaws.{SameBase-next}
 use Rattle.fsa_machine.proofs.StallLaws.{own-answered, told-length}
 use Rattle.fsa_machine.proofs.turns.turn_in_room.Goals as goal
@@ -34,3 +37,8 @@ returns-clause-longer g c = (let own = own-answered (g.S.Store.content c.args.st
 
 pub returns-clause-serves : goal.returns-clause-serves
 returns-clause-serves g c = (let own = own-answered (g.S.Store.content c.args.store.now) (g.S.Store.content c.answer_own.new.store) c.args.call c.requires.serves c.requires.may_try (lt-ltb 0 c.args.call.number c.requires.number) c.requires.may c.requires.new c.in_ok-answer.ensures.content in record { serves = c.settle.ensures.serves.serves; base = SameBase-next own.serves.base c.settle.ensures.serves.base })
+
+pub returns-clause-tries : goal.returns-clause-tries
+returns-clause-tries g c =
+    let own : how_many_let_go (g.S.Store.content c.answer_own.new.store) ≡ how_many_let_go (own_tried (g.S.Store.content c.args.store.now) c.args.call) = ap (λ (v : Volume). how_many_let_go v) c.in_ok-answer.ensures.content in
+    omega (arith, own, c.answer_own.ensures.tries, c.settle.ensures.tries)

@@ -1,4 +1,4 @@
-use Rattle.link_index.proofs.OrderLaws.{after-same, after-new}
+use Rattle.link_index.proofs.NameLaws.{after-same, after-new}
 use Rattle.link_index.proofs.directory.place_after.Goals as goal
 
 pub returns-in-Ok : goal.returns-in-Ok

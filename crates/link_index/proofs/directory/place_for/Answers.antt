@@ -1,6 +1,6 @@
 use Rattle.std.proofs.Common.{Ok}
 use Rattle.link_index.specs.Directory.{IsPlace}
-use Rattle.link_index.proofs.OrderLaws.{new-unfound}
+use Rattle.link_index.proofs.NameLaws.{new-unfound}
 use Rattle.link_index.proofs.directory.place_for.Goals as goal
 
 pub returns-in-Ok : goal.returns-in-Ok

@@ -1,7 +1,7 @@
 use Rattle.std.proofs.Common.{◌≡◌, rules, refl}
 use Rattle.link_index.proofs.EntryLaws.{answers_by}
 use Rattle.fsa_types.specs.CaseTable.{cmp_name}
-use Rattle.link_index.proofs.OrderLaws.{place-searched}
+use Rattle.link_index.proofs.NameLaws.{place-searched}
 use Rattle.link_index.proofs.directory.place_of.Goals as goal
 
 -- the closure compares an entry's name with the name

@@ -1,6 +1,6 @@
 use Rattle.std.proofs.Common.{List, ap, sym, ◌∙◌, suc, arith}
 use Rattle.notify_queue.specs.Due.{due_among, size_from}
-use Rattle.notify_queue.specs.declared.log.Entry.{Entry}
+use Rattle.notify_queue.specs.declared.part.Entry.{Entry}
 use Rattle.notify_queue.proofs.DueLaws.{size-step}
 use Rattle.notify_queue.proofs.watch.size_among.Goals as goal
 

@@ -2,7 +2,7 @@ use Rattle.std.proofs.Common.{ℕ, ◌+◌, ◌<◌, List, length, sym, subst, a
 use Rattle.fsa_types.specs.OplockLists.{effect_on, left_by}
 use Rattle.fsa_types.specs.Oplocks.{Oplock}
 use Rattle.volume_breaks.specs.Oplocks.{state_of}
-use Rattle.volume_tables.specs.HandleTable.{stream_of_handle}
+use Rattle.oplock_state.specs.Homes.{home_of_handle}
 use Rattle.oplock_state.specs.Tables.{rows_at}
 use Rattle.oplock_state.proofs.BeginLemmas.{AreBegun, begun-all, begun-more, last-few, next-at, next-home, steps-room}
 use Rattle.oplock_state.proofs.oplock_table.begin_all.Goals as goal
@@ -35,8 +35,8 @@ loop-place-preserved c =
           (begun-more c.args.handles.now.rows c.args.class (state_of c.args.list.now) chosen c.loop-place.place c.loop-place.tables new c.loop-place.last oplock c.loop-place.invariant.begun within c.chosen_at.ensures c.requires.there.differ c.begin_in_table-last.ensures.step);
       room = λ key.
           (let before = c.loop-place.invariant.room key in
-          let more = steps-room (stream_of_handle c.args.handles.now.rows oplock.handle) c.loop-place.tables new
-          (λ stream. left_by (effect_on c.args.class oplock) oplock.handle (c.loop-place.last + 1) (rows_at c.loop-place.tables stream)) _ home c.begin_in_table-last.ensures.step key in
+          let more = steps-room (home_of_handle c.args.handles.now.rows oplock.handle) c.loop-place.tables new
+          (λ home. left_by (effect_on c.args.class oplock) oplock.handle (c.loop-place.last + 1) (rows_at c.loop-place.tables home)) _ home c.begin_in_table-last.ensures.step key in
           omega arith);
       numbers = (let few = last-few (effect_on c.args.class oplock) c.loop-place.last in let before = c.loop-place.invariant.numbers in omega arith);
     }

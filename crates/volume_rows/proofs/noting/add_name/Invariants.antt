@@ -9,5 +9,6 @@ invariant-loop-i l = record {
   changes : l.log.changes ≡ l.fn.log.changes;
   room : l.log.room ≡ l.fn.log.room;
   dirs : l.log.dirs ≡ l.fn.log.dirs;
+  base : l.log.base ≡ l.fn.log.base;
   left : l.fn.log.units ≤ l.log.units + l.i;
 }

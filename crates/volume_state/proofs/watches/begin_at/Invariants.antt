@@ -1,10 +1,10 @@
 use Rattle.std.proofs.Common.{◌≡◌, ◌++◌, take, drop}
 use Rattle.std.specs.Prelude.{map}
-use Rattle.fsa_model.specs.Watching.{begun_at}
+use Rattle.volume_state.specs.Watches.{row_begun}
 use Rattle.volume_state.proofs.watches.begin_at.Given as goal
 
 abbrev pub invariant-loop-i : goal.invariant-loop-i
 invariant-loop-i l = record {
-  items : l.watches.items ≡ map (begun_at l.handle l.place) (take l.i l.fn.watches.items) ++ drop l.i l.fn.watches.items;
+  items : l.watches.items ≡ map (row_begun l.handle l.place) (take l.i l.fn.watches.items) ++ drop l.i l.fn.watches.items;
   room : l.watches.room ≡ l.fn.watches.room;
 }

@@ -8,7 +8,9 @@ use Rattle.fsa_machine.proofs.machine.Machine.over.Goals as goal
 
 pub invariant_of-result : goal.invariant_of-result
 invariant_of-result g c = (
-  subst (λ (kept : List KeptTurn). RunsTo (setup_in (g.S.Store.content c.args.store)) (map entry_of kept) (map out_kept kept) (g.S.Store.content c.args.store)) (sym c.new-kept.ensures.items)
-      (RunsTo-begins (setup_in (g.S.Store.content c.args.store)) (g.S.Store.content c.args.store) c.requires.fresh),
+  rw c.trim.ensures.content
+      (subst (λ (kept : List KeptTurn). RunsTo (setup_in (g.S.Store.content c.args.store)) (map entry_of kept) (map out_kept kept) (g.S.Store.content c.args.store)) (sym c.new-kept.ensures.items)
+      (RunsTo-begins (setup_in (g.S.Store.content c.args.store)) (g.S.Store.content c.args.store) c.requires.fresh)),
   none-spare _ _ _ _ _ _ c.none-spare.ensures,
+  c.trim.ensures.trimmed,
 )

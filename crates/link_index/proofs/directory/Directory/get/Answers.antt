@@ -2,7 +2,7 @@ use Rattle.std.proofs.Common.{◌∙◌, ap, sym, Ok, Err}
 use Rattle.std.specs.Prelude.{option_map}
 use Rattle.link_index.specs.Directory.{IsPlace}
 use Rattle.link_index.proofs.EntryLaws.{slice_get-here}
-use Rattle.link_index.proofs.OrderLaws.{entry_of-here, entry_of-none, none-named}
+use Rattle.link_index.proofs.NameLaws.{entry_of-here, entry_of-none, none-named}
 use Rattle.link_index.proofs.directory.Directory.get.Goals as goal
 
 pub returns-in-Ok-clause-link : goal.returns-in-Ok-clause-link

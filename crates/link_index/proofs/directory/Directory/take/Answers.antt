@@ -1,7 +1,7 @@
 use Rattle.std.proofs.Common.{◌∙◌, sym, Ok, Err}
 use Rattle.link_index.specs.Directory.{IsPlace, is_named}
 use Rattle.link_index.proofs.EntryLaws.{slice_get-here, filter-fails}
-use Rattle.link_index.proofs.OrderLaws.{entry_of-here, entry_of-none, without-here, without-none, none-named}
+use Rattle.link_index.proofs.NameLaws.{entry_of-here, entry_of-none, without-here, without-none, none-named}
 use Rattle.link_index.proofs.directory.Directory.take.Goals as goal
 
 pub returns-in-Ok-clause-entry : goal.returns-in-Ok-clause-entry

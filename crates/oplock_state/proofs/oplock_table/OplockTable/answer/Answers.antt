@@ -9,7 +9,7 @@ use Rattle.oplock_state.proofs.oplock_table.OplockTable.answer.Goals as goal
 
 pub returns-in_default-clause-kept : goal.returns-in_default-clause-kept
 returns-in_default-clause-kept c =
-    let none = target-homeless c.args.handles.now.rows c.args.self.now.rows c.args.handle (sym c.stream_of.ensures ∙ c.in_default.is) c.requires.sorted.homes in
+    let none = target-homeless c.args.handles.now.rows c.args.self.now.rows c.args.handle (sym c.home_of_handle.ensures ∙ c.in_default.is) c.requires.sorted.homes in
     rw none refl
 
 pub returns-in_default-ack-clause-kept : goal.returns-in_default-ack-clause-kept
@@ -17,8 +17,8 @@ returns-in_default-ack-clause-kept c =
     let i = c.self.inside in
     let handles = c.args.handles.now.rows in
     let sorted : AreSorted handles i.list.rows i.tables = rw (← c.self.view_is) at c.requires.sorted in
-    let found = sym c.stream_of.ensures ∙ c.in-Some.is in
-    let same = target-at handles i.list.rows i.tables c.args.handle c.in-Some.stream found sorted in
+    let found = sym c.home_of_handle.ensures ∙ c.in-Some.is in
+    let same = target-at handles i.list.rows i.tables c.args.handle c.in-Some.home found sorted in
     rw (← c.self.view_is) (sym c.in_default-ack.is ∙ c.ack.ensures.kept ∙ ap (option_map (λ (target : Level). in_both c.args.level target)) same)
 
 pub returns-clause-kept : goal.returns-clause-kept
@@ -26,8 +26,8 @@ returns-clause-kept c =
     let i = c.self.inside in
     let handles = c.args.handles.now.rows in
     let sorted : AreSorted handles i.list.rows i.tables = rw (← c.self.view_is) at c.requires.sorted in
-    let found = sym c.stream_of.ensures ∙ c.in-Some.is in
-    let same = target-at handles i.list.rows i.tables c.args.handle c.in-Some.stream found sorted in
+    let found = sym c.home_of_handle.ensures ∙ c.in-Some.is in
+    let same = target-at handles i.list.rows i.tables c.args.handle c.in-Some.home found sorted in
     rw (← c.self.view_is) (sym c.in-Some-ack.is ∙ c.ack.ensures.kept ∙ ap (option_map (λ (target : Level). in_both c.args.level target)) same)
 
 pub returns-clause-sorted : goal.returns-clause-sorted
@@ -35,11 +35,11 @@ returns-clause-sorted c =
     let i = c.self.inside in
     let handles = c.args.handles.now.rows in
     let sorted : AreSorted handles i.list.rows i.tables = rw (← c.self.view_is) at c.requires.sorted in
-    let found = sym c.stream_of.ensures ∙ c.in-Some.is in
-    let stream = c.in-Some.stream in
+    let found = sym c.home_of_handle.ensures ∙ c.in-Some.is in
+    let home = c.in-Some.home in
     let kept = c.in-Some-ack.kept in
-    let rows = kept-rows c.args.level kept (λ level. after_answer c.args.handle level c.args.turn (rows_at i.tables stream)) (rows_at i.tables stream) (target_among c.args.handle (rows_at i.tables stream))
+    let rows = kept-rows c.args.level kept (λ level. after_answer c.args.handle level c.args.turn (rows_at i.tables home)) (rows_at i.tables home) (target_among c.args.handle (rows_at i.tables home))
     (sym c.in-Some-ack.is ∙ c.ack.ensures.kept) in
-    let step = subst (λ (left : List Oplock). IsStep i.tables c.ack.new.self stream left (last_at i.tables stream) 0) rows c.ack.ensures.step in
+    let step = subst (λ (left : List Oplock). IsStep i.tables c.ack.new.self home left (last_at i.tables home) 0) rows c.ack.ensures.step in
     rw c.answer.ensures
-    (sorted-local handles i.list.rows i.tables c.ack.new.self c.args.handle stream (last_at i.tables stream) 0 (after_answer c.args.handle kept c.args.turn) (local-answer c.args.handle kept c.args.turn) found sorted step)
+    (sorted-local handles i.list.rows i.tables c.ack.new.self c.args.handle home (last_at i.tables home) 0 (after_answer c.args.handle kept c.args.turn) (local-answer c.args.handle kept c.args.turn) found sorted step)

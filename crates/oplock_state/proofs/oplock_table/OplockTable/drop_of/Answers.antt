@@ -8,7 +8,7 @@ pub invariant_of-self : goal.invariant_of-self
 invariant_of-self c =
     let i = c.self.inside in
     rw c.drop_of.ensures
-    (fit-dropped i.list.rooms i.list.last i.tables c.drop_in_table.new.tables c.stream_of.result (λ own. without_oplock_of c.args.handle (rows_at i.tables own)) c.drop_in_table.ensures.own c.drop_in_table.ensures.none c.self.invariant)
+    (fit-dropped i.list.rooms i.list.last i.tables c.drop_in_table.new.tables c.home_of_handle.result (λ own. without_oplock_of c.args.handle (rows_at i.tables own)) c.drop_in_table.ensures.own c.drop_in_table.ensures.none c.self.invariant)
 
 pub returns-clause-sorted : goal.returns-clause-sorted
 returns-clause-sorted c =
@@ -16,4 +16,4 @@ returns-clause-sorted c =
     let handles = c.args.handles.now.rows in
     let sorted : AreSorted handles i.list.rows i.tables = rw (← c.self.view_is) at c.requires.sorted in
     rw c.drop_of.ensures
-    (sorted-dropped handles i.list.rows i.tables c.drop_in_table.new.tables c.args.handle c.stream_of.result (sym c.stream_of.ensures) c.drop_in_table.ensures.own c.drop_in_table.ensures.none sorted)
+    (sorted-dropped handles i.list.rows i.tables c.drop_in_table.new.tables c.args.handle c.home_of_handle.result (sym c.home_of_handle.ensures) c.drop_in_table.ensures.own c.drop_in_table.ensures.none sorted)

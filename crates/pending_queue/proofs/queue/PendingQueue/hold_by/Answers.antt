@@ -1,6 +1,6 @@
 use Rattle.std.proofs.Common.{arith, length}
 use Rattle.std.proofs.lemmas.Bool.{false≢true}
-use Rattle.pending_queue.proofs.CountLemmas.{AreCounted-put, length-put, seen-put}
+use Rattle.pending_queue.proofs.CountLemmas.{AreCounted-put, counts-all, length-put, seen-put}
 use Rattle.pending_queue.proofs.queue.PendingQueue.hold_by.Goals as goal
 
 pub returns-in_err-put_count-clause-succeeds : goal.returns-in_err-put_count-clause-succeeds
@@ -19,5 +19,9 @@ returns-clause-calls_left c = rw (← c.self.view_is) (
 
 pub invariant_of-self-2 : goal.invariant_of-self-2
 invariant_of-self-2 c =
-    rw (c.least_ready-self-inside.ensures, c.deref.ensures.value, c.put_blockers.ensures.items, c.in_ok-put_count.ensures.ok, c.reserve.ensures.items)
+    rw (c.least_ready-self-inside.ensures, c.deref-2.ensures.value, c.put_blockers.ensures.items, c.in_ok-put_count.ensures.ok, c.reserve.ensures.items)
     (AreCounted-put c.self.inside.calls.items c.self.inside.waited.items c.self.inside.first c.args.turn c.args.blockers.now c.self.invariant)
+
+pub put_blockers-requires-clause-count : goal.put_blockers-requires-clause-count
+put_blockers-requires-clause-count c =
+    rw c.reserve.ensures.items (counts-all c.self.inside.calls.items c.self.inside.waited.items c.self.inside.first c.args.turn c.count_of-count.result c.self.invariant (rw c.deref.ensures.value at c.count_of-count.ensures))

@@ -1,7 +1,8 @@
-use Rattle.std.proofs.Common.{arith, ◌≡◌}
+use Rattle.std.proofs.Common.{arith, ◌≡◌, ◌∙◌}
 use Rattle.pending_queue.specs.PendingQueue.{held_among}
 use Rattle.volume_breaks.proofs.CallLemmas.{AreCalls-changed, held-changed}
 use Rattle.volume_breaks.proofs.OrderLemmas.{AreInOrder-changed}
+use Rattle.volume_breaks.proofs.WaitingLemmas.{has_wait-changed}
 use Rattle.volume_breaks.proofs.pending_calls.PendingCalls.hold_anew.Goals as goal
 
 pub invariant_of-self : goal.invariant_of-self
@@ -17,6 +18,7 @@ invariant_of-self c = (
         blockers_fit = omega (arith, places.blockers_fit, waiting, c.len.ensures, blockers);
       }),
   rw c.set_blockers.ensures.items (AreInOrder-changed c.self.inside.rising c.self.inside.rows.items c.args.turn c.args.blockers.items c.self.invariant.2),
+  rw c.set_blockers.ensures.items (c.self.invariant.3 ∙ has_wait-changed c.self.inside.rows.items c.args.turn c.args.blockers.items),
 )
 
 pub returns-clause-held : goal.returns-clause-held

@@ -1,7 +1,10 @@
-use Rattle.std.proofs.Common.{arith, ◌≡◌}
+use Rattle.std.proofs.Common.{arith, ap, ◌≡◌, ◌∙◌, Bool}
+use Rattle.std.specs.Prelude.{◌||◌}
+use Rattle.fsa_model.specs.Waiting.{is_wait}
 use Rattle.pending_queue.specs.PendingQueue.{held_among}
 use Rattle.volume_breaks.proofs.CallLemmas.{AreCalls-push, held-push}
 use Rattle.volume_breaks.proofs.OrderLemmas.{AreInOrder-push}
+use Rattle.volume_breaks.proofs.WaitingLemmas.{has_wait-push}
 use Rattle.volume_breaks.proofs.pending_calls.PendingCalls.pend.Goals as goal
 
 pub invariant_of-self : goal.invariant_of-self
@@ -21,6 +24,9 @@ invariant_of-self c = (
   rw c.in-Ok.ensures.items (
       AreInOrder-push c.self.inside.rising c.stays_rising-self-inside.result c.self.inside.rows.items c.args.turn (record { call = c.args.call; blockers = c.args.blockers.items }) c.self.invariant.2
       c.stays_rising-self-inside.ensures.rose (rw c.deref.ensures.value at c.stays_rising-self-inside.ensures.behind)),
+  rw (c.waits_with-self-inside.ensures, c.in-Ok.ensures.items) (
+      ap (λ (waiting : Bool). waiting || is_wait c.args.call.what) c.self.invariant.3
+      ∙ has_wait-push c.self.inside.rows.items c.args.turn (record { call = c.args.call; blockers = c.args.blockers.items })),
 )
 
 pub returns-clause-held : goal.returns-clause-held

@@ -18,6 +18,8 @@ invariant_of-self c = (
       (tallied-file_added c.self.inside.files.rows (content_of c.self.inside).streams c.self.inside.space c.admit.new.self (c.self.inside.files.last + 1, c.args.file)
       c.self.invariant.0.tree.stream_files_live (subst (λ owner. Admits c.self.inside.space c.admit.new.self owner) (ap (λ (file : File). file.owner) c.file.view_is) c.admit.ensures) c.self.invariant.2),
   c.self.invariant.3,
+  c.self.invariant.4,
+  c.self.invariant.5,
 )
 
 pub returns-clause-not_root : goal.returns-clause-not_root

@@ -7,6 +7,7 @@ use Rattle.fsa_model.specs.Lookups.{is_directory}
 use Rattle.fsa_model.specs.Volume.{Link}
 use Rattle.fsa_model.proofs.RowLaws.{or_right}
 use Rattle.volume_state.proofs.OpenLaws.{any-last}
+use Rattle.volume_state.proofs.WatchedLaws.{watched-link_added}
 use Rattle.volume_state.proofs.volume.Volume.add_link.Goals as goal
 
 pub invariant_of-self : goal.invariant_of-self
@@ -19,6 +20,8 @@ invariant_of-self c = (
   c.self.invariant.1,
   c.self.invariant.2,
   c.self.invariant.3,
+  rw c.add.ensures.rows (watched-link_added c.self.inside.handles.rows c.self.inside.links.rows _ c.self.inside.changes.changes c.self.inside.pending.items c.self.inside.watches.items c.self.invariant.4),
+  c.self.invariant.5,
 )
 
 pub returns-clause-row : goal.returns-clause-row

@@ -20,4 +20,6 @@ invariant_of-self c =
           (record { handle = c.args.handle; at = c.args.at; count = c.args.count; exclusive = c.args.exclusive }) c.self.invariant.0.blockers_given c.self.invariant.1),
       c.self.invariant.2,
       rw c.add_lock.ensures.locks c.self.invariant.3,
+      rw c.add_lock.ensures.locks c.self.invariant.4,
+      c.self.invariant.5,
     )

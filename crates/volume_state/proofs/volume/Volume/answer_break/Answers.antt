@@ -1,5 +1,6 @@
 use Rattle.volume_state.specs.Content.{content_of}
 use Rattle.volume_state.proofs.GrantLaws.{IsSound-with_answer, held-answered}
+use Rattle.volume_state.proofs.SortedLaws.{homes-fit}
 use Rattle.volume_state.proofs.volume.Volume.answer_break.Goals as goal
 
 pub invariant_of-self : goal.invariant_of-self
@@ -10,7 +11,12 @@ invariant_of-self c = (
       c.self.invariant.0.oplocks (rw c.as_slice-2.ensures at c.release_breaks.ensures.held) c.self.invariant.1),
   c.self.invariant.2,
   c.answer.ensures.sorted,
+  rw c.release_breaks.ensures.others c.self.invariant.4,
+  c.self.invariant.5,
 )
 
 pub answer-requires-clause-sorted : goal.answer-requires-clause-sorted
 answer-requires-clause-sorted c = c.self.invariant.3
+
+pub answer-requires-clause-fit : goal.answer-requires-clause-fit
+answer-requires-clause-fit c = homes-fit (content_of c.self.inside) c.self.invariant.0

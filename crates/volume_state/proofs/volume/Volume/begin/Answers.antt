@@ -8,10 +8,13 @@ use Rattle.fsa_model.proofs.BreakLaws.{IsSound-with_breaks, chosen-few, with_bre
 use Rattle.volume_breaks.specs.Breaks.{with_held}
 use Rattle.volume_state.specs.Held.{is_there}
 use Rattle.volume_state.specs.Content.{content_of}
+use Rattle.volume_state.specs.Watches.{AreWatched}
 use Rattle.oplock_state.specs.Tables.{Tabled}
 use Rattle.oplock_state.proofs.SortLemmas.{chosen-there}
 use Rattle.volume_state.specs.VolumeView.{VolumeView}
 use Rattle.volume_state.proofs.ThereLaws.{held-with_breaks}
+use Rattle.volume_state.proofs.SortedLaws.{homes-fit}
+use Rattle.volume_state.proofs.WatchedLaws.{fewer-breaks, watched-fewer}
 use Rattle.volume_state.proofs.volume.Volume.begin.Goals as goal
 
 pub break_chosen-requires-clause-room : goal.break_chosen-requires-clause-room
@@ -56,6 +59,9 @@ invariant_of-self c =
           (held-with_breaks v c.args.handles c.args.class c.args.handle c.args.key c.self.inside.pending c.self.invariant.0.oplocks c.self.invariant.0.blockers_given c.self.invariant.1)),
       c.self.invariant.2,
       rw c.await_breaks.ensures.waited c.break_chosen.ensures.sorted,
+      subst (λ (w : Volume). AreWatched v.handles v.links v.changes w.pending c.self.inside.watches.items) (sym broken)
+          (watched-fewer v.handles v.links v.changes v.pending (with_breaks v c.args.handles c.args.class c.args.handle c.args.key).pending c.self.inside.watches.items (fewer-breaks v c.args.handles c.args.class c.args.handle c.args.key) c.self.invariant.4),
+      c.self.invariant.5,
     )
 
 pub returns-clause-content : goal.returns-clause-content
@@ -114,3 +120,6 @@ returns-clause-count c =
     ∙ ap (λ (w : Volume). awaited_among c.args.class c.break_chosen.new.oplocks.chosen w.oplocks) broken
     ∙ ap (λ (oplocks : List Oplock). awaited_among c.args.class oplocks (with_breaks v c.args.handles c.args.class c.args.handle c.args.key).oplocks) picked in
     c.await_breaks.ensures.count ∙ ap (λ (numbers : List ℕ). length numbers) waited ∙ ap (λ (seen : VolumeView). length (awaited seen.content c.args.handles c.args.class c.args.handle c.args.key)) c.self.view_is
+
+pub break_chosen-requires-clause-fit : goal.break_chosen-requires-clause-fit
+break_chosen-requires-clause-fit c = homes-fit (content_of c.self.inside) c.self.invariant.0

@@ -14,4 +14,6 @@ invariant_of-self-2 c =
           held-without_lock c.self.inside.oplocks.rows c.self.inside.handles.locks c.self.inside.pending c.in-Some.number c.self.invariant.1),
       c.self.invariant.2,
       rw c.remove_lock.ensures.locks c.self.invariant.3,
+      rw (c.remove_lock.ensures.locks, c.ended.ensures) c.self.invariant.4,
+      c.self.invariant.5,
     )

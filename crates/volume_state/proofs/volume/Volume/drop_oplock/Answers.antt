@@ -1,6 +1,7 @@
 use Rattle.fsa_model.proofs.SoundWaits.{IsSound-without_oplock}
 use Rattle.volume_state.specs.Content.{content_of}
 use Rattle.volume_state.proofs.GrantLaws.{held-without_oplock}
+use Rattle.volume_state.proofs.SortedLaws.{homes-fit}
 use Rattle.volume_state.proofs.volume.Volume.drop_oplock.Goals as goal
 
 pub invariant_of-self : goal.invariant_of-self
@@ -11,4 +12,9 @@ invariant_of-self c = (
       c.self.invariant.0.oplocks (rw c.as_slice.ensures at c.release_breaks.ensures.held) c.self.invariant.1),
   c.self.invariant.2,
   c.drop_of.ensures.sorted,
+  rw c.release_breaks.ensures.others c.self.invariant.4,
+  c.self.invariant.5,
 )
+
+pub drop_of-requires-clause-fit : goal.drop_of-requires-clause-fit
+drop_of-requires-clause-fit c = homes-fit (content_of c.self.inside) c.self.invariant.0

@@ -26,6 +26,8 @@ invariant_of-self c = (
       (tallied-without c.self.inside.files.rows (content_of c.self.inside).streams c.self.inside.space c.resize.new.space c.args.stream c.self.invariant.0.streams_numbered.rising
       c.self.invariant.0.tree.stream_files_live c.self.invariant.2 (rw c.part_of_stream-part.ensures at c.resize.ensures.some) (rw c.part_of_stream-part.ensures at c.resize.ensures.none)),
   c.self.invariant.3,
+  c.self.invariant.4,
+  c.self.invariant.5,
 )
 
 pub returns-clause-content : goal.returns-clause-content

@@ -1,7 +1,7 @@
 use Rattle.std.proofs.Common.{◌≡◌, refl, ◌∙◌, List, Some, sym, ap, subst}
 use Rattle.std.specs.Prelude.{fold}
 use Rattle.fsa_types.specs.OplockGrants.{after_grant}
-use Rattle.fsa_model.specs.Grant.{is_oplock_on, switched, with_granted}
+use Rattle.fsa_model.specs.Grant.{is_oplock_on, with_granted}
 use Rattle.fsa_model.specs.Sound.{IsSound}
 use Rattle.fsa_model.specs.Volume.{Oplock, Volume}
 use Rattle.oplock_state.specs.Tables.{GrantsTabled, is_at}
@@ -10,8 +10,11 @@ use Rattle.oplock_state.specs.declared.stream_tables.Asked.{Asked}
 use Rattle.volume_breaks.specs.Breaks.{with_calls, with_switch_told}
 use Rattle.volume_state.specs.Held.{is_there}
 use Rattle.volume_state.specs.Content.{content_of}
+use Rattle.volume_state.specs.Watches.{AreWatched}
 use Rattle.volume_state.specs.Room.{stream_of_handle}
 use Rattle.volume_state.proofs.GrantLaws.{IsSound-with_granted, granted-content, held-granted, none-breaking}
+use Rattle.volume_state.proofs.SortedLaws.{homes-fit}
+use Rattle.volume_state.proofs.WatchedLaws.{fewer-granted, watched-fewer}
 use Rattle.volume_state.proofs.volume.Volume.grant_to.Goals as goal
 
 pub grant-requires-clause-home : goal.grant-requires-clause-home
@@ -34,6 +37,8 @@ invariant_of-self c =
       rw grants.1 c.self.invariant.1,
       c.self.invariant.2,
       c.grant.ensures.sorted,
+      c.self.invariant.4,
+      c.self.invariant.5,
     )
 
 pub returns-in-Refused-clause-grants : goal.returns-in-Refused-clause-grants
@@ -60,6 +65,9 @@ invariant_of-self-in-Granted c =
           (none-breaking v opened.handle opened.key opened.stream c.args.level grants.0) c.self.invariant.1)),
       c.self.invariant.2,
       c.grant.ensures.sorted,
+      subst (λ (w : Volume). AreWatched v.handles v.links v.changes w.pending c.self.inside.watches.items) (sym granted)
+          (watched-fewer v.handles v.links v.changes v.pending (with_granted v opened.handle opened.key opened.stream c.args.level c.args.turn).pending c.self.inside.watches.items (fewer-granted v opened.handle opened.key opened.stream c.args.level c.args.turn) c.self.invariant.4),
+      c.self.invariant.5,
     )
 
 pub returns-in-Granted-clause-grants : goal.returns-in-Granted-clause-grants
@@ -70,3 +78,6 @@ returns-in-Granted-clause-grants c =
     let granted = granted-content v opened.handle opened.key opened.stream c.args.level c.args.turn c.end_switched.new.pending.items c.end_switched.new.ended.items
     (λ w. c.end_switched.ensures.done w ∙ ap (λ (all : List Oplock). fold with_switch_told (with_calls w v.pending v.ended) all) (c.chosen.ensures ∙ grants.2)) in
     rw (← c.self.view_is) (grants.0, rw (c.grant.ensures.rest, grants.1) granted)
+
+pub grant-requires-clause-fit : goal.grant-requires-clause-fit
+grant-requires-clause-fit c = homes-fit (content_of c.self.inside) c.self.invariant.0

@@ -2,6 +2,7 @@ use Rattle.fsa_model.proofs.SoundWaits.{IsSound-with_blockers}
 use Rattle.volume_state.specs.Held.{is_there}
 use Rattle.volume_state.specs.Content.{content_of}
 use Rattle.volume_state.proofs.ThereLaws.{all-given, all-there, found-held, queue-held}
+use Rattle.volume_state.proofs.WatchedLaws.{fewer-blockers, watched-fewer}
 use Rattle.volume_state.proofs.volume.Volume.hold_anew.Goals as goal
 
 pub hold_anew-requires-clause-held : goal.hold_anew-requires-clause-held
@@ -21,4 +22,6 @@ invariant_of-self c =
       c.hold_anew.ensures.held (is_there v.oplocks v.locks) c.self.invariant.1 (all-there v c.args.blockers.items living),
       c.self.invariant.2,
       c.self.invariant.3,
+      rw c.hold_anew.ensures.items (watched-fewer c.self.inside.handles.rows c.self.inside.links.rows c.self.inside.changes.changes c.self.inside.pending.items _ c.self.inside.watches.items (fewer-blockers c.self.inside.pending.items c.args.turn c.args.blockers.items) c.self.invariant.4),
+      c.self.invariant.5,
     )

@@ -1,4 +1,4 @@
-use Rattle.std.proofs.Common.{ℕ, ◌<◌, [], false, length, refl}
+use Rattle.std.proofs.Common.{arith, ℕ, ◌<◌, [], false, length, refl}
 use Rattle.std.specs.Prelude.{IsSome}
 use Rattle.std.proofs.lemmas.List.Elements.{All-cons, All-map, All-nil}
 use Rattle.fsa_types.specs.Rows.{row_of}
@@ -28,7 +28,7 @@ invariant_of-result c = (
     c.new-3.ensures.last,
     c.new-3.ensures.locks,
     c.new-3.ensures.last_lock,
-    c.new-4.ensures,
+    c.new-4.ensures.changes,
     c.new-5.ensures,
     c.new-6.ensures.rows,
     c.new-6.ensures.last,
@@ -56,6 +56,8 @@ invariant_of-result c = (
         owners = All-cons (λ (entry : ℕ × File). IsSome (row_of c.in_ok-space.space.sums entry.1.owner)) (1, root) [] c.in_ok-space.ensures.owner (All-nil _);
       }),
   rw (c.new-3.ensures.rows, c.new-6.ensures.rows, c.new-6.ensures.tables) (sorted-none []),
+  rw c.new-8.ensures (All-nil _),
+  rw (c.new-8.ensures, c.new-4.ensures.changes, c.new-4.ensures.base) (record { within = omega arith; lie = All-nil _ }),
 )
 
 pub returns-clause-content : goal.returns-clause-content
@@ -77,7 +79,7 @@ returns-clause-content c =
       c.new-3.ensures.last,
       c.new-3.ensures.locks,
       c.new-3.ensures.last_lock,
-      c.new-4.ensures,
+      c.new-4.ensures.changes,
       c.new-5.ensures,
       c.new-6.ensures.rows,
       c.new-6.ensures.last,

@@ -10,12 +10,12 @@ use Rattle.volume_state.proofs.volume.Volume.pending.Goals as goal
 
 pub returns-clause-lives : goal.returns-clause-lives
 returns-clause-lives c =
-    rw (← c.self.view_is) (lent-living (λ (row : Pending). row.call) c.self.inside.pending.items c.args.turn c.find_pending.result (rw c.as_slice.ensures at c.find_pending.ensures))
+    rw (← c.self.view_is) (lent-living (λ (row : Pending). row.call) c.self.inside.pending.items c.args.turn c.call_of.result c.call_of.ensures)
 
 pub returns-clause-client : goal.returns-clause-client
 returns-clause-client c =
     let rows = c.self.inside.pending.items in
     rw (← c.self.view_is)
-    (lent-row (λ (call : Call). call.client < length (content_of c.self.inside).clients) c.find_pending.result (option_map (λ (row : Pending). row.call) (row_of rows c.args.turn)) (rw c.as_slice.ensures at c.find_pending.ensures)
+    (lent-row (λ (call : Call). call.client < length (content_of c.self.inside).clients) c.call_of.result (option_map (λ (row : Pending). row.call) (row_of rows c.args.turn)) c.call_of.ensures
     (IfSome-map (λ (call : Call). call.client < length (content_of c.self.inside).clients) (λ (row : Pending). row.call) (row_of rows c.args.turn)
     (found-all (λ (row : Pending). row.call.client < length (content_of c.self.inside).clients) rows c.args.turn c.self.invariant.0.pending.have_clients)))

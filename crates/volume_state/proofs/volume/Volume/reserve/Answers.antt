@@ -1,4 +1,6 @@
 use Rattle.std.proofs.Common.{rules}
+use Rattle.volume_state.proofs.SortedLaws.{homes-fit}
+use Rattle.volume_state.specs.Content.{content_of}
 use Rattle.volume_state.proofs.volume.Volume.reserve.Goals as goal
 
 pub returns-clause-room : goal.returns-clause-room
@@ -26,6 +28,8 @@ invariant_of-self-in_err-reserve_oplocks c = (
   search rules,
   search rules,
   c.reserve_oplocks.ensures.sorted c.reserve_locks.new.self.rows (rw (c.reserve_locks.ensures.rows, c.reserve-4.ensures.rows) c.self.invariant.3),
+  rw (c.reserve_locks.ensures.rows, c.reserve-4.ensures.rows, c.reserve-2.ensures.rows, c.reserve-6.ensures.changes) c.self.invariant.4,
+  rw (c.reserve-6.ensures.changes, c.reserve-6.ensures.base) c.self.invariant.5,
 )
 
 pub invariant_of-self-in_err-reserve-7 : goal.invariant_of-self-in_err-reserve-7
@@ -34,6 +38,8 @@ invariant_of-self-in_err-reserve-7 c = (
   search rules,
   search rules,
   c.reserve_oplocks.ensures.sorted c.reserve_locks.new.self.rows (rw (c.reserve_locks.ensures.rows, c.reserve-4.ensures.rows) c.self.invariant.3),
+  rw (c.reserve_locks.ensures.rows, c.reserve-4.ensures.rows, c.reserve-2.ensures.rows, c.reserve-6.ensures.changes, c.reserve-7.ensures.items) c.self.invariant.4,
+  rw (c.reserve-6.ensures.changes, c.reserve-6.ensures.base) c.self.invariant.5,
 )
 
 pub invariant_of-self-in_err-reserve-8 : goal.invariant_of-self-in_err-reserve-8
@@ -42,6 +48,8 @@ invariant_of-self-in_err-reserve-8 c = (
   search rules,
   search rules,
   c.reserve_oplocks.ensures.sorted c.reserve_locks.new.self.rows (rw (c.reserve_locks.ensures.rows, c.reserve-4.ensures.rows) c.self.invariant.3),
+  rw (c.reserve_locks.ensures.rows, c.reserve-4.ensures.rows, c.reserve-2.ensures.rows, c.reserve-6.ensures.changes, c.reserve-7.ensures.items, c.reserve-8.ensures.items) c.self.invariant.4,
+  rw (c.reserve-6.ensures.changes, c.reserve-6.ensures.base, c.reserve-8.ensures.items) c.self.invariant.5,
 )
 
 pub invariant_of-self-in_err-reserve-9 : goal.invariant_of-self-in_err-reserve-9
@@ -50,6 +58,8 @@ invariant_of-self-in_err-reserve-9 c = (
   search rules,
   search rules,
   c.reserve_oplocks.ensures.sorted c.reserve_locks.new.self.rows (rw (c.reserve_locks.ensures.rows, c.reserve-4.ensures.rows) c.self.invariant.3),
+  rw (c.reserve_locks.ensures.rows, c.reserve-4.ensures.rows, c.reserve-2.ensures.rows, c.reserve-6.ensures.changes, c.reserve-7.ensures.items, c.reserve-8.ensures.items) c.self.invariant.4,
+  rw (c.reserve-6.ensures.changes, c.reserve-6.ensures.base, c.reserve-8.ensures.items) c.self.invariant.5,
 )
 
 pub invariant_of-self-in_err-reserve-10 : goal.invariant_of-self-in_err-reserve-10
@@ -59,6 +69,8 @@ invariant_of-self-in_err-reserve-10 c = (
   (let tallied = c.self.invariant.2 in
       rw (c.reserve-10.ensures.space, c.reserve-3.ensures.rows, c.reserve.ensures.rows) (record { charges = tallied.charges; clusters = tallied.clusters; owners = tallied.owners })),
   c.reserve_oplocks.ensures.sorted c.reserve_locks.new.self.rows (rw (c.reserve_locks.ensures.rows, c.reserve-4.ensures.rows) c.self.invariant.3),
+  rw (c.reserve_locks.ensures.rows, c.reserve-4.ensures.rows, c.reserve-2.ensures.rows, c.reserve-6.ensures.changes, c.reserve-7.ensures.items, c.reserve-8.ensures.items) c.self.invariant.4,
+  rw (c.reserve-6.ensures.changes, c.reserve-6.ensures.base, c.reserve-8.ensures.items) c.self.invariant.5,
 )
 
 pub invariant_of-self-2 : goal.invariant_of-self-2
@@ -68,4 +80,9 @@ invariant_of-self-2 c = (
   (let tallied = c.self.invariant.2 in
       rw (c.reserve-10.ensures.space, c.reserve-3.ensures.rows, c.reserve.ensures.rows) (record { charges = tallied.charges; clusters = tallied.clusters; owners = tallied.owners })),
   c.reserve_oplocks.ensures.sorted c.reserve_locks.new.self.rows (rw (c.reserve_locks.ensures.rows, c.reserve-4.ensures.rows) c.self.invariant.3),
+  rw (c.reserve_locks.ensures.rows, c.reserve-4.ensures.rows, c.reserve-2.ensures.rows, c.reserve-6.ensures.changes, c.reserve-7.ensures.items, c.reserve-8.ensures.items) c.self.invariant.4,
+  rw (c.reserve-6.ensures.changes, c.reserve-6.ensures.base, c.reserve-8.ensures.items) c.self.invariant.5,
 )
+
+pub reserve_oplocks-requires : goal.reserve_oplocks-requires
+reserve_oplocks-requires c = record { fit = rw (c.reserve_locks.ensures.rows, c.reserve-4.ensures.rows) (homes-fit (content_of c.self.inside) c.self.invariant.0) }

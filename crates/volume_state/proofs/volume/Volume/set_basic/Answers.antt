@@ -14,4 +14,6 @@ invariant_of-self c = (
   rw c.set_basic.ensures.rows
       (tallied-file_changed c.self.inside.files.rows (content_of c.self.inside).streams c.self.inside.space c.args.file (λ row. record row { creation = c.args.creation; access = c.args.access; write = c.args.write; change = c.args.change; attributes = c.args.attributes }) (λ row. refl) c.self.invariant.2),
   c.self.invariant.3,
+  c.self.invariant.4,
+  c.self.invariant.5,
 )

@@ -13,4 +13,6 @@ invariant_of-self c = (
   rw c.set_dacl.ensures.rows
       (tallied-file_changed c.self.inside.files.rows (content_of c.self.inside).streams c.self.inside.space c.args.file (λ row. record row { dacl = option_map (λ list. list.items) c.args.dacl }) (λ row. refl) c.self.invariant.2),
   c.self.invariant.3,
+  c.self.invariant.4,
+  c.self.invariant.5,
 )

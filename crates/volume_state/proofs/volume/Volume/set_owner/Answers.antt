@@ -31,4 +31,6 @@ invariant_of-self c = (
       (tallied-admitted c.self.inside.files.rows (content_of c.self.inside).streams c.self.inside.space c.admit.new.self c.args.owner c.admit.ensures c.self.invariant.2)
       c.admit.ensures.here (rw c.part_of_file-part.ensures at c.hand_over.ensures.some) (rw c.part_of_file-part.ensures at c.hand_over.ensures.none)),
   c.self.invariant.3,
+  c.self.invariant.4,
+  c.self.invariant.5,
 )

@@ -12,4 +12,6 @@ invariant_of-self c = (
   rw c.set_point.ensures.rows
       (tallied-file_changed c.self.inside.files.rows (content_of c.self.inside).streams c.self.inside.space c.args.file (λ row. record row { point = c.args.point }) (λ row. refl) c.self.invariant.2),
   c.self.invariant.3,
+  c.self.invariant.4,
+  c.self.invariant.5,
 )

@@ -1,4 +1,4 @@
-use Rattle.std.proofs.Common.{◌≡◌, ℕ, None, ◌∙◌}
+use Rattle.std.proofs.Common.{ℕ, None, ◌∙◌}
 use Rattle.fsa_model.specs.QueryDir.{is_listed_before}
 use Rattle.fsa_model.specs.Volume.{Link}
 use Rattle.fsa_model.proofs.RowLaws.{any-same}

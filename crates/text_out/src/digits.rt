@@ -1,0 +1,42 @@
+//! Bytes as hexadecimal digits.
+
+ghost use Rattle.std.specs.Prelude.{◌≡◌, ◌<◌, ◌*◌, ◌++◌, length, IfOk};
+ghost use Rattle.fsa_model.specs.Text.{digit, hex_digits};
+
+use fsa_types::NoMemory;
+
+/// The digit of a number below 16, in lower case.
+pub fn digit(n: u8) -> u8
+    requires { n < 16 }
+    ensures { result ≡ digit n }
+{
+    if n < 10 { 48 + n } else { 87 + n }
+}
+
+/// Writes two digits for each byte over others, of which there are as many.
+pub fn write_digits(bytes: &[u8], digits: &mut [u8])
+    requires { length digits.old ≡ 2 * length bytes.now }
+    ensures { digits.new ≡ hex_digits bytes.now }
+{
+    'bytes: for i in 0..bytes.len() {
+        let byte = bytes[i];
+        digits[2 * i] = digit(byte / 16);
+        digits[2 * i + 1] = digit(byte % 16);
+    }
+}
+
+/// Puts two digits for each byte at the end.
+pub fn push_hex(line: &mut Vec<u8>, bytes: &[u8]) -> Result<(), NoMemory>
+    ensures { IfOk result (λ _. line.new.items ≡ line.old.items ++ hex_digits bytes.now) }
+{
+    let begin = line.len();
+    let Some(count) = bytes.len().checked_mul(2) else {
+        return Err(NoMemory);
+    };
+    let Some(end) = begin.checked_add(count) else {
+        return Err(NoMemory);
+    };
+    line.resize(end, 0)?;
+    write_digits(bytes, &mut line[begin..]);
+    Ok(())
+}

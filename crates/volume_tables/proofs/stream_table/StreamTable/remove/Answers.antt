@@ -1,0 +1,12 @@
+use Rattle.std.proofs.Common.{arith}
+use Rattle.volume_tables.proofs.stream_table.StreamTable.remove.Goals as goal
+
+pub invariant_of-self : goal.invariant_of-self
+invariant_of-self c =
+    let table = c.remove.ensures.room in
+    let files = c.remove.ensures.kept in
+    let promised = c.self.invariant in (
+      c.remove.ensures.indexed c.self.invariant.0,
+      omega arith,
+      omega arith,
+    )
