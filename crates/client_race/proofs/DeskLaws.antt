@@ -1,12 +1,7 @@
 -- What a pass's calls make of what it knows, as a desk's.
 use Rattle.std.proofs.Common.{◌≡◌, ℕ, ◌+◌, ◌<◌, ◌≤◌, List, [], ◌∷◌, ◌++◌, length, refl, ap, sym, ◌∙◌, arith, append-nil, length-append}
-use Rattle.std.specs.Prelude.{◌&&◌}
-use Rattle.std.specs.List.{list_any}
 use Rattle.std.proofs.lemmas.Bool.{eqb-true}
 use Rattle.fsa_types.specs.declared.reply.Answer.{Answer}
-use Rattle.fsa_types.specs.declared.reply.Body.{Body}
-use Rattle.fsa_types.specs.declared.reply.Body.TheVariants.{Got, Packed, Stopped}
-use Rattle.fsa_types.specs.declared.reply.EndOf.{EndOf}
 use Rattle.fsa_types.specs.declared.reply.Poll.{Poll}
 use Rattle.fsa_types.specs.declared.reply.Poll.TheVariants.{Done, Pending, Busy as Unknown, NoMemory as NoReply}
 use Rattle.fsa_types.specs.declared.reply.Submitted.{Submitted}
@@ -15,18 +10,16 @@ use Rattle.fsa_types.specs.declared.reply.Why.{Why}
 use Rattle.fsa_types.specs.declared.reply.Why.TheVariants.{NoMemory, HistoryFull}
 use Rattle.fsa_types.specs.declared.request.What.{What}
 use Rattle.fsa_model.specs.History.{HistoryEntry}
-use Rattle.fsa_model.specs.Once.{is_end}
 use Rattle.fsa_model.specs.Setup.{Setup}
-use Rattle.fsa_machine.specs.MachineView.{ended_with_list, holds_list as copies_list}
 use Rattle.history_lock.specs.Passes.{Refreshed}
 use Rattle.history_lock.specs.Turns.{beaten}
 use Rattle.shared_volume.specs.Histories.{IsMachineHistory as IsNumberedHistory, MayRefuse}
-use Rattle.shared_volume.specs.Shared.{Known, Submits, EndedWithList as EndedWithListThere}
+use Rattle.shared_volume.specs.Shared.{Known, Submits}
+use Rattle.history_laws.specs.CallAnswers.{EndedWithList, HasEnded, IfBusy, IfDid, IfDone, IfRefused, OnBusy, OnNoMemory, OnPending, Pends}
 use Rattle.shared_volume.proofs.HistoryLaws.{numbered-differ}
-use Rattle.history_laws.specs.CallAnswers.{HasEnded, IfBusy, IfDid, IfDone, IfRefused, OnBusy, OnNoMemory, OnPending, Pends}
 use Rattle.client_run.specs.Calls.{calls_in}
 use Rattle.client_run.specs.Desks.{Asks, OnlySees, SeesHistory}
-use Rattle.client_run.specs.Shown.{EndedWithList, IsRunOfDistinctCalls, holds_list}
+use Rattle.client_run.specs.Shown.{IsRunOfDistinctCalls}
 use Rattle.client_race.specs.Passes.{shown}
 
 pub asks : (setup : Setup) (what : What) (number : ℕ) (answer : Answer) (v w : Known) → Submits setup what number answer v w → Asks what number answer (shown setup v) (shown setup w)
@@ -92,19 +85,6 @@ differ setup entries history = record { runs = history.runs; differ = numbered-d
 pub sees_history : (setup : Setup) (v : Known) → IsNumberedHistory setup v.own.seen → v.own.mine ≡ calls_in v.own.client v.own.seen → SeesHistory (shown setup v)
 sees_history setup v history own = record { history = differ setup v.own.seen history; own = own }
 
-holds_same : (body : Body) → holds_list body ≡ copies_list body
-holds_same (Got bytes) = refl
-holds_same (Packed kind bytes) = refl
-holds_same (Stopped tag bytes rest) = refl
-holds_same _ = refl
-
-any_same : (client number : ℕ) (ended : List EndOf) → list_any (λ end. is_end client number end && holds_list end.reply.body) ended ≡ ended_with_list ended client number
-any_same client number [] = refl
-any_same client number (end ∷ ended) = rw (any_same client number ended, holds_same end.reply.body) refl
-
-pub ended_with : (setup : Setup) (seen : List HistoryEntry) (client number : ℕ) → EndedWithListThere setup seen client number → EndedWithList setup seen client number
-ended_with setup seen client number ended r runs = any_same client number r.volume.ended ∙ ended r runs
-
 -- ---- answer by answer
 
 pub did_asks : (setup : Setup) (what : What) (v w : Known) (result : Submitted) → IfDid result (λ number answer. Submits setup what number answer v w)
@@ -130,7 +110,7 @@ pub record Polled (setup : Setup) (clients number : ℕ) (v w : Known) (result :
   pub done : IfDone result (λ reply. Refreshed v w × HasEnded setup w.own.seen w.own.client number reply)
   pub pending : OnPending result (Refreshed v w × Pends setup w.own.seen w.own.client number)
   pub busy : OnBusy result ((w ≡ beaten v) × (1 < clients))
-  pub no_memory : OnNoMemory result (Refreshed v w × EndedWithListThere setup w.own.seen w.own.client number)
+  pub no_memory : OnNoMemory result (Refreshed v w × EndedWithList setup w.own.seen w.own.client number)
 
 pub polled_sees : (setup : Setup) (clients number : ℕ) (v w : Known) (result : Poll) → Polled setup clients number v w result → OnlySees (shown setup v) (shown setup w)
 polled_sees setup clients number v w (Done reply) p = sees_refreshed setup v w p.done.0
@@ -160,4 +140,4 @@ pub polled_no_memory : (setup : Setup) (clients number : ℕ) (v w : Known) (res
 polled_no_memory setup clients number v w (Done reply) p = tt
 polled_no_memory setup clients number v w Pending p = tt
 polled_no_memory setup clients number v w Unknown p = tt
-polled_no_memory setup clients number v w NoReply p = ended_with setup w.own.seen w.own.client number p.no_memory.1
+polled_no_memory setup clients number v w NoReply p = p.no_memory.1

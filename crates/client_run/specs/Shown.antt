@@ -1,14 +1,10 @@
--- What the run of a history shows: which lists are histories, what a turn was answered, which replies hold lists, and
--- when a client makes its calls.
-use Rattle.std.specs.Prelude.{◌≡◌, ℕ, ◌==◌, ◌&&◌, not, Bool, true, false, List, [], ◌∷◌, ◌++◌, Option, Some, None, IsSome}
-use Rattle.std.specs.List.{list_any}
+-- What the run of a history shows: which lists are histories, what a turn was answered, and when a client makes
+-- its calls.
+use Rattle.std.specs.Prelude.{◌≡◌, ℕ, ◌==◌, ◌&&◌, not, Bool, false, List, [], ◌∷◌, ◌++◌, Option, Some, None, IsSome}
 use Rattle.fsa_types.specs.declared.reply.Answer.{Answer}
-use Rattle.fsa_types.specs.declared.reply.Body.{Body}
-use Rattle.fsa_types.specs.declared.reply.Body.TheVariants.{Got, Packed, Stopped}
 use Rattle.fsa_model.specs.Engine.{CallsDiffer}
 use Rattle.fsa_model.specs.History.{HistoryEntry, Run, run}
 use Rattle.fsa_model.specs.Lookups.{has_row}
-use Rattle.fsa_model.specs.Once.{is_end}
 use Rattle.fsa_model.specs.Outcome.{TurnOut}
 use Rattle.fsa_model.specs.Setup.{Setup}
 use Rattle.fsa_model.specs.Volume.{Volume}
@@ -27,18 +23,6 @@ pub record LastTurnAnswered (setup : Setup) (seen : List HistoryEntry) (answer :
   pub before : List TurnOut
   pub last : state.outs ≡ before ++ out ∷ []
   pub is : out.answer ≡ answer
-
--- a copy of the body takes memory
-abbrev pub holds_list : Body → Bool
-holds_list (Got bytes) = true
-holds_list (Packed kind bytes) = true
-holds_list (Stopped tag bytes rest) = true
-holds_list _ = false
-
--- the client's call of this number has ended in this history with such a body
-abbrev pub EndedWithList : Setup → List HistoryEntry → ℕ → ℕ → Type 0
-EndedWithList setup seen client number =
-    (r : Run) → run setup seen ≡ Some r → list_any (λ end. is_end client number end && holds_list end.reply.body) r.volume.ended ≡ true
 
 -- ---- waits
 

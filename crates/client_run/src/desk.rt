@@ -1,9 +1,8 @@
 //! What a client's run asks its calls of.
 ghost use Rattle.std.specs.Prelude.{◌≡◌, ℕ, ◌+◌, ◌≤◌, List, length};
 ghost use Rattle.fsa_types.specs.declared.reply.Why.TheVariants.{HistoryFull};
-ghost use Rattle.history_laws.specs.CallAnswers.{CanAsk, HasEnded, IfBusy, IfDid, IfDone, IfRefused, OnBusy, OnNoMemory, OnPending, Pends};
+ghost use Rattle.history_laws.specs.CallAnswers.{CanAsk, EndedWithList, HasEnded, IfBusy, IfDid, IfDone, IfRefused, OnBusy, OnNoMemory, OnPending, Pends};
 ghost use Rattle.client_run.specs.Desks.{Asks, DeskView, OnlySees, SeesHistory};
-ghost use Rattle.client_run.specs.Shown.{EndedWithList};
 
 use fsa_types::{Poll, Submitted, What};
 use std::alloc::Global;

@@ -7,7 +7,7 @@ use Rattle.std.proofs.lemmas.List.{drop_all}
 use Rattle.std.proofs.lemmas.Option.{slice_get_within}
 use Rattle.fsa_types.specs.declared.reply.EndOf.{EndOf}
 use Rattle.fsa_model.specs.Once.{is_end}
-use Rattle.fsa_machine.specs.MachineView.{ended_with_list, holds_list, reply_in}
+use Rattle.fsa_model.specs.Ended.{ended_with_list, holds_list, reply_in}
 use Rattle.fsa_machine.proofs.TellLaws.{drop-at, past-end}
 
 -- none before this place is the call's

@@ -38,7 +38,8 @@ use Rattle.fsa_model.proofs.TurnLaws.{Turns, turn-turns}
 use Rattle.fsa_machine.specs.Kept.{entry_of}
 use Rattle.fsa_machine.specs.declared.kept.KeptTurn.{KeptTurn}
 use Rattle.fsa_machine.specs.Serves.{KnowsWaited, MayTry, SameBase, Serves, ServesOn, most_entries, most_turns}
-use Rattle.fsa_machine.specs.MachineView.{CallsNumbered, GaveOut, RunsTo, calls_in, ended_with_list, reply_in, setup_in}
+use Rattle.fsa_machine.specs.MachineView.{CallsNumbered, GaveOut, RunsTo, calls_in, setup_in}
+use Rattle.fsa_model.specs.Ended.{ended_with_list, reply_in}
 use Rattle.fsa_machine.proofs.LookLaws.{some-found}
 use Rattle.fsa_machine.proofs.ServeLaws.{All-each, GivesUpTo-more, Serves-fresh, few-oplocks}
 

@@ -1,17 +1,12 @@
 -- What a machine is seen as: a setup, the history of its turns, the room for turns to come, and where its log begins.
-use Rattle.std.specs.Prelude.{◌≡◌, ℕ, ◌≤◌, ◌&&◌, nat_le, nat_lt, cond, Bool, true, false, List, [], ◌∷◌, ◌++◌, length, map, Result, Ok, Err, Option, Some, find, option_map}
-use Rattle.std.specs.List.{list_any}
-use Rattle.fsa_types.specs.declared.reply.Body.{Body}
-use Rattle.fsa_types.specs.declared.reply.Body.TheVariants.{Got, Packed, Stopped}
-use Rattle.fsa_types.specs.declared.reply.EndOf.{EndOf}
+use Rattle.std.specs.Prelude.{◌≡◌, ℕ, ◌≤◌, ◌&&◌, nat_le, nat_lt, cond, Bool, true, false, List, [], ◌∷◌, ◌++◌, length, map, Result, Ok, Err, Some}
 use Rattle.fsa_types.specs.declared.reply.Out.{Out}
-use Rattle.fsa_types.specs.declared.reply.Reply.{Reply}
 use Rattle.fsa_types.specs.declared.reply.Why.{Why}
 use Rattle.fsa_types.specs.declared.reply.Why.TheVariants.{NoMemory, HistoryFull}
 use Rattle.fsa_types.specs.declared.request.Call.{Call}
 use Rattle.fsa_model.specs.Engine.{is_entry_of}
 use Rattle.fsa_model.specs.History.{HistoryEntry, Run, run}
-use Rattle.fsa_model.specs.Once.{how_many, is_end, made}
+use Rattle.fsa_model.specs.Once.{how_many, made}
 use Rattle.fsa_model.specs.Outcome.{TurnOut}
 use Rattle.fsa_model.specs.Schedule.{calls_of}
 use Rattle.fsa_model.specs.Setup.{Setup}
@@ -62,18 +57,3 @@ abbrev pub is_full : Result Out (Call × Why) → Bool
 is_full (Ok out) = false
 is_full (Err (call, HistoryFull)) = true
 is_full (Err (call, NoMemory)) = false
-
--- how the client's call of this number ended, where it has
-abbrev pub reply_in : List EndOf → ℕ → ℕ → Option Reply
-reply_in ended client number = option_map (λ end. end.reply) (find (is_end client number) ended)
-
--- a copy of the body takes memory
-abbrev pub holds_list : Body → Bool
-holds_list (Got bytes) = true
-holds_list (Packed kind bytes) = true
-holds_list (Stopped tag bytes rest) = true
-holds_list _ = false
-
--- the client's call of this number has ended with such a body
-abbrev pub ended_with_list : List EndOf → ℕ → ℕ → Bool
-ended_with_list ended client number = list_any (λ end. is_end client number end && holds_list end.reply.body) ended

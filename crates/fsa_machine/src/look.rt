@@ -3,7 +3,7 @@
 ghost use Rattle.std.specs.Prelude.{◌≡◌, ◌<◌, ◌^◌, true, find, length, IfOk, OnErr};
 ghost use Rattle.std.specs.Option.{option_copied};
 ghost use Rattle.fsa_model.specs.Once.{is_end};
-ghost use Rattle.fsa_machine.specs.MachineView.{ended_with_list, holds_list, reply_in};
+ghost use Rattle.fsa_model.specs.Ended.{ended_with_list, holds_list, reply_in};
 
 use crate::store::Store;
 use fsa_types::{Body, EndOf, NoMemory, Reply, TryCopy};

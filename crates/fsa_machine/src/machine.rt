@@ -17,7 +17,8 @@ ghost use Rattle.fsa_machine.specs.Released.{how_many_released};
 ghost use Rattle.fsa_machine.specs.Serves.{most_entries};
 ghost use Rattle.fsa_machine.specs.Spare.{AreSpare, is_ack_or_cancel};
 ghost use Rattle.fsa_machine.specs.Trimmed.{trimmed_base};
-ghost use Rattle.fsa_machine.specs.MachineView.{GaveOut, RunsTo, calls_in, ended_with_list, is_full, reply_in, setup_in};
+ghost use Rattle.fsa_machine.specs.MachineView.{GaveOut, RunsTo, calls_in, is_full, setup_in};
+ghost use Rattle.fsa_model.specs.Ended.{ended_with_list, reply_in};
 
 use crate::keeping::reserve_turns;
 use crate::kept::KeptTurn;

@@ -7,6 +7,7 @@ pub mod Close
 pub mod Coherence
 pub mod ControlLines
 pub mod Edits
+pub mod Ended
 pub mod Engine
 pub mod Fault
 pub mod FieldText

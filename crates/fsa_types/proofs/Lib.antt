@@ -1,3 +1,4 @@
 mod CaseTableLemmas
 pub mod OplockLemmas
+pub mod PlaceLemmas
 pub mod RowLemmas

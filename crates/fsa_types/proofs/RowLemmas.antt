@@ -10,6 +10,7 @@ use Rattle.std.proofs.lemmas.Bool.{eqb-true}
 use Rattle.std.proofs.Math.ListN.{set, length-set}
 use Rattle.std.proofs.lemmas.List.Kept.{AllPairs-filter, AllPairs-cons}
 use Rattle.std.proofs.lemmas.List.Elements.{All-filter}
+use Rattle.fsa_types.specs.Places.{IsAt}
 use Rattle.fsa_types.specs.Rows.{IsNumbered}
 use Rattle.fsa_types.specs.Rows.{row_of, lives, without_row, with_row_changed}
 
@@ -101,11 +102,6 @@ row_of-none xs id none = row_of-fails xs id (fails-none xs id none)
 
 pub without_row-none : {T : Type 0} (xs : List (ℕ × T)) (id : ℕ) → position (λ e. e.0 == id) xs ≡ None → without_row xs id ≡ xs
 without_row-none xs id none = without_row-fails xs id (fails-none xs id none)
-
--- what is at the place of a number
-pub record IsAt {T : Type 0} (xs : List (ℕ × T)) (id : ℕ) (i : ℕ) : Type 0 where
-  pub within : i < length xs
-  pub here : (d : ℕ × T) → (get_or xs i d).0 ≡ id
 
 pub IsAt-position : {T : Type 0} (xs : List (ℕ × T)) (id i : ℕ) (some : ℕ × T) → position (λ e. e.0 == id) xs ≡ Some i → IsAt xs id i
 IsAt-position xs id i some found =

@@ -13,6 +13,7 @@ pub mod PackedRows
 pub mod Packing
 pub mod Paths
 pub mod Pending
+pub mod Places
 pub mod Ranges
 pub mod Reply
 pub mod ReplyRoom

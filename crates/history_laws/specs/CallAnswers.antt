@@ -10,6 +10,7 @@ use Rattle.fsa_types.specs.declared.reply.Submitted.{Submitted}
 use Rattle.fsa_types.specs.declared.reply.Submitted.TheVariants.{Did, Busy, Refused}
 use Rattle.fsa_types.specs.declared.reply.Why.{Why}
 use Rattle.fsa_types.specs.declared.request.What.{What}
+use Rattle.fsa_model.specs.Ended.{ended_with_list}
 use Rattle.fsa_model.specs.History.{HistoryEntry, Run, run}
 use Rattle.fsa_model.specs.LineCalls.{ticks_fit}
 use Rattle.fsa_model.specs.Once.{is_end}
@@ -27,6 +28,10 @@ pub record CanAsk (what : What) : Type 0 where
 abbrev pub HasEnded : Setup → List HistoryEntry → ℕ → ℕ → Reply → Type 0
 HasEnded setup seen client number reply =
     (r : Run) → run setup seen ≡ Some r → option_map (λ end. end.reply) (find (is_end client number) r.volume.ended) ≡ Some reply
+
+-- it has ended there with a body whose copy takes memory
+abbrev pub EndedWithList : Setup → List HistoryEntry → ℕ → ℕ → Type 0
+EndedWithList setup seen client number = (r : Run) → run setup seen ≡ Some r → ended_with_list r.volume.ended client number ≡ true
 
 -- it is pending there
 abbrev pub Pends : Setup → List HistoryEntry → ℕ → ℕ → Type 0

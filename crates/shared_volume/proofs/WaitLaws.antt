@@ -20,14 +20,15 @@ use Rattle.fsa_model.specs.Waiting.{is_wait}
 use Rattle.fsa_model.proofs.CountLaws.{and_left, and_right}
 use Rattle.fsa_model.proofs.RowLaws.{any-weaker, find-any, option_cases}
 use Rattle.fsa_model.proofs.WaitLaws.{find-passes}
-use Rattle.fsa_machine.specs.MachineView.{CallsNumbered, calls_in, ended_with_list, holds_list, reply_in}
-use Rattle.history_laws.specs.CallAnswers.{HasEnded}
+use Rattle.fsa_machine.specs.MachineView.{CallsNumbered, calls_in}
+use Rattle.fsa_model.specs.Ended.{ended_with_list, holds_list, reply_in}
+use Rattle.history_laws.specs.CallAnswers.{EndedWithList, HasEnded}
 use Rattle.history_laws.specs.WaitEnds.{cancels_in, ends_otherwise, is_nothing, is_wait_end, leaves_in, wait_may_end}
 use Rattle.history_laws.proofs.WaitRuns.{waits-end}
 use Rattle.history_lock.specs.History.{calls_by}
 use Rattle.shared_volume.specs.Histories.{IsMachineHistory}
 use Rattle.shared_volume.proofs.HistoryLaws.{numbered-differ}
-use Rattle.shared_volume.specs.Shared.{EndedWithList, EndsInWait, IsStatusOfWait, Known, OnlySees, call_of, client_of, has_leaving}
+use Rattle.shared_volume.specs.Shared.{EndsInWait, IsStatusOfWait, Known, OnlySees, call_of, client_of, has_leaving}
 
 -- ---- the last call of a client in a history
 

@@ -1,5 +1,5 @@
 -- What clauses read of a volume and of a pass, and what the calls make of what a pass knows.
-use Rattle.std.specs.Prelude.{◌≡◌, ℕ, ◌+◌, ◌<◌, ◌≤◌, Bool, true, false, List, [], ◌∷◌, ◌++◌, length, Option, Some}
+use Rattle.std.specs.Prelude.{◌≡◌, ℕ, ◌+◌, ◌≤◌, Bool, true, false, List, [], ◌∷◌, ◌++◌, length, Option}
 use Rattle.std.specs.List.{list_any}
 use Rattle.fsa_types.specs.declared.reply.Answer.{Answer}
 use Rattle.fsa_types.specs.declared.reply.Out.{Out}
@@ -11,12 +11,12 @@ use Rattle.fsa_types.specs.declared.request.What.{What}
 use Rattle.fsa_types.specs.declared.request.What.TheVariants.{WaitFor}
 use Rattle.fsa_types.specs.declared.status.Status.{Status}
 use Rattle.fsa_model.specs.Frame.{is_leave}
-use Rattle.fsa_model.specs.History.{HistoryEntry, Run, run}
+use Rattle.fsa_model.specs.History.{HistoryEntry}
 use Rattle.fsa_model.specs.Outcome.{TurnOut}
 use Rattle.fsa_model.specs.Setup.{Setup}
 use Rattle.history_laws.specs.CallAnswers.{HasEnded}
 use Rattle.history_laws.specs.WaitEnds.{wait_may_end}
-use Rattle.fsa_machine.specs.MachineView.{GaveOut, ended_with_list}
+use Rattle.fsa_machine.specs.MachineView.{GaveOut}
 use Rattle.history_lock.specs.declared.machine.Machine.{Ghosts}
 use Rattle.history_lock.specs.declared.pass.Pass.{Pass}
 use Rattle.history_lock.specs.declared.view.View.{View}
@@ -57,10 +57,6 @@ pub record Submits (setup : Setup) (what : What) (number : ℕ) (answer : Answer
   pub makes : Makes call_of (record { client = v.own.client; number = number; what = what }) v w
   pub count : number ≡ length w.own.mine
   pub answers : LastTurnAnswered setup w.own.seen answer
-
--- the client's call of this number has ended in this history with a body that holds a list
-abbrev pub EndedWithList : Setup → List HistoryEntry → ℕ → ℕ → Type 0
-EndedWithList setup seen client number = (r : Run) → run setup seen ≡ Some r → ended_with_list r.volume.ended client number ≡ true
 
 -- no call was made, and what is seen begins with what had been seen; the two counts don't fall
 pub record OnlySees (v w : Known) : Type 0 where

@@ -7,9 +7,9 @@ ghost use Rattle.fsa_model.specs.Watched.{WatchesReport};
 ghost use Rattle.history_lock.specs.Lock.{known};
 ghost use Rattle.history_lock.specs.Passes.{Refreshed, Waited};
 ghost use Rattle.history_lock.specs.Turns.{Sees, beaten};
-ghost use Rattle.history_laws.specs.CallAnswers.{CanAsk, HasEnded, IfBusy, IfDid, IfDone, IfRefused, OnBusy, OnNoMemory, OnPending, Pends};
+ghost use Rattle.history_laws.specs.CallAnswers.{CanAsk, EndedWithList, HasEnded, IfBusy, IfDid, IfDone, IfRefused, OnBusy, OnNoMemory, OnPending, Pends};
 ghost use Rattle.shared_volume.specs.Histories.{IsMachineHistory, MayRefuse};
-ghost use Rattle.shared_volume.specs.Shared.{EndedWithList, EndsInWait, IsPass, IsStatusOfWait, OnlySees, Submits, WaitsFor, call_of, client_of, setup_at};
+ghost use Rattle.shared_volume.specs.Shared.{EndsInWait, IsPass, IsStatusOfWait, OnlySees, Submits, WaitsFor, call_of, client_of, setup_at};
 
 use crate::engine::Engine;
 use crate::shared::SharedVolume;

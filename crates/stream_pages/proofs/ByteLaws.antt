@@ -9,8 +9,10 @@ use Rattle.std.proofs.lemmas.List.{get_or-take, get_or-drop, get_or_append_left,
 use Rattle.std.proofs.lemmas.Nat.{div-add-mod', mod_below}
 use Rattle.fsa_types.proofs.RowLemmas.{AreRising, row_of-at}
 use Rattle.fsa_types.specs.Rows.{row_of}
-use Rattle.stream_pages.specs.Pages.{IsAtPlace, StandsAt, HasPage, KeepsPages, byte_at, is_within, over, below}
-use Rattle.stream_pages.proofs.PageLaws.{Rows, row_of-set_own, row_of-set_other, row_of-insert_own, row_of-insert_other, row_of-missing}
+use Rattle.stream_pages.specs.Pages.{HasPage, KeepsPages, byte_at, is_within, over, below}
+use Rattle.fsa_types.specs.Places.{IsAt, StandsAt}
+use Rattle.stream_pages.proofs.PageLaws.{Rows}
+use Rattle.fsa_types.proofs.PlaceLemmas.{row_of-set_own, row_of-set_other, row_of-insert_own, row_of-insert_other, row_of-missing}
 
 -- ---- tests of a place
 
@@ -146,7 +148,7 @@ over-other byte number at piece place apart fits = go (lies (number * 4096 + at)
     go (Within from to) = absurd (apart (omega (arith, where_is, rest)))
     go (After more) = sym (over-after byte (number * 4096 + at) piece place more)
 
-module _ (xs : Rows) (number i : ℕ) (rising : AreRising xs) (at_place : IsAtPlace xs number i) where
+module _ (xs : Rows) (number i : ℕ) (rising : AreRising xs) (at_place : IsAt xs number i) where
   pub row_of-here : (e : ℕ × List ℕ) → e ≡ get_or xs i e → row_of xs number ≡ Some e.1
   row_of-here e read = row_of-at xs i e number rising at_place.within (at_place.here e) ∙ ap (λ (x : ℕ × List ℕ). Some x.1) (sym read)
 
@@ -228,5 +230,5 @@ below-cleared byte number at place within = go (lies (number * 4096 + at) (4096 
 
 -- ---- what a place tells
 
-pub there-at : (xs : Rows) (number i : ℕ) → AreRising xs → IsAtPlace xs number i → HasPage xs number
+pub there-at : (xs : Rows) (number i : ℕ) → AreRising xs → IsAt xs number i → HasPage xs number
 there-at xs number i rising at = rw (row_of-at xs i (number, []) number rising at.within (at.here (number, []))) refl

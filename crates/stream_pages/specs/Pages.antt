@@ -1,6 +1,6 @@
 -- Pages of 4,096 bytes under their numbers, and the bytes for which they stand. A page that isn't
 -- there stands for zeros.
-use Rattle.std.specs.Prelude.{◌≡◌, ℕ, ◌+◌, ◌-◌, ◌*◌, ◌/◌, ◌%◌, ◌<◌, ◌≤◌, ◌&&◌, nat_lt, nat_le, Bool, List, IsSome, length, get_or, map, if◌then◌else◌}
+use Rattle.std.specs.Prelude.{ℕ, ◌+◌, ◌-◌, ◌*◌, ◌/◌, ◌%◌, ◌<◌, ◌≤◌, ◌&&◌, nat_lt, nat_le, Bool, List, IsSome, length, get_or, map, if◌then◌else◌}
 use Rattle.std.specs.List.{range_with_len}
 use Rattle.std.specs.Option.{option_map_or}
 use Rattle.fsa_types.specs.Rows.{row_of}
@@ -36,17 +36,6 @@ HasPages pages from to = (number : ℕ) → from < to → number * 4096 < to →
 -- no page went
 abbrev pub KeepsPages : List (ℕ × List ℕ) → List (ℕ × List ℕ) → Type 0
 KeepsPages old new = (number : ℕ) → HasPage old number → HasPage new number
-
--- the page of this number is at this place among the pages
-pub record IsAtPlace (pages : List (ℕ × List ℕ)) (number place : ℕ) : Type 0 where
-  pub within : place < length pages
-  pub here : (d : ℕ × List ℕ) → (get_or pages place d).0 ≡ number
-
--- it isn't there, and would stand at this place
-pub record StandsAt (pages : List (ℕ × List ℕ)) (number place : ℕ) : Type 0 where
-  pub within : place ≤ length pages
-  pub before : (k : ℕ) (d : ℕ × List ℕ) → k < place → (get_or pages k d).0 < number
-  pub after : (k : ℕ) (d : ℕ × List ℕ) → place ≤ k → k < length pages → number < (get_or pages k d).0
 
 -- the numbers before this place are less than that one, and those from it on aren't
 pub record Splits (pages : List (ℕ × List ℕ)) (number place : ℕ) : Type 0 where

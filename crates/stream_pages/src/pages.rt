@@ -2,7 +2,8 @@
 
 ghost use Rattle.std.specs.Prelude.{ℕ, AllPairs, ◌≡◌, ◌≤◌, ◌<◌, ◌+◌, ◌-◌, ◌*◌, ◌^◌, [], None, replicate, IfOk, IfErr, IfSome, OnOk, length, option_map, if◌then◌else◌, nat_lt};
 ghost use Rattle.fsa_types.specs.Rows.{row_of};
-ghost use Rattle.stream_pages.specs.Pages.{IsAtPlace, HasPage, KeepsPages, Splits, StandsAt, below, byte_at, over};
+ghost use Rattle.stream_pages.specs.Pages.{HasPage, KeepsPages, Splits, below, byte_at, over};
+ghost use Rattle.fsa_types.specs.Places.{IsAt, StandsAt};
 
 use crate::page::{PAGE, Page, zeros};
 use fsa_types::NoMemory;
@@ -88,7 +89,7 @@ impl Pages {
 
     // Puts a piece over the page at this place.
     fn put_at(&mut self, number: u64, place: usize, at: usize, piece: &[u8])
-        requires there { IsAtPlace self.old number place }
+        requires there { IsAt self.old number place }
         requires within { at + length piece.now ≤ 4096 }
         ensures bytes { (i : ℕ) → byte_at self.new i ≡ over (byte_at self.old) (number * 4096 + at) piece.now i }
         ensures kept { KeepsPages self.old self.new }
@@ -149,7 +150,7 @@ fn place_from(pages: &[(u64, Page)], number: u64) -> usize
 // The place of a number among rising ones, or where it would stand, by binary search.
 fn place_of(pages: &[(u64, Page)], number: u64) -> Result<usize, usize>
     requires rising { AllPairs (λ a b. a.0 < b.0) pages.now }
-    ensures there { IfOk result (λ place. IsAtPlace pages.now number place) }
+    ensures there { IfOk result (λ place. IsAt pages.now number place) }
     ensures missing { IfErr result (λ place. StandsAt pages.now number place) }
 {
     pages.binary_search_by_key(&number, |entry| entry.0)

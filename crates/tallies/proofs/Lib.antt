@@ -1,4 +1,3 @@
-pub mod ChargeLaws
 pub mod ClashLemmas
 pub mod CountLemmas
 pub mod HeldLemmas

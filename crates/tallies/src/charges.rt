@@ -2,7 +2,8 @@
 
 ghost use Rattle.std.specs.Prelude.{ℕ, AllPairs, ◌≡◌, ◌≤◌, ◌<◌, ◌+◌, ◌==◌, [], Some, None, false, IsOk, IfOk, IfErr, IsSome, OnOk, OnErr};
 ghost use Rattle.fsa_types.specs.Rows.{row_of};
-ghost use Rattle.tallies.specs.Charges.{IsOwnedAt, StandsAt, sum_of};
+ghost use Rattle.tallies.specs.Charges.{sum_of};
+ghost use Rattle.fsa_types.specs.Places.{IsAt, StandsAt};
 
 use fsa_types::NoMemory;
 use std::alloc::{AllocFailed, Global};
@@ -82,7 +83,7 @@ impl Charges {
 
     // Sets the sum of the owner at this place.
     fn put(&mut self, owner: u32, place: usize, bytes: u64)
-        requires { IsOwnedAt self.old.sums owner place }
+        requires { IsAt self.old.sums owner place }
         ensures own { row_of self.new.sums owner ≡ Some bytes }
         ensures others { (other : ℕ) → (other == owner) ≡ false → row_of self.new.sums other ≡ row_of self.old.sums other }
         ensures room { self.new.room ≡ self.old.room }
@@ -110,7 +111,7 @@ impl Charges {
 // The place of an owner among rising ones, or where it would stand, by binary search.
 fn place_of(sums: &[(u32, u64)], owner: u32) -> Result<usize, usize>
     requires rising { AllPairs (λ a b. a.0 < b.0) sums.now }
-    ensures there { IfOk result (λ place. IsOwnedAt sums.now owner place) }
+    ensures there { IfOk result (λ place. IsAt sums.now owner place) }
     ensures missing { IfErr result (λ place. StandsAt sums.now owner place) }
 {
     sums.binary_search_by_key(&owner, |entry| entry.0)

@@ -1,4 +1,4 @@
-//! Two tallies. `ShareCounts` tells which opens of one stream or directory may be held together:
+//! Two tallies, and the rule of sharing. `ShareCounts` tells which opens of one stream or directory may be held together:
 //! seven counters that tell at once whether an open clashes with some open that is held. Two opens
 //! clash where both have some of read, write and delete access and one has an access that the other
 //! doesn't share. `Charges` keeps what each owner is charged, in bytes.
@@ -44,3 +44,4 @@ mod sharing;
 
 pub use charges::Charges;
 pub use share_counts::ShareCounts;
+pub use sharing::clash;

@@ -14,8 +14,9 @@ use crate::sharing::{
 use std::marker::Model;
 
 /// The opens that are held on one stream or directory, as counts of their access and of what they
-/// keep from others, after [MS-FSA] 'Algorithm for Checking Sharing Access'. Contracts see the list
-/// of the pairs that are held, each of an access mask and a share mask.
+/// keep from others, after [MS-FSA] 'Algorithm to Check Sharing Access to an Existing Stream or
+/// Directory'. Contracts see the list of the pairs that are held, each of an access mask and a share
+/// mask.
 #[derive(Debug, Drop)]
 pub struct ShareCounts {
     // The list that contracts see.

@@ -1,7 +1,7 @@
-//! What an open has and what it shares, of the three accesses of sharing.
+//! What an open has and what it shares, of the three accesses of sharing, and which opens clash.
 
 ghost use Rattle.std.specs.Prelude.{◌≡◌};
-ghost use Rattle.fsa_types.specs.Sharing.{reads, writes, deletes, shares_read, shares_write, shares_delete, takes_part};
+ghost use Rattle.fsa_types.specs.Sharing.{reads, writes, deletes, shares_read, shares_write, shares_delete, takes_part, oversteps, clash};
 ghost use Rattle.tallies.specs.Counts.{refuses_read, refuses_write, refuses_delete};
 
 use bitflags::Flags;
@@ -77,4 +77,24 @@ pub(crate) fn refuses_delete(access: u32, share: u32) -> bool
     ensures { result ≡ refuses_delete access share }
 {
     takes_part(access) && !shares_delete(share)
+}
+
+// Whether an open has an access that the other doesn't share.
+fn oversteps(access: u32, other_share: u32) -> bool
+    ensures { result ≡ oversteps access other_share }
+{
+    (reads(access) && !shares_read(other_share))
+        || (writes(access) && !shares_write(other_share))
+        || (deletes(access) && !shares_delete(other_share))
+}
+
+/// Whether two opens of one stream or directory clash, each by the rights that it has and what it shares, after
+/// [MS-FSA] 'Algorithm to Check Sharing Access to an Existing Stream or Directory': both have some of read, write and
+/// delete access, and one has an access that the other doesn't share. Generic rights have no part in it.
+pub fn clash(access: u32, share: u32, other_access: u32, other_share: u32) -> bool
+    ensures { result ≡ clash access share other_access other_share }
+{
+    takes_part(access)
+        && takes_part(other_access)
+        && (oversteps(access, other_share) || oversteps(other_access, share))
 }

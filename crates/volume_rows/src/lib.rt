@@ -43,7 +43,6 @@ mod links;
 mod noting;
 mod opens;
 mod rows;
-mod sharing;
 mod streams;
 mod waiting;
 

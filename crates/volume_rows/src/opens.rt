@@ -12,8 +12,8 @@ ghost use Rattle.fsa_model.specs.Lookups.{has_row, is_after, is_at_or_below, is_
 use crate::effects::is_same_key;
 use crate::links::LinksByFile;
 use crate::rows::HandleRow;
-use crate::sharing::clash;
 use fsa_types::HandleSet;
+use tallies::clash;
 
 /// Whether a directory is that one or lies below it.
 pub fn is_at_or_below(links: &LinksByFile, above: u64, dir: u64) -> bool

@@ -1,6 +1,6 @@
 use Rattle.std.proofs.Common.{rules}
 use Rattle.std.proofs.lemmas.List.Sorted.{answers_always}
-use Rattle.stream_pages.proofs.PageLaws.{there-searched, missing-searched}
+use Rattle.fsa_types.proofs.PlaceLemmas.{there-searched, missing-searched}
 use Rattle.stream_pages.proofs.pages.place_of.Goals as goal
 
 -- the closure gives a page's number

@@ -1,6 +1,6 @@
 use Rattle.std.proofs.Common.{rules}
 use Rattle.std.proofs.lemmas.List.Sorted.{answers_always}
-use Rattle.tallies.proofs.ChargeLaws.{there-searched, missing-searched}
+use Rattle.fsa_types.proofs.PlaceLemmas.{there-searched, missing-searched}
 use Rattle.tallies.proofs.charges.place_of.Goals as goal
 
 -- the closure gives an owner

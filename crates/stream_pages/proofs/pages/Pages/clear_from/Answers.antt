@@ -1,6 +1,6 @@
 use Rattle.std.proofs.Common.{arith}
-use Rattle.stream_pages.specs.Pages.{StandsAt}
-use Rattle.stream_pages.proofs.PageLaws.{row_of-missing}
+use Rattle.fsa_types.specs.Places.{StandsAt}
+use Rattle.fsa_types.proofs.PlaceLemmas.{row_of-missing}
 use Rattle.stream_pages.proofs.ByteLaws.{byte_at-cleared}
 use Rattle.stream_pages.proofs.pages.Pages.clear_from.Goals as goal
 

@@ -1,5 +1,5 @@
-use Rattle.stream_pages.specs.Pages.{StandsAt}
-use Rattle.stream_pages.proofs.PageLaws.{AreRising-inserted}
+use Rattle.fsa_types.specs.Places.{StandsAt}
+use Rattle.fsa_types.proofs.PlaceLemmas.{AreRising-inserted}
 use Rattle.stream_pages.proofs.ByteLaws.{zero-byte, byte_at-inserted, keeps-inserted, there-insert}
 use Rattle.stream_pages.proofs.pages.Pages.insert.Goals as goal
 use Rattle.stream_pages.proofs.pages.Pages.insert.Goals.{in-Ok, in-Err}

@@ -1,8 +1,9 @@
 use Rattle.std.proofs.Common.{◌∙◌, ap, sym}
 use Rattle.std.proofs.lemmas.Bool.{false≢true}
 use Rattle.std.specs.Option.{is_some}
-use Rattle.stream_pages.specs.Pages.{HasPage, StandsAt}
-use Rattle.stream_pages.proofs.PageLaws.{row_of-missing}
+use Rattle.stream_pages.specs.Pages.{HasPage}
+use Rattle.fsa_types.specs.Places.{StandsAt}
+use Rattle.fsa_types.proofs.PlaceLemmas.{row_of-missing}
 use Rattle.stream_pages.proofs.pages.Pages.put.Goals as goal
 
 pub unreachable-requires : goal.unreachable-requires

@@ -1,5 +1,5 @@
-use Rattle.tallies.specs.Charges.{StandsAt}
-use Rattle.tallies.proofs.ChargeLaws.{AreRising-inserted, row_of-insert_own, row_of-inserted_other, row_of-missing}
+use Rattle.fsa_types.specs.Places.{StandsAt}
+use Rattle.fsa_types.proofs.PlaceLemmas.{AreRising-inserted, row_of-insert_own, row_of-inserted_other, row_of-missing}
 use Rattle.tallies.proofs.charges.Charges.insert.Goals as goal
 use Rattle.tallies.proofs.charges.Charges.insert.Goals.{in-Ok, in-Err}
 
