@@ -9,12 +9,16 @@
 //! let row = table.get(id);            // Some, until `remove(id)`
 //! ```
 //!
+//! The lists are [`Series`], whose room may grow as items go, and [`SpareList`], whose room stays.
+//!
 //! It asks of its caller that fewer than 2^64 - 1 numbers were given. Adding takes constant time,
 //! and `get` and `get_mut` time logarithmic in the rows; `remove` and `retain` take time linear in them.
 #![tactic(auto)]
 
 mod series;
+mod spare_list;
 mod table;
 
 pub use series::Series;
+pub use spare_list::SpareList;
 pub use table::Table;

@@ -21,8 +21,8 @@
 //! (`telling`), and the calls that end with that (`breaking`); for which breaks the request waits (`awaiting`);
 //! when no oplock is granted, and what a grant ends (`granting`); the list of the oplocks, with what a break or a
 //! grant puts by and with the room that was promised to each stream or directory, under a key that its caller
-//! gives it, its *home* (`Oplocks`); the pending calls with the queue of those that are held (`PendingCalls`),
-//! which is told what ends where a handle goes (`releasing`); and a list whose room stays as items go (`SpareList`).
+//! gives it, its *home* (`Oplocks`); and the pending calls with the queue of those that are held
+//! (`PendingCalls`), which is told what ends where a handle goes (`releasing`).
 //!
 //! `oplock_state` has the oplocks of one stream by `break_oplocks` and `drop_chosen`, and leaves the calls to its
 //! caller; a volume's break and grant end them after that.
@@ -46,7 +46,6 @@ mod marking;
 mod oplock_list;
 mod pending_calls;
 mod releasing;
-mod spare_list;
 mod telling;
 
 pub use awaiting::push_breaks;
@@ -56,5 +55,4 @@ pub use granting::{drop_chosen, end_switched, is_refused};
 pub use oplock_list::Oplocks;
 pub use pending_calls::{PendingCalls, is_wait};
 pub use releasing::{release_breaks, release_locks};
-pub use spare_list::SpareList;
 pub use telling::{Told, break_oplocks};

@@ -8,8 +8,7 @@ ghost use Rattle.fsa_model.specs.Walk.{point_of};
 
 use crate::volume::Volume;
 use fsa_types::Bytes;
-use object_tables::Table;
-use volume_breaks::SpareList;
+use object_tables::{SpareList, Table};
 use volume_rows::FileRow;
 
 impl Volume {

@@ -11,7 +11,8 @@ ghost use Rattle.volume_state.specs.Room.{IsNoLess};
 
 use crate::volume::Volume;
 use crate::watch_row::{WatchRow, is_watch_of};
-use volume_breaks::{SpareList, release_breaks, release_locks};
+use object_tables::SpareList;
+use volume_breaks::{release_breaks, release_locks};
 use volume_rows::HandleRow;
 
 impl Volume {

@@ -16,11 +16,11 @@ ghost use Rattle.volume_tables.specs.Rooms.{room_in};
 use crate::growth::space_of_root;
 use crate::watch_row::WatchRow;
 use fsa_types::{Client, ClientList, EndOf, NoMemory, Setup, UpcaseTable};
-use object_tables::{Series, Table};
+use object_tables::{Series, SpareList, Table};
 use oplock_state::OplockTable;
 use std::alloc::{AllocError, Global};
 use std::marker::Model;
-use volume_breaks::{PendingCalls, SpareList};
+use volume_breaks::PendingCalls;
 use volume_rows::{Changes, FileRow, Need};
 use volume_tables::{HandleTable, LinkTable, SpaceTally, StreamTable};
 

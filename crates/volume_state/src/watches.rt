@@ -17,8 +17,8 @@ use crate::volume::Volume;
 use crate::watch_row::{WatchRow, find_watch};
 use fsa_types::{Bytes, NoMemory, Request, What};
 use notify_queue::{ChangeLog, Watch};
+use object_tables::SpareList;
 use std::alloc::Global;
-use volume_breaks::SpareList;
 use volume_rows::PendingRow;
 use volume_tables::{HandleTable, LinkTable};
 
