@@ -241,6 +241,14 @@ impl<S: Store> Machine<S> {
         )
     }
 
+    /// The volume as the history leaves it, to be looked at.
+    pub fn volume(&self) -> &S
+        ensures content { (r : Run) → run self.now.setup self.now.entries ≡ Some r → S.content result.now ≡ r.volume }
+        ensures log_base { S.log_base result.now ≡ self.now.log_base }
+    {
+        &self.store
+    }
+
     /// Whether the client waits for one of its calls.
     pub fn waits(&self, client: u32) -> bool
         ensures runs { IsSome (run self.now.setup self.now.entries) }
