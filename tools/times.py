@@ -2,9 +2,9 @@
 """times.py [COMMAND ..]: runs `rt ci`, or the command given, and prints what each crate took of the processors.
 
 It looks several times a second which crate each prover below the command works on, and whether it proves the crate or
-its tests or tries a must-fail edit, and sums up the processor time. With a kit whose `rt ci` keeps what it proved, that isn't proved
-again and doesn't count: `rt ci --anew` proves all. The table goes to standard output, what the command says to standard
-error.
+its tests or tries a must-fail edit, and sums up the processor time. With a kit whose `rt ci` keeps what it proved, that
+isn't proved again and doesn't count: `rt ci --anew` proves all. The table goes to standard output, what the command says
+to standard error.
 """
 import os
 import re
