@@ -2,3 +2,5 @@ pub mod CountLemmas
 pub mod HeldLaws
 pub mod LeastLemmas
 pub mod QueueLemmas
+pub mod SeekLemmas
+pub mod WaitLemmas

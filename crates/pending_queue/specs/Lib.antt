@@ -1,2 +1,3 @@
 pub mod PendingQueue
 pub mod Lists
+pub mod Waits

@@ -16,6 +16,11 @@ abbrev pub least : List ℕ → Option ℕ
 least [] = None
 least (number ∷ numbers) = Some (least_of (least numbers) number)
 
+-- the least is this one
+abbrev pub is_least : Option ℕ → ℕ → Bool
+is_least None turn = false
+is_least (Some other) turn = other == turn
+
 -- the turns with this one among them
 abbrev pub with_turn : List ℕ → ℕ → List ℕ
 with_turn turns turn = if list_any (λ other. other == turn) turns then turns else turns ++ turn ∷ []
@@ -28,6 +33,10 @@ turns_of calls = map (λ call. call.0) calls
 -- the turns of those none of whose blockers lives
 abbrev pub ready_turns : List (ℕ × ℕ) → List ℕ
 ready_turns calls = map (λ call. call.0) (filter (λ call. call.1 == 0) calls)
+
+-- the least of them stays the least, but where it was this turn
+abbrev pub StaysLeast : ℕ → List (ℕ × ℕ) → List (ℕ × ℕ) → Type 0
+StaysLeast turn old new = is_least (least (ready_turns old)) turn ≡ false → least (ready_turns new) ≡ least (ready_turns old)
 
 -- the call at this place is the one of this turn
 abbrev pub is_at : List (ℕ × ℕ) → ℕ → ℕ → Bool

@@ -4,10 +4,9 @@ ghost use Rattle.std.specs.Prelude.{◌≡◌, ◌≤◌, ◌-◌, ◌==◌, fal
 ghost use Rattle.std.specs.Option.{option_map_or};
 ghost use Rattle.std.specs.Vec.{vec_capacity, vec_len};
 ghost use Rattle.fsa_types.specs.Rows.{lives, row_of, with_row_changed, without_row};
-ghost use Rattle.pending_queue.specs.Lists.{discounted, is_at, least, least_of, ready_turns, turns_of, with_count};
+ghost use Rattle.pending_queue.specs.Lists.{StaysLeast, is_at, is_least, least, least_of, ready_turns, turns_of, with_count};
 
-use crate::lists::is_same;
-use fsa_types::{Blocker, NoMemory};
+use fsa_types::NoMemory;
 
 // Whether the call at this place is the one of this turn.
 fn is_at(calls: &[(u64, usize)], place: usize, turn: u64) -> bool
@@ -49,6 +48,8 @@ pub fn put_count(calls: &mut Vec<(u64, usize)>, turn: u64, count: usize) -> Resu
     ensures len { OnOk result (vec_len calls.new ≡ length (with_count calls.old.items turn count)) }
     ensures succeeds { length (with_count calls.old.items turn count) ≤ vec_capacity calls.old → IsOk result }
     ensures room { vec_capacity calls.old ≤ vec_capacity calls.new }
+    ensures freed { OnOk result (count ≡ 0 → least (ready_turns calls.new.items) ≡ Some (least_of (least (ready_turns calls.old.items)) turn)) }
+    ensures blocked { OnOk result ((count == 0) ≡ false → StaysLeast turn calls.old.items calls.new.items) }
 {
     match place_of(calls, turn) {
         Some(place) => calls[place] = (turn, count),
@@ -68,38 +69,28 @@ pub fn count_of(calls: &[(u64, usize)], turn: u64) -> usize
     }
 }
 
-// One blocker of the call of this turn lives no more.
-fn count_down(calls: &mut Vec<(u64, usize)>, turn: u64)
+/// One blocker of the call of this turn lives no more. Gives whether none does then.
+pub fn count_down(calls: &mut Vec<(u64, usize)>, turn: u64) -> bool
     requires differ { AllPairs (λ a b. (a.0 == b.0) ≡ false) calls.old.items }
     ensures items { calls.new.items ≡ with_row_changed (λ count. count - 1) calls.old.items turn }
     ensures turns { turns_of calls.new.items ≡ turns_of calls.old.items }
     ensures len { vec_len calls.new ≡ vec_len calls.old }
     ensures room { vec_capacity calls.new ≡ vec_capacity calls.old }
+    ensures ready { least (ready_turns calls.new.items) ≡ (if result then Some (least_of (least (ready_turns calls.old.items)) turn) else least (ready_turns calls.old.items)) }
 {
-    if let Some(place) = place_of(calls, turn) {
-        lower(&mut calls[place]);
+    match place_of(calls, turn) {
+        None => false,
+        Some(place) => lower(&mut calls[place]),
     }
 }
 
-// One less.
-fn lower(call: &mut (u64, usize))
-    ensures { call.new ≡ (call.old.0, call.old.1 - 1) }
+// One less. Gives whether none is left.
+fn lower(call: &mut (u64, usize)) -> bool
+    ensures call { call.new ≡ (call.old.0, call.old.1 - 1) }
+    ensures none { result ≡ (call.old.1 - 1 == 0) }
 {
     call.1 = call.1.saturating_sub(1);
-}
-
-/// This blocker, of whatever call, lives no more.
-pub fn count_down_each(calls: &mut Vec<(u64, usize)>, waited: &[(u64, Blocker)], blocker: Blocker)
-    requires differ { AllPairs (λ a b. (a.0 == b.0) ≡ false) calls.old.items }
-    ensures items { calls.new.items ≡ discounted blocker waited.now calls.old.items }
-    ensures len { vec_len calls.new ≡ vec_len calls.old }
-    ensures room { vec_capacity calls.new ≡ vec_capacity calls.old }
-{
-    for entry in waited {
-        if is_same(blocker, entry.1) {
-            count_down(calls, entry.0);
-        }
-    }
+    call.1 == 0
 }
 
 /// Takes the call of this turn out, and gives how many of its blockers live; `None` exactly where it isn't there.
@@ -109,6 +100,7 @@ pub fn take_call(calls: &mut Vec<(u64, usize)>, turn: u64) -> Option<usize>
     ensures items { calls.new.items ≡ without_row calls.old.items turn }
     ensures few { vec_len calls.new ≤ vec_len calls.old }
     ensures room { vec_capacity calls.new ≡ vec_capacity calls.old }
+    ensures stays { StaysLeast turn calls.old.items calls.new.items }
 {
     match place_of(calls, turn) {
         None => None,
@@ -119,8 +111,45 @@ pub fn take_call(calls: &mut Vec<(u64, usize)>, turn: u64) -> Option<usize>
     }
 }
 
-/// The least turn of a call none of whose blockers lives.
-pub fn least_ready(calls: &[(u64, usize)]) -> Option<u64>
+/// The least turn of a call none of whose blockers lives, where it was `first` before so many blockers of the call of
+/// this turn were put in.
+pub fn first_put(calls: &[(u64, usize)], first: Option<u64>, turn: u64, count: usize) -> Option<u64>
+    requires freed { count ≡ 0 → least (ready_turns calls.now) ≡ Some (least_of first turn) }
+    requires blocked { (count == 0) ≡ false → is_least first turn ≡ false → least (ready_turns calls.now) ≡ first }
+    ensures { result ≡ least (ready_turns calls.now) }
+{
+    if count == 0 {
+        least_with(first, turn, true)
+    } else {
+        first_without(calls, first, turn)
+    }
+}
+
+/// The same, where it was `first` before the call of this turn was taken out or blocked. All calls are looked at only
+/// where it was the first.
+pub fn first_without(calls: &[(u64, usize)], first: Option<u64>, turn: u64) -> Option<u64>
+    requires { is_least first turn ≡ false → least (ready_turns calls.now) ≡ first }
+    ensures { result ≡ least (ready_turns calls.now) }
+{
+    if is_least(first, turn) {
+        least_ready(calls)
+    } else {
+        first
+    }
+}
+
+// Whether the least turn is this one.
+fn is_least(first: Option<u64>, turn: u64) -> bool
+    ensures { result ≡ is_least first turn }
+{
+    match first {
+        None => false,
+        Some(other) => other == turn,
+    }
+}
+
+// The least turn of a call none of whose blockers lives, by a look at each.
+fn least_ready(calls: &[(u64, usize)]) -> Option<u64>
     ensures { result ≡ least (ready_turns calls.now) }
 {
     let mut ready = None;
@@ -130,8 +159,8 @@ pub fn least_ready(calls: &[(u64, usize)]) -> Option<u64>
     ready
 }
 
-// The lesser of what was found and this turn, where it counts.
-fn least_with(found: Option<u64>, turn: u64, counts: bool) -> Option<u64>
+/// The lesser of what was found and this turn, where it counts.
+pub fn least_with(found: Option<u64>, turn: u64, counts: bool) -> Option<u64>
     ensures { result ≡ (if counts then Some (least_of found turn) else found) }
 {
     if !counts {

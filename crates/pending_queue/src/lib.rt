@@ -12,16 +12,19 @@
 //! It asks of its caller that each end of a break or a lock is told, and that the blockers of a call
 //! haven't ended when it is held.
 //!
-//! **Cost.** `next_ready` looks at one number. `hold` and `remove` take time linear in the calls that are
-//! held, and in all their blockers where one of the call's own lives; `ended` takes time linear in the
-//! blockers, and besides that in the calls for each of those that waited. `hold` takes memory only where
-//! there is no spare room for what it puts in; nothing else but `reserve` takes any.
+//! **Cost.** `next_ready` looks at one number. `ended` goes over the calls that wait for what ended, and over what
+//! shares a slot with it: blockers are found by their numbers, in half as many slots as there is room for blockers.
+//! A call is found by halves as long as turns rise; where one is taken out, those behind it move. `hold` takes time
+//! linear in its blockers, and `remove` none for them, but that both go over all blockers where one of those that the
+//! call was held by lives. Where the call that is held or removed was the first that is ready, all calls are looked at for
+//! the next. `hold` takes memory only where there is no spare room for what it puts in; nothing else but `reserve`
+//! takes any. Where room is taken for blockers, those that live move to new room, in time linear in all.
 #![tactic(auto)]
 
 mod calls;
-mod lists;
 mod queue;
 #[cfg(test)]
 mod tests;
+mod waits;
 
 pub use queue::PendingQueue;

@@ -4,8 +4,8 @@ ghost use Rattle.std.specs.Prelude.{◌≡◌, ◌≤◌, ◌+◌, ◌==◌, [],
 ghost use Rattle.fsa_types.specs.Rows.{lives, without_row};
 ghost use Rattle.pending_queue.specs.PendingQueue.{with_held, with_ended, next_ready, calls_added};
 
-use crate::calls::{count_down_each, count_of, least_ready, put_count, take_call};
-use crate::lists::{drop_blocker, drop_rest, is_waited_for, put_blockers};
+use crate::calls::{count_of, first_put, first_without, put_count, take_call};
+use crate::waits::Waits;
 use fsa_types::{Blocker, BlockerList, NoMemory};
 use std::alloc::Global;
 use std::marker::Model;
@@ -17,7 +17,7 @@ pub struct PendingQueue {
     // The calls, each its turn and how many of its blockers live.
     calls: Vec<(u64, usize)>,
     // The blockers that live, each with the turn of the call that waits for it.
-    waited: Vec<(u64, Blocker)>,
+    waits: Waits,
     // The least turn of a call none of whose blockers lives.
     first: Option<u64>,
 }
@@ -31,12 +31,12 @@ impl Model for PendingQueue {
     ghost Value = { Queue };
 
     ghost view = { λ q. record {
-      held = held_of (turns_of q.calls.items) q.waited.items;
+      held = held_of (turns_of q.calls.items) q.waits.entries;
       room_for_calls = vec_capacity q.calls - vec_len q.calls;
-      room_for_blockers = vec_capacity q.waited - vec_len q.waited;
+      room_for_blockers = q.waits.room;
     } };
 
-    ghost invariant = { λ q. AreCounted q.calls.items q.waited.items q.first };
+    ghost invariant = { λ q. AreCounted q.calls.items q.waits.entries q.first };
 }
 
 impl PendingQueue {
@@ -46,7 +46,7 @@ impl PendingQueue {
     {
         PendingQueue {
             calls: Vec::new(alloc),
-            waited: Vec::new(alloc),
+            waits: Waits::new(alloc),
             first: None,
         }
     }
@@ -61,7 +61,7 @@ impl PendingQueue {
         ensures blockers_kept { self.old.room_for_blockers ≤ self.new.room_for_blockers }
     {
         self.calls.reserve(calls)?;
-        self.waited.reserve(blockers)?;
+        self.waits.reserve(blockers)?;
         Ok(())
     }
 
@@ -86,11 +86,11 @@ impl PendingQueue {
         ensures calls_left { self.old.room_for_calls ≤ self.new.room_for_calls + calls_added self.old.held turn }
         ensures blockers_left { self.old.room_for_blockers ≤ self.new.room_for_blockers + length blockers.now }
     {
-        self.waited.reserve(blockers.len())?;
+        self.waits.reserve(blockers.len())?;
         let count = count_of(&self.calls, turn);
         put_count(&mut self.calls, turn, blockers.len())?;
-        put_blockers(&mut self.waited, turn, count, blockers);
-        self.first = least_ready(&self.calls);
+        self.waits.put(turn, count, blockers);
+        self.first = first_put(&self.calls, self.first, turn, blockers.len());
         Ok(())
     }
 
@@ -101,12 +101,7 @@ impl PendingQueue {
         ensures calls_kept { self.old.room_for_calls ≤ self.new.room_for_calls }
         ensures blockers_kept { self.old.room_for_blockers ≤ self.new.room_for_blockers }
     {
-        if !is_waited_for(&self.waited, blocker) {
-            return;
-        }
-        count_down_each(&mut self.calls, &self.waited, blocker);
-        drop_blocker(&mut self.waited, blocker);
-        self.first = least_ready(&self.calls);
+        self.first = self.waits.end(&mut self.calls, self.first, blocker);
     }
 
     /// The least turn of a call none of whose blockers lives; `None` exactly where there is none.
@@ -128,8 +123,8 @@ impl PendingQueue {
         let Some(count) = take_call(&mut self.calls, turn) else {
             return false;
         };
-        drop_rest(&mut self.waited, turn, count);
-        self.first = least_ready(&self.calls);
+        self.waits.drop_of(turn, count);
+        self.first = first_without(&self.calls, self.first, turn);
         true
     }
 }

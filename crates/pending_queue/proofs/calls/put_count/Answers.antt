@@ -5,6 +5,7 @@ use Rattle.std.specs.Prelude.{◌==◌}
 use Rattle.fsa_types.specs.Rows.{lives}
 use Rattle.fsa_types.proofs.RowLemmas.{IsAt-position}
 use Rattle.pending_queue.proofs.CountLemmas.{changed-at, length-there, lives-at}
+use Rattle.pending_queue.proofs.LeastLemmas.{least-freed, least-pushed, stays-blocked}
 use Rattle.pending_queue.proofs.calls.put_count.Goals as goal
 
 pub returns-in-Some-clause-ok : goal.returns-in-Some-clause-ok
@@ -23,3 +24,20 @@ returns-in-Some-clause-len c =
     let there : lives rows c.args.turn ≡ true = lives-at rows c.args.turn c.in-Some.place (0, 0) at.within (at.here (0, 0)) in
     let long : length rows ≡ vec_len c.args.calls.now = rw c.deref.ensures.value at c.deref.ensures.len in
     sym long ∙ length-there rows c.args.turn c.args.count there
+
+pub returns-in_ok-push-in-None-clause-freed : goal.returns-in_ok-push-in-None-clause-freed
+returns-in_ok-push-in-None-clause-freed c none = rw (c.in_ok-push-in-None.ensures.items, none) (least-pushed c.args.calls.now.items c.args.turn)
+
+pub returns-in-Some-clause-freed : goal.returns-in-Some-clause-freed
+returns-in-Some-clause-freed c none =
+    let rows = c.args.calls.now.items in
+    let found : position (λ e. e.0 == c.args.turn) rows ≡ Some c.in-Some.place = rw c.deref.ensures.value at (sym c.place_of.ensures.place ∙ c.in-Some.is) in
+    let at = IsAt-position rows c.args.turn c.in-Some.place (0, 0) found in
+    rw none (least-freed rows c.in-Some.place c.args.turn (0, 0) at.within (at.here (0, 0)))
+
+pub returns-in-Some-clause-blocked : goal.returns-in-Some-clause-blocked
+returns-in-Some-clause-blocked c some =
+    let rows = c.args.calls.now.items in
+    let found : position (λ e. e.0 == c.args.turn) rows ≡ Some c.in-Some.place = rw c.deref.ensures.value at (sym c.place_of.ensures.place ∙ c.in-Some.is) in
+    let at = IsAt-position rows c.args.turn c.in-Some.place (0, 0) found in
+    stays-blocked rows c.in-Some.place c.args.turn c.args.count (0, 0) at.within (at.here (0, 0)) some

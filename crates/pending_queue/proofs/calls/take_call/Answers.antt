@@ -3,6 +3,7 @@ use Rattle.std.specs.List.{position}
 use Rattle.std.specs.Prelude.{◌==◌}
 use Rattle.fsa_types.proofs.RowLemmas.{IsAt-position, fails-none}
 use Rattle.pending_queue.proofs.CountLemmas.{removed-at, row-at, row-none, without-none}
+use Rattle.pending_queue.proofs.LeastLemmas.{stays-removed}
 use Rattle.pending_queue.proofs.calls.take_call.Goals as goal
 
 pub returns-in-None-clause-count : goal.returns-in-None-clause-count
@@ -25,3 +26,10 @@ returns-in-Some-clause-items c =
     let found : position (λ e. e.0 == c.args.turn) rows ≡ Some c.in-Some.place = rw c.deref.ensures.value at (sym c.place_of.ensures.place ∙ c.in-Some.is) in
     let at = IsAt-position rows c.args.turn c.in-Some.place (0, 0) found in
     c.remove-call.ensures.items ∙ removed-at rows c.args.turn c.in-Some.place (0, 0) c.requires.differ at.within (at.here (0, 0))
+
+pub returns-in-Some-clause-stays : goal.returns-in-Some-clause-stays
+returns-in-Some-clause-stays c =
+    let rows = c.args.calls.now.items in
+    let found : position (λ e. e.0 == c.args.turn) rows ≡ Some c.in-Some.place = rw c.deref.ensures.value at (sym c.place_of.ensures.place ∙ c.in-Some.is) in
+    let at = IsAt-position rows c.args.turn c.in-Some.place (0, 0) found in
+    rw c.remove-call.ensures.items (stays-removed rows c.in-Some.place c.args.turn (0, 0) at.within (at.here (0, 0)))

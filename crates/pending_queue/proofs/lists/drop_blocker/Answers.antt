@@ -1,7 +1,0 @@
-use Rattle.std.proofs.Common.{rules, not}
-use Rattle.std.proofs.lemmas.Fn.{filter_same}
-use Rattle.pending_queue.specs.PendingQueue.{is_same}
-use Rattle.pending_queue.proofs.lists.drop_blocker.Goals as goal
-
-pub returns-clause-items : goal.returns-clause-items
-returns-clause-items c = filter_same _ (λ entry. not (is_same c.args.blocker entry.1)) _ (λ x b f k. search rules) _ _ c.retain.ensures.filtered

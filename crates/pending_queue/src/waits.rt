@@ -1,0 +1,367 @@
+//! The blockers that live, each with the turn that waits for it: those of one blocker are found without a look at the
+//! others.
+
+ghost use Rattle.std.specs.Prelude.{◌≡◌, ◌≤◌, ◌<◌, ◌+◌, ◌==◌, ◌++◌, ◌∷◌, [], false, not, count_by, map, filter, get_or, set, length, AllPairs, IfOk, IsOk, OnOk};
+ghost use Rattle.std.specs.Vec.{vec_capacity, vec_len};
+ghost use Rattle.pending_queue.specs.Lists.{discounted, least, ready_turns, turns_of};
+ghost use Rattle.pending_queue.specs.PendingQueue.{blockers_of, is_same};
+ghost use Rattle.pending_queue.specs.Waits.{AreLinked, dropped, end_of, entries_of, links_of, nothing, number_of, over_at, slot, slots_of, waits_for};
+
+use crate::calls::{count_down, least_with};
+use fsa_types::{Blocker, NoMemory};
+use std::alloc::Global;
+use std::marker::Model;
+
+/// A blocker that a call waits for.
+#[derive(Clone, Copy, Debug)]
+pub struct Wait {
+    /// The call's turn.
+    pub turn: u64,
+    /// What it waits for.
+    pub blocker: Blocker,
+    /// Whether it still does.
+    pub lives: bool,
+    /// One more than the place of the last one before it that has its slot; 0 where there is none.
+    pub link: usize,
+}
+
+/// The blockers that live, each with the turn that waits for it, in the order in which they were put in.
+#[derive(Debug, Drop)]
+pub struct Waits {
+    // In order, also those that live no more, until room is taken anew.
+    waits: Vec<Wait>,
+    // For each slot one more than the place of the last one that has it; 0 where none does.
+    heads: Vec<usize>,
+}
+
+impl Model for Waits {
+    ghost use Rattle.pending_queue.specs.Waits.{AreLinked, Waiting, entries_of, links_of, slots_of};
+    ghost use Rattle.std.specs.Prelude.{◌-◌, length};
+    ghost use Rattle.std.specs.Vec.{vec_capacity, vec_len};
+
+    ghost Value = { Waiting };
+
+    ghost view = { λ w. record { entries = entries_of w.waits.items; room = vec_capacity w.waits - vec_len w.waits } };
+
+    ghost invariant = { λ w. AreLinked w.heads.items (slots_of (length w.heads.items) w.waits.items) (links_of w.waits.items) };
+}
+
+impl Waits {
+    /// No call waits. It takes no memory.
+    pub fn new(alloc: Global) -> Waits
+        ensures { result.entries ≡ [] }
+    {
+        Waits {
+            waits: Vec::new(alloc),
+            heads: Vec::new(alloc),
+        }
+    }
+
+    /// Takes room for so many more. `NoMemory` where there is none; nothing has changed then. Where there is room it
+    /// takes no memory.
+    pub fn reserve(&mut self, more: usize) -> Result<(), NoMemory>
+        ensures entries { self.new.entries ≡ self.old.entries }
+        ensures room { OnOk result (more ≤ self.new.room) }
+        ensures kept { self.old.room ≤ self.new.room }
+        ensures succeeds { more ≤ self.old.room → IsOk result }
+    {
+        if more <= self.waits.capacity() - self.waits.len() {
+            return Ok(());
+        }
+        *self = self.rebuilt(more)?;
+        Ok(())
+    }
+
+    // The same in new room, with room for so many more.
+    fn rebuilt(&self, more: usize) -> Result<Waits, NoMemory>
+        ensures entries { IfOk result (λ fresh. fresh.entries ≡ self.now.entries) }
+        ensures room { IfOk result (λ fresh. more ≤ fresh.room) }
+    {
+        let living = count_living(&self.waits);
+        let Some(least) = living.checked_add(more) else {
+            return Err(NoMemory);
+        };
+        let mut fresh = Waits::with_room(*self.waits.allocator(), room_of(least, living))?;
+        put_living(&mut fresh, &self.waits);
+        Ok(fresh)
+    }
+
+    // None, and room for so many.
+    fn with_room(alloc: Global, room: usize) -> Result<Waits, NoMemory>
+        ensures entries { IfOk result (λ fresh. fresh.entries ≡ []) }
+        ensures room { IfOk result (λ fresh. room ≤ fresh.room) }
+    {
+        let waits = Vec::with_capacity(alloc, room)?;
+        let heads = vec![in alloc; 0; slots_for(room)]?;
+        Ok(Waits { waits, heads })
+    }
+
+    // Puts a blocker of the call of this turn at the end. There has to be room for it.
+    fn push(&mut self, turn: u64, blocker: Blocker)
+        requires { 1 ≤ self.old.room }
+        ensures entries { self.new.entries ≡ self.old.entries ++ (turn, blocker) ∷ [] }
+        ensures left { self.old.room ≤ self.new.room + 1 }
+    {
+        let own = slot_of(self.heads.len(), number_of(blocker));
+        let link = end_of(&self.heads, own, self.waits.len());
+        let Ok(()) = self.waits.push(Wait {
+            turn,
+            blocker,
+            lives: true,
+            link,
+        })
+        else {
+            unreachable!()
+        };
+        set_head(&mut self.heads, own, self.waits.len());
+    }
+
+    /// Puts these blockers of the call of this turn in place of those that it has, of which there are so many. There
+    /// has to be room for them.
+    pub fn put(&mut self, turn: u64, count: usize, blockers: &[Blocker])
+        requires count { count ≡ length (blockers_of self.old.entries turn) }
+        requires room { length blockers.now ≤ self.old.room }
+        ensures entries { self.new.entries ≡ filter (λ entry. not (entry.0 == turn)) self.old.entries ++ map (λ blocker. (turn, blocker)) blockers.now }
+        ensures left { self.old.room ≤ self.new.room + length blockers.now }
+    {
+        self.drop_of(turn, count);
+        self.add(turn, blockers);
+    }
+
+    // Puts these blockers of the call of this turn at the end. There has to be room for them.
+    fn add(&mut self, turn: u64, blockers: &[Blocker])
+        requires room { length blockers.now ≤ self.old.room }
+        ensures entries { self.new.entries ≡ self.old.entries ++ map (λ blocker. (turn, blocker)) blockers.now }
+        ensures left { self.old.room ≤ self.new.room + length blockers.now }
+    {
+        for blocker in blockers {
+            self.push(turn, *blocker);
+        }
+    }
+
+    /// Takes all blockers of the call of this turn out, of which there are so many. It takes no memory, and leaves the
+    /// room as it was.
+    pub fn drop_of(&mut self, turn: u64, count: usize)
+        requires { count ≡ length (blockers_of self.old.entries turn) }
+        ensures entries { self.new.entries ≡ filter (λ entry. not (entry.0 == turn)) self.old.entries }
+        ensures room { self.new.room ≡ self.old.room }
+    {
+        if count != 0 {
+            drop_each(&mut self.waits, turn);
+        }
+    }
+
+    /// This blocker, of whatever call, lives no more. Of each call its count is lowered for it. Gives the least turn of
+    /// a call none of whose blockers lives then, where it was `first` before. It takes no memory, and leaves the room as
+    /// it was.
+    pub fn end(
+        &mut self,
+        calls: &mut Vec<(u64, usize)>,
+        first: Option<u64>,
+        blocker: Blocker,
+    ) -> Option<u64>
+        requires differ { AllPairs (λ a b. (a.0 == b.0) ≡ false) calls.old.items }
+        requires first { first ≡ least (ready_turns calls.old.items) }
+        ensures entries { self.new.entries ≡ filter (λ entry. not (is_same blocker entry.1)) self.old.entries }
+        ensures room { self.new.room ≡ self.old.room }
+        ensures calls { calls.new.items ≡ discounted blocker self.old.entries calls.old.items }
+        ensures len { vec_len calls.new ≡ vec_len calls.old }
+        ensures capacity { vec_capacity calls.new ≡ vec_capacity calls.old }
+        ensures first { result ≡ least (ready_turns calls.new.items) }
+    {
+        end_each(&mut self.waits, &self.heads, calls, first, blocker)
+    }
+}
+
+// Puts those that live at the end. There has to be room for them.
+fn put_living(fresh: &mut Waits, waits: &[Wait])
+    requires room { length (entries_of waits.now) ≤ fresh.old.room }
+    ensures entries { fresh.new.entries ≡ fresh.old.entries ++ entries_of waits.now }
+    ensures left { fresh.old.room ≤ fresh.new.room + length (entries_of waits.now) }
+{
+    for wait in waits {
+        if wait.lives {
+            fresh.push(wait.turn, wait.blocker);
+        }
+    }
+}
+
+// Room for no less than `least`, and for twice as many as live, so that room is seldom taken.
+fn room_of(least: usize, living: usize) -> usize
+    ensures { least ≤ result }
+{
+    least.saturating_add(living).max(16)
+}
+
+// How many slots there are where there is room for so many. Where it is little each is looked at.
+fn slots_for(room: usize) -> usize {
+    if room < 64 { 0 } else { room / 2 }
+}
+
+// How many live.
+fn count_living(waits: &[Wait]) -> usize
+    ensures { result ≡ count_by (λ wait. wait.lives) waits.now }
+{
+    waits.iter().filter(|wait| wait.lives).count()
+}
+
+// The number of a break or a lock.
+fn number_of(blocker: Blocker) -> u64
+    ensures { result ≡ number_of blocker }
+{
+    match blocker {
+        Blocker::Break(number) => number,
+        Blocker::Lock(number) => number,
+    }
+}
+
+// The slot of a number among so many.
+fn slot_of(many: usize, number: u64) -> usize
+    ensures { result ≡ slot many number }
+{
+    if many == 0 {
+        0
+    } else {
+        (number % many as u64) as usize
+    }
+}
+
+// Where those of a slot end, or all where it has no head.
+fn end_of(heads: &[usize], own: usize, many: usize) -> usize
+    ensures { result ≡ end_of heads.now own many }
+{
+    match heads.get(own) {
+        None => many,
+        Some(head) => *head,
+    }
+}
+
+// Those of this slot end here, where it has a head.
+fn set_head(heads: &mut Vec<usize>, own: usize, end: usize)
+    ensures { heads.new.items ≡ set heads.old.items own end }
+{
+    if own < heads.len() {
+        heads[own] = end;
+    }
+}
+
+// Takes all blockers of the call of this turn out.
+fn drop_each(waits: &mut Vec<Wait>, turn: u64)
+    ensures items { waits.new.items ≡ map (dropped turn) waits.old.items }
+    ensures len { vec_len waits.new ≡ vec_len waits.old }
+    ensures room { vec_capacity waits.new ≡ vec_capacity waits.old }
+{
+    drop_all(waits, turn);
+}
+
+// The same of a slice.
+fn drop_all(waits: &mut [Wait], turn: u64)
+    ensures { waits.new ≡ map (dropped turn) waits.old }
+{
+    for wait in waits.iter_mut() {
+        *wait = without_turn(*wait, turn);
+    }
+}
+
+// It lives no more where it is this turn's.
+fn without_turn(wait: Wait, turn: u64) -> Wait
+    ensures { result ≡ dropped turn wait }
+{
+    Wait {
+        turn: wait.turn,
+        blocker: wait.blocker,
+        lives: wait.lives && wait.turn != turn,
+        link: wait.link,
+    }
+}
+
+/// Whether two blockers are the same.
+pub fn is_same(blocker: Blocker, other: Blocker) -> bool
+    ensures { result ≡ is_same blocker other }
+{
+    match (blocker, other) {
+        (Blocker::Break(number), Blocker::Break(other_number)) => number == other_number,
+        (Blocker::Lock(number), Blocker::Lock(other_number)) => number == other_number,
+        _ => false,
+    }
+}
+
+// This blocker lives no more: goes from the last one that has its slot to the one before it, and so on.
+fn end_each(
+    waits: &mut Vec<Wait>,
+    heads: &[usize],
+    calls: &mut Vec<(u64, usize)>,
+    first: Option<u64>,
+    blocker: Blocker,
+) -> Option<u64>
+    requires linked { AreLinked heads.now (slots_of (length heads.now) waits.old.items) (links_of waits.old.items) }
+    requires differ { AllPairs (λ a b. (a.0 == b.0) ≡ false) calls.old.items }
+    requires first { first ≡ least (ready_turns calls.old.items) }
+    ensures entries { entries_of waits.new.items ≡ filter (λ entry. not (is_same blocker entry.1)) (entries_of waits.old.items) }
+    ensures slots { slots_of (length heads.now) waits.new.items ≡ slots_of (length heads.now) waits.old.items }
+    ensures links { links_of waits.new.items ≡ links_of waits.old.items }
+    ensures waits_len { vec_len waits.new ≡ vec_len waits.old }
+    ensures waits_room { vec_capacity waits.new ≡ vec_capacity waits.old }
+    ensures calls { calls.new.items ≡ discounted blocker (entries_of waits.old.items) calls.old.items }
+    ensures len { vec_len calls.new ≡ vec_len calls.old }
+    ensures room { vec_capacity calls.new ≡ vec_capacity calls.old }
+    ensures first { result ≡ least (ready_turns calls.new.items) }
+{
+    let mut least = first;
+    let mut end = end_of(heads, slot_of(heads.len(), number_of(blocker)), waits.len());
+    while end > 0 {
+        let place = end - 1;
+        let link = waits[place].link;
+        least = end_at(waits, place, calls, least, blocker);
+        end = link;
+    }
+    least
+}
+
+// This blocker lives no more at this place, where it stands there.
+fn end_at(
+    waits: &mut Vec<Wait>,
+    place: usize,
+    calls: &mut Vec<(u64, usize)>,
+    first: Option<u64>,
+    blocker: Blocker,
+) -> Option<u64>
+    requires within { place < length waits.old.items }
+    requires differ { AllPairs (λ a b. (a.0 == b.0) ≡ false) calls.old.items }
+    requires first { first ≡ least (ready_turns calls.old.items) }
+    ensures items { waits.new.items ≡ over_at blocker waits.old.items place }
+    ensures waits_len { vec_len waits.new ≡ vec_len waits.old }
+    ensures waits_room { vec_capacity waits.new ≡ vec_capacity waits.old }
+    ensures calls { calls.new.items ≡ discounted blocker (entries_of (get_or waits.old.items place nothing ∷ [])) calls.old.items }
+    ensures turns { turns_of calls.new.items ≡ turns_of calls.old.items }
+    ensures len { vec_len calls.new ≡ vec_len calls.old }
+    ensures room { vec_capacity calls.new ≡ vec_capacity calls.old }
+    ensures first { result ≡ least (ready_turns calls.new.items) }
+{
+    let wait = waits[place];
+    if !waits_for(wait, blocker) {
+        return first;
+    }
+    waits[place] = ended(wait);
+    let ready = count_down(calls, wait.turn);
+    least_with(first, wait.turn, ready)
+}
+
+// Whether it lives, and is this blocker's.
+fn waits_for(wait: Wait, blocker: Blocker) -> bool
+    ensures { result ≡ waits_for blocker wait }
+{
+    wait.lives && is_same(blocker, wait.blocker)
+}
+
+// It lives no more.
+fn ended(wait: Wait) -> Wait
+    ensures { result ≡ record wait { lives = false } }
+{
+    Wait {
+        turn: wait.turn,
+        blocker: wait.blocker,
+        lives: false,
+        link: wait.link,
+    }
+}
