@@ -25,31 +25,51 @@ number_of (Lock number) = number
 abbrev pub slot : ℕ → ℕ → ℕ
 slot many number = if many == 0 then 0 else number % many
 
--- the slots of the blockers, and what each is linked to
-abbrev pub slots_of : ℕ → List Wait → List ℕ
-slots_of many waits = map (λ wait. slot many (number_of wait.blocker)) waits
+-- what a wait is found by, its blocker's number or its turn, and what it is linked to by each
+abbrev pub by_blocker : Wait → ℕ
+by_blocker wait = number_of wait.blocker
 
-abbrev pub links_of : List Wait → List ℕ
-links_of waits = map (λ wait. wait.link) waits
+abbrev pub by_turn : Wait → ℕ
+by_turn wait = wait.turn
 
--- it lives, and is this blocker's
-abbrev pub waits_for : Blocker → Wait → Bool
-waits_for blocker wait = wait.lives && is_same blocker wait.blocker
+abbrev pub link_of : Wait → ℕ
+link_of wait = wait.link
 
--- it lives no more where it is this blocker's
-abbrev pub over : Blocker → Wait → Wait
-over blocker wait = record wait { lives = wait.lives && not (is_same blocker wait.blocker) }
+abbrev pub turn_link_of : Wait → ℕ
+turn_link_of wait = wait.turn_link
 
--- it lives no more where it is this turn's
-abbrev pub dropped : ℕ → Wait → Wait
-dropped turn wait = record wait { lives = wait.lives && not (wait.turn == turn) }
+-- their slots, and what each is linked to
+abbrev pub slots_of : (Wait → ℕ) → ℕ → List Wait → List ℕ
+slots_of key many waits = map (λ wait. slot many (key wait)) waits
+
+abbrev pub links_of : (Wait → ℕ) → List Wait → List ℕ
+links_of link waits = map (λ wait. link wait) waits
+
+-- a blocker under a turn is this one, or is this turn's
+abbrev pub is_blocker : Blocker → ℕ × Blocker → Bool
+is_blocker blocker entry = is_same blocker entry.1
+
+abbrev pub is_turn : ℕ → ℕ × Blocker → Bool
+is_turn turn entry = entry.0 == turn
+
+-- it lives and passes the test
+abbrev pub is_out : (ℕ × Blocker → Bool) → Wait → Bool
+is_out out wait = wait.lives && out (wait.turn, wait.blocker)
+
+-- it lives no more where it passes the test
+abbrev pub over : (ℕ × Blocker → Bool) → Wait → Wait
+over out wait = record wait { lives = wait.lives && not (out (wait.turn, wait.blocker)) }
 
 abbrev pub nothing : Wait
-nothing = record { turn = 0; blocker = Break 0; lives = false; link = 0 }
+nothing = record { turn = 0; blocker = Break 0; lives = false; link = 0; turn_link = 0 }
 
--- the wait at this place lives no more where it is this blocker's
-abbrev pub over_at : Blocker → List Wait → ℕ → List Wait
-over_at blocker waits place = set waits place (over blocker (get_or waits place nothing))
+-- the wait at this place lives no more where it passes the test
+abbrev pub over_at : (ℕ × Blocker → Bool) → List Wait → ℕ → List Wait
+over_at out waits place = set waits place (over out (get_or waits place nothing))
+
+-- all of a wait but whether it lives
+abbrev pub bare : Wait → Wait
+bare wait = record wait { lives = false }
 
 -- one more than the last place before this end that passes the test; 0 where none does
 abbrev pub seek : (ℕ → Bool) → ℕ → ℕ
@@ -68,3 +88,8 @@ end_of heads own many = option_map_or (λ head. head) (slice_get heads own) many
 pub record AreLinked (heads slots links : List ℕ) : Type 0 where
   pub ends : (own : ℕ) → own < length heads → get_or heads own 0 ≡ seek (is_in slots own) (length slots)
   pub nexts : (place : ℕ) → place < length slots → get_or links place 0 ≡ seek (is_in slots (get_or slots place 0)) place
+
+-- waits are found by their blockers, and by their turns
+pub record AreFound (heads turn_heads : List ℕ) (waits : List Wait) : Type 0 where
+  pub blockers : AreLinked heads (slots_of by_blocker (length heads) waits) (links_of link_of waits)
+  pub turns : AreLinked turn_heads (slots_of by_turn (length turn_heads) waits) (links_of turn_link_of waits)

@@ -12,13 +12,13 @@
 //! It asks of its caller that each end of a break or a lock is told, and that the blockers of a call
 //! haven't ended when it is held.
 //!
-//! **Cost.** `next_ready` looks at one number. `ended` goes over the calls that wait for what ended, and over what
-//! shares a slot with it: blockers are found by their numbers, in half as many slots as there is room for blockers.
-//! A call is found by halves as long as turns rise; where one is taken out, those behind it move. `hold` takes time
-//! linear in its blockers, and `remove` none for them, but that both go over all blockers where one of those that the
-//! call was held by lives. Where the call that is held or removed was the first that is ready, all calls are looked at for
-//! the next. `hold` takes memory only where there is no spare room for what it puts in; nothing else but `reserve`
-//! takes any. Where room is taken for blockers, those that live move to new room, in time linear in all.
+//! **Cost.** `next_ready` looks at one number. `ended` goes over the calls that wait for what ended, and `remove` and
+//! `hold` over the blockers that the call was held by and that live, each beside what shares a slot with them: blockers
+//! are found by their numbers and by their turns, each in half as many slots as there was room when room was taken. A call
+//! is found by halves as long as turns rise; where one is taken out, those behind it move. Where the call that is held or
+//! removed was the first that is ready, all calls are looked at for the next. `hold` takes memory only where there is
+//! no spare room for what it puts in; nothing else but `reserve` takes any. Where room is taken for blockers, those that
+//! live move to new room, in time linear in all.
 #![tactic(auto)]
 
 mod calls;

@@ -5,7 +5,7 @@ ghost use Rattle.std.specs.Prelude.{◌≡◌, ◌≤◌, ◌<◌, ◌+◌, ◌=
 ghost use Rattle.std.specs.Vec.{vec_capacity, vec_len};
 ghost use Rattle.pending_queue.specs.Lists.{discounted, least, ready_turns, turns_of};
 ghost use Rattle.pending_queue.specs.PendingQueue.{blockers_of, is_same};
-ghost use Rattle.pending_queue.specs.Waits.{AreLinked, dropped, end_of, entries_of, links_of, nothing, number_of, over_at, slot, slots_of, waits_for};
+ghost use Rattle.pending_queue.specs.Waits.{AreLinked, bare, by_blocker, by_turn, end_of, entries_of, is_blocker, is_out, is_turn, link_of, links_of, nothing, number_of, over, over_at, slot, slots_of, turn_link_of};
 
 use crate::calls::{count_down, least_with};
 use fsa_types::{Blocker, NoMemory};
@@ -21,8 +21,10 @@ pub struct Wait {
     pub blocker: Blocker,
     /// Whether it still does.
     pub lives: bool,
-    /// One more than the place of the last one before it that has its slot; 0 where there is none.
+    /// One more than the place of the last one before it that has the slot of its blocker; 0 where there is none.
     pub link: usize,
+    /// The same of the slot of its turn.
+    pub turn_link: usize,
 }
 
 /// The blockers that live, each with the turn that waits for it, in the order in which they were put in.
@@ -30,20 +32,22 @@ pub struct Wait {
 pub struct Waits {
     // In order, also those that live no more, until room is taken anew.
     waits: Vec<Wait>,
-    // For each slot one more than the place of the last one that has it; 0 where none does.
+    // For each slot one more than the place of the last one whose blocker has it; 0 where none does.
     heads: Vec<usize>,
+    // The same of their turns.
+    turn_heads: Vec<usize>,
 }
 
 impl Model for Waits {
-    ghost use Rattle.pending_queue.specs.Waits.{AreLinked, Waiting, entries_of, links_of, slots_of};
-    ghost use Rattle.std.specs.Prelude.{◌-◌, length};
+    ghost use Rattle.pending_queue.specs.Waits.{AreFound, Waiting, entries_of};
+    ghost use Rattle.std.specs.Prelude.{◌-◌};
     ghost use Rattle.std.specs.Vec.{vec_capacity, vec_len};
 
     ghost Value = { Waiting };
 
     ghost view = { λ w. record { entries = entries_of w.waits.items; room = vec_capacity w.waits - vec_len w.waits } };
 
-    ghost invariant = { λ w. AreLinked w.heads.items (slots_of (length w.heads.items) w.waits.items) (links_of w.waits.items) };
+    ghost invariant = { λ w. AreFound w.heads.items w.turn_heads.items w.waits.items };
 }
 
 impl Waits {
@@ -54,6 +58,7 @@ impl Waits {
         Waits {
             waits: Vec::new(alloc),
             heads: Vec::new(alloc),
+            turn_heads: Vec::new(alloc),
         }
     }
 
@@ -93,7 +98,12 @@ impl Waits {
     {
         let waits = Vec::with_capacity(alloc, room)?;
         let heads = vec![in alloc; 0; slots_for(room)]?;
-        Ok(Waits { waits, heads })
+        let turn_heads = vec![in alloc; 0; slots_for(room)]?;
+        Ok(Waits {
+            waits,
+            heads,
+            turn_heads,
+        })
     }
 
     // Puts a blocker of the call of this turn at the end. There has to be room for it.
@@ -104,16 +114,20 @@ impl Waits {
     {
         let own = slot_of(self.heads.len(), number_of(blocker));
         let link = end_of(&self.heads, own, self.waits.len());
-        let Ok(()) = self.waits.push(Wait {
+        let turn_own = slot_of(self.turn_heads.len(), turn);
+        let turn_link = end_of(&self.turn_heads, turn_own, self.waits.len());
+        let wait = Wait {
             turn,
             blocker,
             lives: true,
             link,
-        })
-        else {
+            turn_link,
+        };
+        let Ok(()) = self.waits.push(wait) else {
             unreachable!()
         };
         set_head(&mut self.heads, own, self.waits.len());
+        set_head(&mut self.turn_heads, turn_own, self.waits.len());
     }
 
     /// Puts these blockers of the call of this turn in place of those that it has, of which there are so many. There
@@ -147,7 +161,7 @@ impl Waits {
         ensures room { self.new.room ≡ self.old.room }
     {
         if count != 0 {
-            drop_each(&mut self.waits, turn);
+            drop_each(&mut self.waits, &self.turn_heads, turn);
         }
     }
 
@@ -245,33 +259,34 @@ fn set_head(heads: &mut Vec<usize>, own: usize, end: usize)
     }
 }
 
-// Takes all blockers of the call of this turn out.
-fn drop_each(waits: &mut Vec<Wait>, turn: u64)
-    ensures items { waits.new.items ≡ map (dropped turn) waits.old.items }
+// Takes all blockers of the call of this turn out: goes from the last one that has its slot to the one before it, and so
+// on.
+fn drop_each(waits: &mut Vec<Wait>, heads: &[usize], turn: u64)
+    requires { AreLinked heads.now (slots_of by_turn (length heads.now) waits.old.items) (links_of turn_link_of waits.old.items) }
+    ensures entries { entries_of waits.new.items ≡ filter (λ entry. not (is_turn turn entry)) (entries_of waits.old.items) }
+    ensures bare { map bare waits.new.items ≡ map bare waits.old.items }
     ensures len { vec_len waits.new ≡ vec_len waits.old }
     ensures room { vec_capacity waits.new ≡ vec_capacity waits.old }
 {
-    drop_all(waits, turn);
-}
-
-// The same of a slice.
-fn drop_all(waits: &mut [Wait], turn: u64)
-    ensures { waits.new ≡ map (dropped turn) waits.old }
-{
-    for wait in waits.iter_mut() {
-        *wait = without_turn(*wait, turn);
+    let mut end = end_of(heads, slot_of(heads.len(), turn), waits.len());
+    while end > 0 {
+        let place = end - 1;
+        let wait = waits[place];
+        waits[place] = without_turn(wait, turn);
+        end = wait.turn_link;
     }
 }
 
 // It lives no more where it is this turn's.
 fn without_turn(wait: Wait, turn: u64) -> Wait
-    ensures { result ≡ dropped turn wait }
+    ensures { result ≡ over (is_turn turn) wait }
 {
     Wait {
         turn: wait.turn,
         blocker: wait.blocker,
         lives: wait.lives && wait.turn != turn,
         link: wait.link,
+        turn_link: wait.turn_link,
     }
 }
 
@@ -294,12 +309,11 @@ fn end_each(
     first: Option<u64>,
     blocker: Blocker,
 ) -> Option<u64>
-    requires linked { AreLinked heads.now (slots_of (length heads.now) waits.old.items) (links_of waits.old.items) }
+    requires linked { AreLinked heads.now (slots_of by_blocker (length heads.now) waits.old.items) (links_of link_of waits.old.items) }
     requires differ { AllPairs (λ a b. (a.0 == b.0) ≡ false) calls.old.items }
     requires first { first ≡ least (ready_turns calls.old.items) }
     ensures entries { entries_of waits.new.items ≡ filter (λ entry. not (is_same blocker entry.1)) (entries_of waits.old.items) }
-    ensures slots { slots_of (length heads.now) waits.new.items ≡ slots_of (length heads.now) waits.old.items }
-    ensures links { links_of waits.new.items ≡ links_of waits.old.items }
+    ensures bare { map bare waits.new.items ≡ map bare waits.old.items }
     ensures waits_len { vec_len waits.new ≡ vec_len waits.old }
     ensures waits_room { vec_capacity waits.new ≡ vec_capacity waits.old }
     ensures calls { calls.new.items ≡ discounted blocker (entries_of waits.old.items) calls.old.items }
@@ -329,7 +343,7 @@ fn end_at(
     requires within { place < length waits.old.items }
     requires differ { AllPairs (λ a b. (a.0 == b.0) ≡ false) calls.old.items }
     requires first { first ≡ least (ready_turns calls.old.items) }
-    ensures items { waits.new.items ≡ over_at blocker waits.old.items place }
+    ensures items { waits.new.items ≡ over_at (is_blocker blocker) waits.old.items place }
     ensures waits_len { vec_len waits.new ≡ vec_len waits.old }
     ensures waits_room { vec_capacity waits.new ≡ vec_capacity waits.old }
     ensures calls { calls.new.items ≡ discounted blocker (entries_of (get_or waits.old.items place nothing ∷ [])) calls.old.items }
@@ -349,7 +363,7 @@ fn end_at(
 
 // Whether it lives, and is this blocker's.
 fn waits_for(wait: Wait, blocker: Blocker) -> bool
-    ensures { result ≡ waits_for blocker wait }
+    ensures { result ≡ is_out (is_blocker blocker) wait }
 {
     wait.lives && is_same(blocker, wait.blocker)
 }
@@ -363,5 +377,6 @@ fn ended(wait: Wait) -> Wait
         blocker: wait.blocker,
         lives: false,
         link: wait.link,
+        turn_link: wait.turn_link,
     }
 }

@@ -1,9 +1,9 @@
-use Rattle.std.proofs.Common.{◌≡◌, ◌∙◌, ◌-◌, ◌<◌, ℕ, suc, ap, arith, get_or, length, subst}
+use Rattle.std.proofs.Common.{◌≡◌, ◌∙◌, ◌-◌, ◌<◌, ℕ, suc, refl, ap, arith, get_or, length, subst, sym}
 use Rattle.std.proofs.lemmas.List.{get_or_read}
 use Rattle.pending_queue.specs.declared.waits.Wait.{Wait}
 use Rattle.pending_queue.specs.Waits.{end_of, nothing, number_of, slot}
 use Rattle.pending_queue.proofs.CountLemmas.{differ-turns}
-use Rattle.pending_queue.proofs.WaitLemmas.{Walked, Walked-done, Walked-start, Walked-step, Stepped, stepped}
+use Rattle.pending_queue.proofs.WaitLemmas.{Walked, Walked-done, Walked-start, Walked-step, Stepped, discount-over, none-discounted, none-left, of_blocker, stepped}
 use Rattle.pending_queue.proofs.waits.end_each.Goals as goal
 
 pub loop-end-init : goal.loop-end-init
@@ -14,7 +14,9 @@ loop-end-init c =
     let end : c.end_of-end.result ≡ end_of heads (slot (length heads) (number_of c.args.blocker)) (length c.args.waits.now.items) =
     c.end_of-end.ensures ∙ ap (λ k. end_of heads k c.len.result) own ∙ ap (end_of heads (slot (length heads) (number_of c.args.blocker))) all in
     record {
-      walked = Walked-start heads c.args.blocker c.args.waits.now.items c.args.calls.now.items c.end_of-end.result c.requires.linked end;
+      walked = Walked-start heads (of_blocker c.args.blocker) c.args.waits.now.items c.end_of-end.result c.requires.linked end;
+      counts = refl;
+      turns = refl;
       least = c.requires.first;
       waits_len = omega arith;
       waits_room = omega arith;
@@ -23,20 +25,21 @@ loop-end-init c =
     }
 
 pub end_at-least-requires-clause-differ : goal.end_at-least-requires-clause-differ
-end_at-least-requires-clause-differ c = differ-turns c.args.calls.now.items c.loop-end.calls.items c.loop-end.invariant.walked.turns c.requires.differ
+end_at-least-requires-clause-differ c = differ-turns c.args.calls.now.items c.loop-end.calls.items c.loop-end.invariant.turns c.requires.differ
 
-walked-so-far : (c : goal.After-end_at-least) → Walked (length c.args.heads.now) c.args.blocker c.args.waits.now.items c.args.calls.now.items c.loop-end.waits.items c.loop-end.calls.items (suc (c.loop-end.end - 1))
+walked-so-far : (c : goal.After-end_at-least) → Walked (length c.args.heads.now) (of_blocker c.args.blocker) c.args.waits.now.items c.loop-end.waits.items (suc (c.loop-end.end - 1))
 walked-so-far c =
     let is : c.loop-end.end ≡ suc (c.loop-end.end - 1) = omega arith in
-    subst (λ (end : ℕ). Walked (length c.args.heads.now) c.args.blocker c.args.waits.now.items c.args.calls.now.items c.loop-end.waits.items c.loop-end.calls.items end) is c.loop-end.invariant.walked
+    subst (λ (end : ℕ). Walked (length c.args.heads.now) (of_blocker c.args.blocker) c.args.waits.now.items c.loop-end.waits.items end) is c.loop-end.invariant.walked
 
-one-step : (c : goal.After-end_at-least) → Stepped (length c.args.heads.now) c.args.blocker c.loop-end.waits.items (c.loop-end.end - 1) c.index.result.now.link
+is_there : (c : goal.After-end_at-least) → c.loop-end.end - 1 < length c.loop-end.waits.items
+is_there c = let inside = c.loop-end.invariant.walked.within in omega arith
+
+one-step : (c : goal.After-end_at-least) → Stepped (length c.args.heads.now) (of_blocker c.args.blocker) c.loop-end.waits.items (c.loop-end.end - 1) c.index.result.now.link
 one-step c =
     let place : ℕ = c.loop-end.end - 1 in
-    let inside = c.loop-end.invariant.walked.within in
-    let here : place < length c.loop-end.waits.items = omega arith in
-    let read : c.index.result.now ≡ get_or c.loop-end.waits.items place nothing = get_or_read c.loop-end.waits.items place c.index.result.now here c.index.ensures nothing in
-    stepped c.args.heads.now c.args.blocker c.args.waits.now.items c.args.calls.now.items c.loop-end.waits.items c.loop-end.calls.items place c.index.result.now.link c.requires.linked
+    let read : c.index.result.now ≡ get_or c.loop-end.waits.items place nothing = get_or_read c.loop-end.waits.items place c.index.result.now (is_there c) c.index.ensures nothing in
+    stepped c.args.heads.now (of_blocker c.args.blocker) c.args.waits.now.items c.loop-end.waits.items place c.index.result.now.link c.requires.linked
     (walked-so-far c) (ap (λ (wait : Wait). wait.link) read)
 
 pub loop-end-smaller : goal.loop-end-smaller
@@ -46,9 +49,12 @@ pub loop-end-preserved : goal.loop-end-preserved
 loop-end-preserved c =
     let kept = c.loop-end.invariant in
     let then = c.end_at-least.ensures in
+    let place : ℕ = c.loop-end.end - 1 in
+    let waits = c.loop-end.waits.items in
     record {
-      walked = rw (then.items, then.calls) (Walked-step (length c.args.heads.now) c.args.blocker c.args.waits.now.items c.args.calls.now.items c.loop-end.waits.items c.loop-end.calls.items
-          (c.loop-end.end - 1) c.index.result.now.link (walked-so-far c) (one-step c));
+      walked = rw then.items (Walked-step (length c.args.heads.now) (of_blocker c.args.blocker) c.args.waits.now.items waits place c.index.result.now.link (walked-so-far c) (one-step c));
+      counts = rw (then.items, then.calls) (discount-over c.args.blocker waits place c.loop-end.calls.items (is_there c) ∙ kept.counts);
+      turns = then.turns ∙ kept.turns;
       least = then.first;
       waits_len = then.waits_len ∙ kept.waits_len;
       waits_room = then.waits_room ∙ kept.waits_room;
@@ -59,9 +65,13 @@ loop-end-preserved c =
 pub returns-clause-entries : goal.returns-clause-entries
 returns-clause-entries c =
     let none : c.loop-end.end ≡ 0 = omega arith in
-    (Walked-done (length c.args.heads.now) c.args.blocker c.args.waits.now.items c.args.calls.now.items c.loop-end.waits.items c.loop-end.calls.items c.loop-end.end c.loop-end.invariant.walked none).0
+    Walked-done (length c.args.heads.now) (of_blocker c.args.blocker) c.args.waits.now.items c.loop-end.waits.items c.loop-end.end c.loop-end.invariant.walked none
 
 pub returns-clause-calls : goal.returns-clause-calls
 returns-clause-calls c =
     let none : c.loop-end.end ≡ 0 = omega arith in
-    (Walked-done (length c.args.heads.now) c.args.blocker c.args.waits.now.items c.args.calls.now.items c.loop-end.waits.items c.loop-end.calls.items c.loop-end.end c.loop-end.invariant.walked none).1
+    sym (none-discounted c.args.blocker c.loop-end.waits.items c.loop-end.calls.items (none-left (length c.args.heads.now) (of_blocker c.args.blocker) c.args.waits.now.items c.loop-end.waits.items c.loop-end.end c.loop-end.invariant.walked none))
+    ∙ c.loop-end.invariant.counts
+
+pub returns-clause-bare : goal.returns-clause-bare
+returns-clause-bare c = c.loop-end.invariant.walked.same
