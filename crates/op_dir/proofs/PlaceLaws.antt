@@ -1,13 +1,17 @@
--- The entries that are still to come, as they are taken one after the other.
-use Rattle.std.proofs.Common.{◌≡◌, ℕ, Bool, true, List, [], ◌∷◌, ◌++◌, get_or, map, refl, ap, sym, ◌∙◌, inl, inr, ◌⊎◌, Option}
+-- The entries that are still to come, as links are taken one after the other.
+use Rattle.std.proofs.Common.{◌≡◌, ℕ, ◌+◌, ◌<◌, Bool, true, List, [], ◌∷◌, ◌++◌, length, get_or, drop, map, refl, ap, sym, ◌∙◌, inl, inr, ◌⊎◌, Option, None, Some}
 use Rattle.std.specs.List.{filter}
+use Rattle.std.specs.Option.{option_map_or}
 use Rattle.std.proofs.lemmas.Bool.{cases_Bool}
+use Rattle.std.proofs.lemmas.List.{at_drop_more, map-append}
 use Rattle.std.proofs.lemmas.List.Elements.{filter-append}
 use Rattle.fsa_types.specs.Match.{matches}
+use Rattle.fsa_types.specs.Rows.{row_of}
 use Rattle.fsa_model.specs.QueryDir.{Entry, dots, is_still_to_come, left_to_list, link_entry, listed_links}
 use Rattle.fsa_model.specs.Volume.{Cursor, After, Link, Volume}
 use Rattle.op_dir.specs.Places.{is_listed, is_wanted}
-use Rattle.volume_state.specs.Children.{children_from, is_unmarked}
+use Rattle.volume_state.specs.Children.{is_unmarked, links_under}
+use Rattle.volume_rows.specs.Children.{is_name_after}
 use Rattle.volume_rows.specs.Cursors.{cursor_of}
 use Rattle.volume_rows.specs.declared.cursors.Cursor.{Cursor as Stand}
 use Rattle.volume_rows.specs.declared.cursors.Cursor.TheVariants as stand
@@ -30,26 +34,45 @@ all-behind : (v : Volume) (cursor : Cursor) (links : List (ℕ × Link)) → ((e
 all-behind v cursor links each = filter-all (is_behind v cursor) links (λ k d within. each (get_or links k d))
 
 -- before the first link all links are still to come
-pub first-of-all : (v : Volume) (dir : ℕ) (cursor : Stand) (first : Option ℕ) → (cursor ≡ stand.Start) ⊎ ((cursor ≡ stand.Dot) ⊎ (cursor ≡ stand.DotDot))
-    → filter is_unmarked (children_from v dir first) ≡ listed_links v dir → filter is_unmarked (children_from v dir first) ≡ filter (is_behind v (cursor_of cursor)) (listed_links v dir)
-first-of-all v dir cursor first (inl is) listed = listed ∙ sym (all-behind v (cursor_of cursor) (listed_links v dir) (λ entry. rw is refl))
-first-of-all v dir cursor first (inr (inl is)) listed = listed ∙ sym (all-behind v (cursor_of cursor) (listed_links v dir) (λ entry. rw is refl))
-first-of-all v dir cursor first (inr (inr is)) listed = listed ∙ sym (all-behind v (cursor_of cursor) (listed_links v dir) (λ entry. rw is refl))
+pub behind-all : (v : Volume) (dir : ℕ) (cursor : Stand) (links : List (ℕ × Link)) → (cursor ≡ stand.Start) ⊎ ((cursor ≡ stand.Dot) ⊎ (cursor ≡ stand.DotDot))
+    → filter is_unmarked links ≡ filter (λ entry. is_name_after v.table None entry.1.name) (listed_links v dir) → filter is_unmarked links ≡ filter (is_behind v (cursor_of cursor)) (listed_links v dir)
+behind-all v dir cursor links start listed = listed ∙ filter-all (λ entry. is_name_after v.table None entry.1.name) (listed_links v dir) (λ k d within. refl) ∙ go cursor start
+  where
+    go : (cursor : Stand) → (cursor ≡ stand.Start) ⊎ ((cursor ≡ stand.Dot) ⊎ (cursor ≡ stand.DotDot)) → listed_links v dir ≡ filter (is_behind v (cursor_of cursor)) (listed_links v dir)
+    go cursor (inl is) = sym (all-behind v (cursor_of cursor) (listed_links v dir) (λ entry. rw is refl))
+    go cursor (inr (inl is)) = sym (all-behind v (cursor_of cursor) (listed_links v dir) (λ entry. rw is refl))
+    go cursor (inr (inr is)) = sym (all-behind v (cursor_of cursor) (listed_links v dir) (λ entry. rw is refl))
 
--- the entries that are still to come and match, from the first link on that is still to come
-pub left-from : (v : Volume) (dir : ℕ) (expression : List ℕ) (cursor : Cursor) (first : Option ℕ) → filter is_unmarked (children_from v dir first) ≡ filter (is_behind v cursor) (listed_links v dir)
-    → left_to_list v dir expression cursor ≡ filter (is_wanted v expression cursor) (dots v dir) ++ map link_entry (filter (is_listed v expression) (children_from v dir first))
-left-from v dir expression cursor first behind =
+-- the entries that are still to come and match, from the links that are still to come
+pub left-from : (v : Volume) (dir : ℕ) (expression : List ℕ) (cursor : Cursor) (links : List (ℕ × Link)) → filter is_unmarked links ≡ filter (is_behind v cursor) (listed_links v dir)
+    → left_to_list v dir expression cursor ≡ filter (is_wanted v expression cursor) (dots v dir) ++ map link_entry (filter (is_listed v expression) links)
+left-from v dir expression cursor links behind =
     filter-append (is_wanted v expression cursor) (dots v dir) (map link_entry (listed_links v dir))
     ∙ ap (λ rest. filter (is_wanted v expression cursor) (dots v dir) ++ rest) (filter-mapped (is_wanted v expression cursor) link_entry (listed_links v dir))
     ∙ ap (λ rest. filter (is_wanted v expression cursor) (dots v dir) ++ map link_entry rest) same
   where
-    same : filter (λ entry. is_wanted v expression cursor (link_entry entry)) (listed_links v dir) ≡ filter (is_listed v expression) (children_from v dir first)
+    same : filter (λ entry. is_wanted v expression cursor (link_entry entry)) (listed_links v dir) ≡ filter (is_listed v expression) links
     same =
         filter-both (is_behind v cursor) (matches_link v expression) (listed_links v dir)
         ∙ ap (filter (matches_link v expression)) (sym behind)
-        ∙ sym (filter-both is_unmarked (matches_link v expression) (children_from v dir first))
+        ∙ sym (filter-both is_unmarked (matches_link v expression) links)
 
--- the entries from this link on that are listed
-abbrev pub rest_from : Volume → ℕ → List ℕ → Option ℕ → List Entry
-rest_from v dir expression next = map link_entry (filter (is_listed v expression) (children_from v dir next))
+-- the entries of those links that are listed
+abbrev pub listed_under : Volume → List ℕ → List ℕ → List Entry
+listed_under v expression ids = map link_entry (filter (is_listed v expression) (links_under v ids))
+
+under-both : (v : Volume) (ids others : List ℕ) → links_under v (ids ++ others) ≡ links_under v ids ++ links_under v others
+under-both v [] others = refl
+under-both v (id ∷ ids) others = go (row_of v.links id) (under-both v ids others)
+  where
+    go : (row : Option Link) → links_under v (ids ++ others) ≡ links_under v ids ++ links_under v others → option_map_or (λ row. (id, row) ∷ links_under v (ids ++ others)) row (links_under v (ids ++ others)) ≡ option_map_or (λ row. (id, row) ∷ links_under v ids) row (links_under v ids) ++ links_under v others
+    go None rest = rest
+    go (Some row) rest = ap (λ (links : List (ℕ × Link)). (id, row) ∷ links) rest
+
+-- one link, and then the others
+pub listed-more : (v : Volume) (expression ids : List ℕ) (i d : ℕ) → i < length ids → listed_under v expression (drop i ids) ≡ listed_under v expression (get_or ids i d ∷ []) ++ listed_under v expression (drop (i + 1) ids)
+listed-more v expression ids i d within =
+    at_drop_more (listed_under v expression) ids i d within
+    ∙ ap (λ (links : List (ℕ × Link)). map link_entry (filter (is_listed v expression) links)) (under-both v (get_or ids i d ∷ []) (drop (i + 1) ids))
+    ∙ ap (map link_entry) (filter-append (is_listed v expression) (links_under v (get_or ids i d ∷ [])) (links_under v (drop (i + 1) ids)))
+    ∙ map-append link_entry (filter (is_listed v expression) (links_under v (get_or ids i d ∷ []))) (filter (is_listed v expression) (links_under v (drop (i + 1) ids)))

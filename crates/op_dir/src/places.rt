@@ -1,11 +1,11 @@
 //! The entries of a directory that are still to come, by where they stand.
 
-ghost use Rattle.std.specs.Prelude.{◌≡◌, ◌≤◌, ◌<◌, ◌++◌, ◌∷◌, [], IfOk, OnOk, filter, length, map, take, vec_len, if◌then◌else◌};
+ghost use Rattle.std.specs.Prelude.{◌≡◌, ◌≤◌, ◌+◌, ◌<◌, ◌++◌, ◌∷◌, [], IfOk, OnOk, filter, length, map, take, vec_len, if◌then◌else◌};
 ghost use Rattle.fsa_model.specs.QueryDir.{dots, is_still_to_come, left_to_list, link_entry, listed_links, parent_directory};
 ghost use Rattle.fsa_model.specs.Volume.{After};
 ghost use Rattle.op_dir.specs.Places.{dot_dot_entry, dot_entry, entry_at, is_listed, is_wanted};
 ghost use Rattle.volume_rows.specs.Cursors.{cursor_of};
-ghost use Rattle.volume_state.specs.Children.{children_from, is_unmarked};
+ghost use Rattle.volume_state.specs.Children.{is_unmarked, links_under};
 
 use fsa_types::NoMemory;
 use name_match::Expression;
@@ -93,13 +93,13 @@ fn dots_left(
     Ok(places)
 }
 
-// The first link of a directory, marked or not, that is still to come.
-fn first_left(volume: &Volume, dir: u64, cursor: &Cursor) -> Option<u64>
-    ensures { filter is_unmarked (children_from volume.now.content dir result) ≡ filter (λ entry. is_still_to_come volume.now.content.table (cursor_of cursor.now) (After entry.1.name)) (listed_links volume.now.content dir) }
+// The numbers of the links of a directory, marked or not, that are still to come.
+fn links_left<'a>(volume: &'a Volume, dir: u64, cursor: &Cursor) -> &'a [u64]
+    ensures { filter is_unmarked (links_under volume.now.content result.now) ≡ filter (λ entry. is_still_to_come volume.now.content.table (cursor_of cursor.now) (After entry.1.name)) (listed_links volume.now.content dir) }
 {
     match cursor {
-        Cursor::After(name) => volume.child_after(dir, name.units()),
-        Cursor::Start | Cursor::Dot | Cursor::DotDot => volume.first_child(dir),
+        Cursor::After(name) => volume.children_after(dir, Some(name.units())),
+        Cursor::Start | Cursor::Dot | Cursor::DotDot => volume.children_after(dir, None),
     }
 }
 
@@ -111,30 +111,42 @@ fn is_listed(volume: &Volume, expression: &Expression, id: u64, link: &LinkRow) 
     !link.deleted && expression.matches(volume.table(), link.name.units())
 }
 
-// Puts the links from this one on that aren't marked and match at the end, as long as there are fewer
-// than `most` places.
+// Puts a link at the end, where it lives, isn't marked and matches.
+fn push_link(
+    volume: &Volume,
+    dir: u64,
+    expression: &Expression,
+    id: u64,
+    places: &mut Vec<Place>,
+) -> Result<(), NoMemory>
+    ensures entries { OnOk result (map (entry_at volume.now.content dir) places.new.items ≡ map (entry_at volume.now.content dir) places.old.items ++ map link_entry (filter (is_listed volume.now.content expression.now) (links_under volume.now.content (id ∷ [])))) }
+    ensures few { OnOk result (length places.new.items ≤ length places.old.items + 1) }
+{
+    let _dir = dir;
+    let Some(link) = volume.link(id) else {
+        return Ok(());
+    };
+    let wanted = is_listed(volume, expression, id, link);
+    push_wanted(places, Place::Link(id), wanted)
+}
+
+// Puts those of some links that aren't marked and match at the end, as long as there are fewer than `most` places.
 fn push_links(
     volume: &Volume,
     dir: u64,
     expression: &Expression,
-    first: Option<u64>,
+    links: &[u64],
     most: usize,
     places: &mut Vec<Place>,
 ) -> Result<(), NoMemory>
     requires few { length places.old.items ≤ most }
-    ensures { OnOk result (map (entry_at volume.now.content dir) places.new.items ≡ take most (map (entry_at volume.now.content dir) places.old.items ++ map link_entry (filter (is_listed volume.now.content expression.now) (children_from volume.now.content dir first)))) }
+    ensures { OnOk result (map (entry_at volume.now.content dir) places.new.items ≡ take most (map (entry_at volume.now.content dir) places.old.items ++ map link_entry (filter (is_listed volume.now.content expression.now) (links_under volume.now.content links.now)))) }
 {
-    let mut next = first;
-    'links: while let Some(id) = next {
+    'links: for id in links {
         if places.len() >= most {
             return Ok(());
         }
-        let Some(link) = volume.link(id) else {
-            return Ok(());
-        };
-        let wanted = is_listed(volume, expression, id, link);
-        push_wanted(places, Place::Link(id), wanted)?;
-        next = volume.child_after(dir, link.name.units());
+        push_link(volume, dir, expression, *id, places)?;
     }
     Ok(())
 }
@@ -153,7 +165,7 @@ pub(crate) fn places_left(
     ensures { IfOk result (λ places. map (entry_at volume.now.content dir) places.items ≡ take most (left_to_list volume.now.content dir expression.now (cursor_of cursor.now))) }
 {
     let mut places = dots_left(alloc, volume, dir, expression, cursor)?;
-    let first = first_left(volume, dir, cursor);
-    push_links(volume, dir, expression, first, most, &mut places)?;
+    let links = links_left(volume, dir, cursor);
+    push_links(volume, dir, expression, links, most, &mut places)?;
     Ok(places)
 }

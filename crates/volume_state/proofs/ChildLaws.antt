@@ -1,9 +1,9 @@
--- The links of a directory in the order of their names, taken one after the other.
-use Rattle.std.proofs.Common.{◌≡◌, ℕ, zero, suc, Bool, true, false, List, [], ◌∷◌, get_or, refl, ap, sym, subst, ◌∙◌, arith, inl, inr, ◌⊎◌, Option, Some, None, cond}
+-- The links of a directory in the order of their names, by their numbers.
+use Rattle.std.proofs.Common.{◌≡◌, ℕ, zero, suc, Bool, true, false, List, [], ◌∷◌, get_or, map, refl, ap, sym, ◌∙◌, arith, inl, inr, ◌⊎◌, Option, Some, None, cond}
 use Rattle.std.specs.List.{All, AllPairs, filter}
 use Rattle.std.specs.Ordering.{is_eq, is_lt, ordering_reverse}
 use Rattle.std.specs.Cmp.Lexicographic.{texts_ties}
-use Rattle.std.specs.Prelude.{◌==◌, ◌&&◌, IfSome, option_map, slice_get}
+use Rattle.std.specs.Prelude.{◌==◌, ◌&&◌}
 use Rattle.std.specs.declared.cmp.Ordering.{Ordering}
 use Rattle.std.specs.declared.cmp.Ordering.TheVariants.{Less, Equal, Greater}
 use Rattle.std.proofs.lemmas.Bool.{cases_Bool, eq-eqb, eqb-true}
@@ -11,7 +11,7 @@ use Rattle.std.proofs.lemmas.Cmp.{nat_list_cmp_total}
 use Rattle.std.proofs.lemmas.List.Elements.{All-cons, All-filter, All-head, All-tail, filter_passes}
 use Rattle.std.proofs.lemmas.List.Kept.{AllPairs-cons, AllPairs-filter}
 use Rattle.fsa_types.specs.CaseTable.{cmp_name, same_name, upcased}
-use Rattle.fsa_types.specs.Rows.{lives, row_of}
+use Rattle.fsa_types.specs.Rows.{row_of}
 use Rattle.fsa_types.specs.Sorting.{in_order, put_in_order}
 use Rattle.fsa_model.specs.Lookups.{is_named}
 use Rattle.fsa_model.specs.QueryDir.{is_listed_before, listed_links}
@@ -19,7 +19,7 @@ use Rattle.fsa_model.specs.Sound.{IsSound}
 use Rattle.fsa_model.specs.Volume.{Link, Volume}
 use Rattle.fsa_model.proofs.RowLaws.{row_of-here}
 use Rattle.volume_rows.specs.Children.{is_child_after, is_name_after}
-use Rattle.volume_state.specs.Children.{children_after, children_from, is_unmarked}
+use Rattle.volume_state.specs.Children.{children_after, is_unmarked, links_under}
 
 -- ---- the order of names
 
@@ -31,14 +31,6 @@ is_less Greater is = absurd (cc)
 names-trans : (table : List (ℕ × ℕ)) (a b c : List ℕ) → is_lt (cmp_name table a b) ≡ true → is_lt (cmp_name table b c) ≡ true → is_lt (cmp_name table a c) ≡ true
 names-trans table a b c ab bc =
     ap is_lt (nat_list_cmp_total.trans (upcased table a) (upcased table b) (upcased table c) (is_less (cmp_name table a b) ab) (is_less (cmp_name table b c) bc))
-
-not-itself : (o : Ordering) → o ≡ ordering_reverse o → is_lt o ≡ false
-not-itself Less same = absurd (cc)
-not-itself Equal same = refl
-not-itself Greater same = refl
-
-names-irrefl : (table : List (ℕ × ℕ)) (a : List ℕ) → is_lt (cmp_name table a a) ≡ false
-names-irrefl table a = not-itself (cmp_name table a a) (nat_list_cmp_total.antisymm (upcased table a) (upcased table a))
 
 one-less : (o p : Ordering) → p ≡ ordering_reverse o → is_eq o ≡ false → (is_lt o ≡ true) ⊎ (is_lt p ≡ true)
 one-less Less p back differ = inl refl
@@ -196,10 +188,6 @@ filter-in_order p before (item ∷ items) trans apart =
       | inr gone ↦ rw gone (filter-put_gone p before item (in_order before items) gone ∙ more)
     ]
 
--- behind the first of a list in order stands the rest of it
-filter-behind : {X : Type 0} (before : X → X → Bool) (first : X) (items : List X) → before first first ≡ false → AreOrdered before (first ∷ items) → filter (before first) (first ∷ items) ≡ items
-filter-behind before first items irrefl ordered = rw irrefl (filter-all (before first) items (AllPairs-first (λ a b. before a b ≡ true) first items ordered))
-
 -- ---- the links of a directory
 
 abbrev in_dir : ℕ → ℕ × Link → Bool
@@ -238,29 +226,6 @@ children-filtered v dir p sound =
 children-behind : (v : Volume) (dir : ℕ) (after : Option (List ℕ)) → IsSound v → children_after v dir after ≡ filter (is_behind v.table after) (children v dir)
 children-behind v dir after sound = children-filtered v dir (is_behind v.table after) sound
 
-children-ordered : (v : Volume) (dir : ℕ) (after : Option (List ℕ)) → IsSound v → AreOrdered (is_listed_before v.table) (filter (is_behind v.table after) (children v dir))
-children-ordered v dir after sound =
-    AllPairs-filter (λ a b. is_listed_before v.table a b ≡ true) (is_behind v.table after) (children v dir)
-    (AreOrdered-in_order (is_listed_before v.table) (filter (in_dir dir) v.links) (links-trans v.table) (links-apart v dir sound))
-
--- what is behind a name that is behind another is behind that one too
-behind-trans : (table : List (ℕ × ℕ)) (after : Option (List ℕ)) (a b : ℕ × Link) → is_behind table after a ≡ true → is_listed_before table a b ≡ true → is_behind table after b ≡ true
-behind-trans table None a b behind less = refl
-behind-trans table (Some name) a b behind less = names-trans table name a.1.name b.1.name behind less
-
--- behind the first of the links behind a name stand the others of them
-children-next : (v : Volume) (dir : ℕ) (after : Option (List ℕ)) (first : ℕ × Link) (rest : List (ℕ × Link)) → IsSound v → children_after v dir after ≡ first ∷ rest
-    → children_after v dir (Some first.1.name) ≡ rest
-children-next v dir after first rest sound is =
-    let all : filter (is_behind v.table after) (children v dir) ≡ first ∷ rest = sym (children-behind v dir after sound) ∙ is in
-    let behind : is_behind v.table after first ≡ true
-    = All-head (λ x. is_behind v.table after x ≡ true) first rest (subst (λ (l : List (ℕ × Link)). All (λ x. is_behind v.table after x ≡ true) l) all (filter_passes (is_behind v.table after) (children v dir))) in
-    let ordered : AreOrdered (is_listed_before v.table) (first ∷ rest) = subst (λ (l : List (ℕ × Link)). AreOrdered (is_listed_before v.table) l) all (children-ordered v dir after sound) in
-    children-behind v dir (Some first.1.name) sound
-    ∙ sym (filter-stronger (is_behind v.table after) (is_behind v.table (Some first.1.name)) (children v dir) (λ x less. behind-trans v.table after first x behind less))
-    ∙ ap (filter (is_behind v.table (Some first.1.name))) all
-    ∙ filter-behind (is_listed_before v.table) first rest (names-irrefl v.table first.1.name) ordered
-
 -- a link that is found under its number
 abbrev IsFound : Volume → ℕ × Link → Type 0
 IsFound v entry = row_of v.links entry.0 ≡ Some entry.1
@@ -270,21 +235,17 @@ children-found v dir after sound =
     All-in_order (IsFound v) (is_listed_before v.table) (filter (λ entry. is_child_after v.table dir after entry.1) v.links)
     (All-filter (λ entry. is_child_after v.table dir after entry.1) (IsFound v) v.links (λ k d within. row_of-here v.links v.last_link k d sound.links_numbered within))
 
--- ---- what is told of the first one
+-- ---- what is told of their numbers
 
-from-first : (v : Volume) (dir : ℕ) (links : List (ℕ × Link)) → ((first : ℕ × Link) (rest : List (ℕ × Link)) → links ≡ first ∷ rest → IsFound v first × (children_after v dir (Some first.1.name) ≡ rest))
-    → children_from v dir (option_map (λ entry. entry.0) (slice_get links 0)) ≡ links
-from-first v dir [] next = refl
-from-first v dir (first ∷ rest) next = let is = next first rest refl in let found = is.0 in rw found (ap (λ l. first ∷ l) is.1)
+under-found : (v : Volume) (links : List (ℕ × Link)) → All (IsFound v) links → links_under v (map (λ (entry : ℕ × Link). entry.0) links) ≡ links
+under-found v [] found = refl
+under-found v (first ∷ rest) found =
+    let here : row_of v.links first.0 ≡ Some first.1 = All-head (IsFound v) first rest found in
+    rw here (ap (λ (links : List (ℕ × Link)). first ∷ links) (under-found v rest (All-tail (IsFound v) first rest found)))
 
--- with the first of the links behind a name begin all of them
-pub children-all : (v : Volume) (dir : ℕ) (after : Option (List ℕ)) → IsSound v
-    → children_from v dir (option_map (λ entry. entry.0) (slice_get (children_after v dir after) 0)) ≡ children_after v dir after
-children-all v dir after sound =
-    from-first v dir (children_after v dir after) (λ first rest is. (
-      All-head (IsFound v) first rest (subst (λ (l : List (ℕ × Link)). All (IsFound v) l) is (children-found v dir after sound)),
-      children-next v dir after first rest sound is,
-    ))
+-- the links of the numbers of the links behind a name are these
+pub children-under : (v : Volume) (dir : ℕ) (after : Option (List ℕ)) → IsSound v → links_under v (map (λ (entry : ℕ × Link). entry.0) (children_after v dir after)) ≡ children_after v dir after
+children-under v dir after sound = under-found v (children_after v dir after) (children-found v dir after sound)
 
 -- those that aren't marked are those that are listed behind the name
 pub children-listed : (v : Volume) (dir : ℕ) (after : Option (List ℕ)) → IsSound v
@@ -293,20 +254,3 @@ children-listed v dir after sound =
     ap (filter is_unmarked) (children-behind v dir after sound)
     ∙ filter-swap is_unmarked (is_behind v.table after) (children v dir)
     ∙ ap (filter (is_behind v.table after)) (sym (children-filtered v dir is_unmarked sound))
-
-pub children-listed_all : (v : Volume) (dir : ℕ) → IsSound v → filter is_unmarked (children_after v dir None) ≡ listed_links v dir
-children-listed_all v dir sound = children-listed v dir None sound ∙ filter-all (λ entry. is_name_after v.table None entry.1.name) (listed_links v dir) (λ k d within. refl)
-
-found-lives : {R : Type 0} (rows : List (ℕ × R)) (id : ℕ) (row : R) → row_of rows id ≡ Some row → lives rows id ≡ true
-found-lives [] id row found = (let impossible : None ≡ Some row = found in absurd (cc))
-found-lives (entry ∷ rows) id row found = elim (cases_Bool (entry.0 == id)) [
-  | inl here ↦ rw here refl
-  | inr other ↦ rw other (found-lives rows id row (rw other at found))
-]
-
-first-lives : (v : Volume) (links : List (ℕ × Link)) → All (IsFound v) links → IfSome (option_map (λ entry. entry.0) (slice_get links 0)) (λ id. lives v.links id ≡ true)
-first-lives v [] found = tt
-first-lives v (first ∷ rest) found = found-lives v.links first.0 first.1 (All-head (IsFound v) first rest found)
-
-pub children-lives : (v : Volume) (dir : ℕ) (after : Option (List ℕ)) → IsSound v → IfSome (option_map (λ entry. entry.0) (slice_get (children_after v dir after) 0)) (λ id. lives v.links id ≡ true)
-children-lives v dir after sound = first-lives v (children_after v dir after) (children-found v dir after sound)

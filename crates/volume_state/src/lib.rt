@@ -16,8 +16,7 @@
 //!
 //! The calls group so: making and room (`new`, `reserve`, `reserve_bytes`); what is there (`file`,
 //! `link`, `stream`, `handle`, `pending`, `ended`, each by number, `next_file`, `next_link`, `next_stream`,
-//! `next_handle`, and `child`, `first_child`, `child_after`,
-//! `link_of`, `cursor`, `stream_of`, `default_stream`, `stream_after`,
+//! `next_handle`, and `child`, `children_after`, `link_of`, `cursor`, `stream_of`, `default_stream`, `stream_after`,
 //! `handle_of`, `next_handle_of`, `next_pending`, `pending_calls`, `pending_room`, `root`, `is_directory`,
 //! `dir_link`, `has_child`, `links_of`, `is_at_or_below`, `handles_on`, `clashes`, `locks_of`, `parts_of`,
 //! `clock`, `has_left`, `table`, `sids`,
@@ -42,8 +41,9 @@
 //!
 //! A file, a link, a stream or a handle is found by its number in time logarithmic in the rows of its
 //! table, and so is the least number above another; an owner's charge in time logarithmic in the owners; the
-//! clusters of all streams are kept. The links of a file, and its streams by name, are found in time logarithmic in
-//! all of them, and linear in the file's own; so a note and `is_at_or_below` cost that for each directory above.
+//! clusters of all streams are kept. A link is found by its name in time logarithmic in all links, and so is where the
+//! links of a directory behind a name stand, which are lent in one piece. The links of a file, and its streams by
+//! name, are found in time logarithmic in all of them, and linear in the file's own; so a note and `is_at_or_below` cost that for each directory above.
 //! Any other look-up costs time linear in the rows; one of the handles below a directory, the way up for each. The
 //! next pending call is found in time logarithmic in those that are pending, as long as they came in the order of
 //! their turns, as those of a run do. A break costs what `volume_breaks` and `oplock_state` say, and the bytes of a

@@ -1,4 +1,4 @@
-pub mod FirstLemmas
+pub mod ChildLemmas
 pub mod IndexLaws
 pub mod LockLemmas
 pub mod MovedLemmas

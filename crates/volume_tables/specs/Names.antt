@@ -40,8 +40,3 @@ pub record IsBegin (table : List (ℕ × ℕ)) (links : List (ℕ × Link)) (dir
   pub before : AllWithin (λ entry. is_child_after table dir after entry.1 ≡ false) links 0 place
   pub behind : AllWithin (λ entry. is_child_after table dir after entry.1 ≡ (entry.1.parent == dir)) links place (length links)
   pub above : AllWithin (λ entry. dir ≤ entry.1.parent) links place (length links)
-
--- the number of a link that is in this directory
-abbrev pub number_within : ℕ → Option (ℕ × Link) → Option ℕ
-number_within dir None = None
-number_within dir (Some entry) = if entry.1.parent == dir then Some entry.0 else None

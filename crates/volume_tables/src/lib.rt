@@ -21,6 +21,7 @@
 //! names.reserve(1)?;
 //! names.add(&table, &upcase, id, dir, units);     // before the link is added to its table
 //! names.child(&table, &upcase, dir, units);       // by binary search
+//! names.children_after(&table, &upcase, dir, after);      // those behind a name, in one piece
 //!
 //! space.reserve(1)?;
 //! space.admit(owner);                     // takes no memory

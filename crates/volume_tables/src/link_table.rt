@@ -1,6 +1,6 @@
 //! The links of a volume in the order of their names, and the room for more of them in each directory.
 
-ghost use Rattle.std.specs.Prelude.{ℕ, ◌≡◌, ◌≤◌, ◌<◌, ◌+◌, ◌^◌, ◌++◌, ◌∷◌, ◌&&◌, not, [], ◌==◌, false, None, OnOk, OnErr, find, option_map, position, slice_get};
+ghost use Rattle.std.specs.Prelude.{ℕ, ◌≡◌, ◌≤◌, ◌<◌, ◌+◌, ◌^◌, ◌++◌, ◌∷◌, ◌&&◌, not, [], ◌==◌, false, None, OnOk, OnErr, find, map, option_map, position};
 ghost use Rattle.std.specs.List.{list_any};
 ghost use Rattle.std.specs.Option.{option_copied};
 ghost use Rattle.fsa_types.specs.Rows.{row_of, without_row, with_row_changed, IsNumbered};
@@ -18,8 +18,8 @@ use volume_rows::{LinkRow, LinksByFile};
 
 /// Links under numbers that rise from 1, and for each directory how many more can be added to it
 /// without taking memory. Adding to one directory leaves the room of the others. A name is found in its
-/// directory, and the one that follows it, by binary search; names compare by the case table, and those of one
-/// directory differ.
+/// directory, and where those that follow it begin and end, by binary search; names compare by the case table, and
+/// those of one directory differ.
 #[derive(Debug, Drop)]
 pub struct LinkTable {
     table: UpcaseTable,
@@ -116,20 +116,20 @@ impl LinkTable {
             .child(self.links.table(), &self.table, parent, units)
     }
 
-    /// The first of the links of a directory, marked or not, whose names are greater than that one, in the order of
+    /// The numbers of the links of a directory, marked or not, whose names are greater than that one, in the order of
     /// names; of all of them where there is no name.
-    pub fn child_after(&self, dir: u64, after: Option<&[u16]>) -> Option<u64>
-        ensures { result ≡ option_map (λ entry. entry.0) (slice_get (links_after self.now.table dir (option_copied after.entry) self.now.rows) 0) }
+    pub fn children_after(&self, dir: u64, after: Option<&[u16]>) -> &[u64]
+        ensures { result.now ≡ map (λ entry. entry.0) (links_after self.now.table dir (option_copied after.entry) self.now.rows) }
     {
         self.names
-            .child_after(self.links.table(), &self.table, dir, after)
+            .children_after(self.links.table(), &self.table, dir, after)
     }
 
     /// Whether there is a link in this directory.
     pub fn has_child(&self, dir: u64) -> bool
         ensures { result ≡ has_child self.now.rows dir }
     {
-        self.child_after(dir, None).is_some()
+        !self.children_after(dir, None).is_empty()
     }
 
     /// All links with their numbers, by rising number.

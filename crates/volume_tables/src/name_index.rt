@@ -2,13 +2,14 @@
 
 ghost use Rattle.std.specs.Prelude.{ℕ, ◌≡◌, ◌≤◌, ◌+◌, ◌<◌, ◌==◌, ◌&&◌, not, ◌++◌, ◌∷◌, [], Bool, false, true, All, Err, OnOk, None, Some, find, length, map, option_map, slice_get};
 ghost use Rattle.std.specs.List.{list_any, remove};
+ghost use Rattle.std.specs.List.Sorted.{IsNonDecreasingBy, IsPartitionPoint};
 ghost use Rattle.std.specs.Option.{option_copied, is_some};
 ghost use Rattle.fsa_types.specs.Rows.{row_of, with_row_changed, without_row};
 ghost use Rattle.fsa_types.specs.Sorting.{in_order, put_in_order};
 ghost use Rattle.fsa_model.specs.Lookups.{is_named};
 ghost use Rattle.link_index.specs.Keyed.{AreInKeyOrder, IsKeyPlace, cmp_keys, is_key_before};
 ghost use Rattle.volume_rows.specs.Children.{links_after};
-ghost use Rattle.volume_tables.specs.Names.{IsBegin, IsByName, link_at, link_key, links_at, number_within, place_key};
+ghost use Rattle.volume_tables.specs.Names.{IsBegin, IsByName, link_at, link_key, links_at, place_key};
 
 use fsa_types::{NoMemory, UpcaseTable};
 use object_tables::Table;
@@ -68,19 +69,19 @@ impl NameIndex {
         find_child(&self.numbers, links, table, parent, units)
     }
 
-    /// The first of the links of a directory whose names are greater than that one; of all of them where there
-    /// is no name.
-    pub fn child_after(
+    /// The numbers of the links of a directory whose names are greater than that one, in the order of names; of all of
+    /// them where there is no name.
+    pub fn children_after(
         &self,
         links: &Table<LinkRow>,
         table: &UpcaseTable,
         dir: u64,
         after: Option<&[u16]>,
-    ) -> Option<u64>
+    ) -> &[u64]
         requires { IsByName table.now links.now.rows self.now.numbers }
-        ensures { result ≡ option_map (λ entry. entry.0) (slice_get (links_after table.now dir (option_copied after.entry) links.now.rows) 0) }
+        ensures { result.now ≡ map (λ entry. entry.0) (links_after table.now dir (option_copied after.entry) links.now.rows) }
     {
-        find_child_after(&self.numbers, links, table, dir, after)
+        find_children_after(&self.numbers, links, table, dir, after)
     }
 
     /// Puts in the number of a link of a new name, which is then added to its table last. There has to be room for
@@ -189,20 +190,21 @@ fn number_of(numbers: &[u64], place: usize) -> Option<u64>
     }
 }
 
-// The first of the links of a directory behind a name; without a name, of all of them.
-fn find_child_after(
-    numbers: &[u64],
+// The numbers of the links of a directory behind a name; without a name, of all of them.
+fn find_children_after<'a>(
+    numbers: &'a [u64],
     links: &Table<LinkRow>,
     table: &UpcaseTable,
     dir: u64,
     after: Option<&[u16]>,
-) -> Option<u64>
+) -> &'a [u64]
     requires { IsByName table.now links.now.rows numbers.now }
-    ensures { result ≡ option_map (λ entry. entry.0) (slice_get (links_after table.now dir (option_copied after.entry) links.now.rows) 0) }
+    ensures { result.now ≡ map (λ entry. entry.0) (links_after table.now dir (option_copied after.entry) links.now.rows) }
 {
     let _ = links.as_slice();
-    let place = begin_of(numbers, links, table, dir, after);
-    number_at(numbers, links, place, dir)
+    let end = end_of(numbers, links, dir);
+    let begin = begin_of(numbers, links, table, dir, after).min(end);
+    &numbers[begin..end]
 }
 
 // Where the link of this number and name stands.
@@ -328,24 +330,21 @@ fn begin_of(
     }
 }
 
-// Whether the link of a number is in this directory.
-fn is_in(links: &Table<LinkRow>, id: u64, dir: u64) -> bool
-    ensures { result ≡ ((link_at links.now.rows id).1.parent == dir) }
+// The directory that the link of a number is in.
+fn parent_at(links: &Table<LinkRow>, id: u64) -> u64
+    ensures { result ≡ (link_at links.now.rows id).1.parent }
 {
     match links.get(id) {
-        None => dir == 0,
-        Some(row) => row.parent == dir,
+        None => 0,
+        Some(row) => row.parent,
     }
 }
 
-// The number at this place, where its link is in this directory.
-fn number_at(numbers: &[u64], links: &Table<LinkRow>, place: usize, dir: u64) -> Option<u64>
-    ensures { result ≡ number_within dir (slice_get (links_at links.now.rows numbers.now) place) }
+// Where the links of a directory and of lesser ones end.
+fn end_of(numbers: &[u64], links: &Table<LinkRow>, dir: u64) -> usize
+    requires { IsNonDecreasingBy (λ id. (link_at links.now.rows id).1.parent) numbers.now }
+    ensures bound { result ≤ length numbers.now }
+    ensures point { IsPartitionPoint (λ id. (link_at links.now.rows id).1.parent ≤ dir) (λ id. dir < (link_at links.now.rows id).1.parent) numbers.now result }
 {
-    let id = *numbers.get(place)?;
-    if is_in(links, id, dir) {
-        Some(id)
-    } else {
-        None
-    }
+    numbers.partition_point(|id| parent_at(links, *id) <= dir)
 }
