@@ -4,4 +4,5 @@ pub mod GrantLemmas
 pub mod OrderLemmas
 pub mod ReleaseLemmas
 pub mod ToldLemmas
+pub mod TurnLemmas
 pub mod WaitingLemmas

@@ -61,6 +61,13 @@ is_at-place (row ∷ rows) place turn differ at =
     let there = is_at-cases (row ∷ rows) place turn row at in
     sym (place-is (row ∷ rows) place turn row differ there.0 there.1)
 
+-- the row at its place
+pub row-there : (rows : List (ℕ × Pending)) (place turn : ℕ) (d : ℕ × Pending) → AllDiffer rows → position (λ e. e.0 == turn) rows ≡ Some place
+    → Some (get_or rows place d).1 ≡ row_of rows turn
+row-there rows place turn d differ found =
+    let at = IsAt-position rows turn place d found in
+    sym (row-at rows turn place d differ at.within (at.here d))
+
 -- the call of the row at its place
 pub call-at : (rows : List (ℕ × Pending)) (place turn : ℕ) (d : ℕ × Pending) → AllDiffer rows → position (λ e. e.0 == turn) rows ≡ Some place
     → Some (get_or rows place d).1.call ≡ option_map (λ row. row.call) (row_of rows turn)

@@ -1,4 +1,5 @@
 pub mod Breaks
+pub mod CallIndex
 pub mod Calls
 pub mod Marks
 pub mod Oplocks

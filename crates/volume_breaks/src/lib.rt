@@ -34,12 +34,13 @@
 //!   of those that it breaks, with a few looks at handles, links and streams for each pair, and goes over
 //!   the pending calls for each one that it tells.
 //! - The next pending call, and the call of a turn, are found by halves as long as calls came in the order of
-//!   their turns; once one didn't, or where no call has the turn, by a look at each. A call of a client is found by a
-//!   look at each.
+//!   their turns; once one didn't, or where no call has the turn, by a look at each. As long as they did, a call of a
+//!   client, and the first one that names a handle, are found by an index, without a look at the others.
 #![tactic(auto)]
 
 mod awaiting;
 mod breaking;
+mod call_index;
 mod choosing;
 mod granting;
 mod marking;
@@ -50,6 +51,7 @@ mod telling;
 
 pub use awaiting::push_breaks;
 pub use breaking::{end_call, end_told};
+pub use call_index::names;
 pub use choosing::Tree;
 pub use granting::{drop_chosen, end_switched, is_refused};
 pub use oplock_list::Oplocks;

@@ -1,17 +1,21 @@
 //! The pending calls of a volume, with the queue of those that are held.
 
-ghost use Rattle.std.specs.Prelude.{Bool, ◌≡◌, ◌≤◌, ◌<◌, ◌+◌, ◌++◌, ◌∷◌, [], ◌==◌, ◌&&◌, ◌||◌, not, true, false, filter, find, length, option_map, position, slice_get, All, AllPairs, IsTrue, OnOk, if◌then◌else◌};
-ghost use Rattle.std.specs.Option.{option_copied};
+ghost use Rattle.std.specs.Prelude.{ℕ, Bool, ◌≡◌, ◌≤◌, ◌<◌, ◌+◌, ◌++◌, ◌∷◌, [], ◌==◌, ◌&&◌, ◌||◌, not, true, false, filter, find, length, nat_lt, option_map, position, slice_get, All, AllPairs, IsTrue, OnOk, if◌then◌else◌};
+ghost use Rattle.std.specs.Option.{option_copied, option_map_or};
 ghost use Rattle.std.specs.Vec.{vec_capacity, vec_len};
-ghost use Rattle.fsa_types.specs.Rows.{lives, row_of, with_row_changed, without_row};
+ghost use Rattle.fsa_types.specs.Rows.{IsNumbered, lives, row_of, with_row_changed, without_row};
 ghost use Rattle.fsa_types.specs.declared.reply.Blocker.{Blocker};
 ghost use Rattle.fsa_model.specs.Edits.{is_call};
 ghost use Rattle.fsa_model.specs.Lookups.{has_row, number_of};
 ghost use Rattle.fsa_model.specs.Waiting.{is_wait};
 ghost use Rattle.pending_queue.specs.PendingQueue.{next_ready, with_ended, with_held};
+ghost use Rattle.std.specs.List.{list_any};
 ghost use Rattle.std.specs.List.Sorted.{IsPartitionPoint};
-ghost use Rattle.volume_breaks.specs.Calls.{AreHeld, IsBehind, StayHeld, has_wait, is_at, is_held_under, is_next_turn};
+ghost use Rattle.key_index.specs.RowsByKey.{IsIndexOf, row_passes};
+ghost use Rattle.volume_breaks.specs.CallIndex.{is_first_naming, is_naming, row_call_key, row_handle_key};
+ghost use Rattle.volume_breaks.specs.Calls.{AreCalls, AreHeld, IsBehind, StayHeld, has_wait, is_at, is_held_under, is_next_turn};
 
+use crate::call_index::{CallIndex, names};
 use fsa_types::{Blocker, BlockerList, Call, NoMemory, What};
 use pending_queue::PendingQueue;
 use std::alloc::Global;
@@ -19,8 +23,9 @@ use std::marker::Model;
 use volume_rows::{PendingRow, find_next_pending, is_call};
 
 /// The calls that haven't ended, each under its turn, in the order in which they came, with the queue
-/// of those that are held. No two have one client and number, or one turn. The room that was taken
-/// stays as it is where calls and blockers go.
+/// of those that are held. No two have one client and number, or one turn. As long as the turns rise, calls
+/// are found by an index, under their clients and numbers and under the handles that they name. The room that
+/// was taken stays as it is where calls and blockers go.
 #[derive(Drop)]
 pub struct PendingCalls {
     rows: Vec<(u64, PendingRow)>,
@@ -33,18 +38,23 @@ pub struct PendingCalls {
     rising: bool,
     // Whether some call waits for another.
     waiting: bool,
+    // The turns of all calls, as long as they rise.
+    turns: CallIndex,
 }
 
 impl Model for PendingCalls {
     ghost use Rattle.std.specs.Prelude.{◌≡◌, ◌+◌, ◌≤◌};
     ghost use Rattle.std.specs.Vec.{vec_capacity, vec_len};
+    ghost use Rattle.key_index.specs.RowsByKey.{IsIndexOf};
+    ghost use Rattle.std.specs.Prelude.{true};
+    ghost use Rattle.volume_breaks.specs.CallIndex.{row_call_key, row_handle_key};
     ghost use Rattle.volume_breaks.specs.Calls.{Calls, AreCalls, AreInOrder, HasPlaces, has_wait};
 
     ghost Value = { Calls };
 
     ghost view = { λ p. record { items = p.rows.items; held = p.queue.held; room = p.room; blockers = p.blockers } };
 
-    ghost invariant = { λ p. AreCalls p.rows.items × HasPlaces (vec_len p.rows + p.room) (vec_capacity p.rows) p.room p.queue.room_for_calls p.blockers p.queue.room_for_blockers × AreInOrder p.rising p.rows.items × (p.waiting ≡ has_wait p.rows.items) };
+    ghost invariant = { λ p. AreCalls p.rows.items × HasPlaces (vec_len p.rows + p.room) (vec_capacity p.rows) p.room p.queue.room_for_calls p.blockers p.queue.room_for_blockers × AreInOrder p.rising p.rows.items × (p.waiting ≡ has_wait p.rows.items) × (p.rising ≡ true → IsIndexOf row_call_key p.rows.items p.turns.calls) × (p.rising ≡ true → IsIndexOf row_handle_key p.rows.items p.turns.handles) × p.room ≤ p.turns.room };
 }
 
 impl PendingCalls {
@@ -60,6 +70,7 @@ impl PendingCalls {
             blockers: 0,
             rising: true,
             waiting: false,
+            turns: CallIndex::new(alloc),
         }
     }
 
@@ -89,6 +100,7 @@ impl PendingCalls {
         if calls > self.room {
             self.rows.reserve(calls)?;
             self.queue.reserve(calls, 0)?;
+            self.turns.reserve(calls)?;
             self.room = calls;
         }
         Ok(())
@@ -137,7 +149,38 @@ impl PendingCalls {
     pub fn turn_of(&self, client: u32, number: u32) -> Option<u64>
         ensures { result ≡ number_of (is_call client number) self.now.items }
     {
-        turn_of(&self.rows, client, number)
+        self.find_turn(client, number)
+    }
+
+    // The same, with what is so of all calls.
+    fn find_turn(&self, client: u32, number: u32) -> Option<u64>
+        ensures found { result ≡ number_of (is_call client number) self.now.items }
+        ensures calls { AreCalls self.now.items }
+    {
+        if self.rising {
+            find_call(self, self.turns.of_call(client, number), client, number)
+        } else {
+            seek_call(&self.rows, client, number)
+        }
+    }
+
+    /// The least turn under which a call of this client is pending that names this handle; `None` exactly
+    /// where there is none.
+    pub fn first_naming(&self, client: u32, handle: u32) -> Option<u64>
+        ensures { result ≡ option_map (λ entry. entry.0) (find (is_first_naming self.now.items client handle) self.now.items) }
+    {
+        if self.rising {
+            find_naming(self, self.turns.of_handle(client, handle), client, handle)
+        } else {
+            seek_naming(&self.rows, client, handle)
+        }
+    }
+
+    // The call that is pending under this turn, with what holds it.
+    fn row_under(&self, turn: u64) -> Option<&PendingRow>
+        ensures { option_copied result ≡ row_of self.now.items turn }
+    {
+        row_under(&self.rows, turn)
     }
 
     /// A call is pending under this turn, and held by these blockers where there are any. Room has to be
@@ -157,6 +200,7 @@ impl PendingCalls {
         hold(&mut self.queue, turn, blockers.as_slice());
         self.room -= 1;
         self.blockers -= blockers.len();
+        self.turns.add(turn, &call);
         let Ok(()) = self.rows.push((turn, PendingRow { call, blockers })) else {
             unreachable!()
         };
@@ -185,11 +229,18 @@ impl PendingCalls {
         ensures items { self.new ≡ record self.old { items = filter (λ entry. not (is_call client number entry.1)) self.old.items; held = self.new.held } }
         ensures held { StayHeld self.old self.new }
     {
-        let Some(turn) = turn_of(&self.rows, client, number) else {
-            return;
-        };
+        if let Some(turn) = self.find_turn(client, number) {
+            self.end_under(turn);
+        }
+    }
+
+    // The call of this turn is pending no more, where it was.
+    fn end_under(&mut self, turn: u64)
+        ensures items { self.new ≡ record self.old { items = without_row self.old.items turn; held = self.new.held } }
+        ensures held { StayHeld self.old self.new }
+    {
         self.queue.remove(turn);
-        drop_call(&mut self.rows, client, number);
+        drop_row(&mut self.rows, &mut self.turns, turn);
         self.waiting = still_waits(self.waiting, &self.rows);
     }
 
@@ -266,8 +317,8 @@ fn hold(queue: &mut PendingQueue, turn: u64, blockers: &[Blocker])
     };
 }
 
-// The turn under which this call of this client is pending.
-fn turn_of(rows: &[(u64, PendingRow)], client: u32, number: u32) -> Option<u64>
+// The turn under which this call of this client is pending, with a look at each.
+fn seek_call(rows: &[(u64, PendingRow)], client: u32, number: u32) -> Option<u64>
     ensures { result ≡ number_of (is_call client number) rows.now }
 {
     rows.iter()
@@ -275,13 +326,125 @@ fn turn_of(rows: &[(u64, PendingRow)], client: u32, number: u32) -> Option<u64>
         .map(|entry| entry.0)
 }
 
-// Takes this call of this client out of those that are pending.
-fn drop_call(rows: &mut Vec<(u64, PendingRow)>, client: u32, number: u32)
-    ensures items { rows.new.items ≡ filter (λ entry. not (is_call client number entry.1)) rows.old.items }
+// Whether this call of this client is pending under this turn.
+fn is_call_at(pending: &PendingCalls, turn: u64, client: u32, number: u32) -> bool
+    ensures { result ≡ option_map_or (λ row. is_call client number row) (row_of pending.now.items turn) false }
+{
+    match pending.row_under(turn) {
+        None => false,
+        Some(row) => is_call(row, client, number),
+    }
+}
+
+// The first of these turns under which this call of this client is pending.
+fn find_call(
+    pending: &PendingCalls,
+    entries: &[(u64, u64)],
+    client: u32,
+    number: u32,
+) -> Option<u64>
+    ensures { result ≡ option_map (λ entry. entry.1) (find (row_passes pending.now.items (λ entry. is_call client number entry.1)) entries.now) }
+{
+    entries
+        .iter()
+        .find(|entry| is_call_at(pending, entry.1, client, number))
+        .map(|entry| entry.1)
+}
+
+// Whether a call is one of this client that names this handle.
+fn is_naming(row: &PendingRow, client: u32, handle: u32) -> bool
+    ensures { result ≡ is_naming client handle row.now }
+{
+    row.call.client == client && names(&row.call.what, handle)
+}
+
+// Whether one is pending under a lower turn.
+fn has_naming_below(rows: &[(u64, PendingRow)], turn: u64, client: u32, handle: u32) -> bool
+    ensures { result ≡ list_any (λ other. is_naming client handle other.1 && nat_lt other.0 turn) rows.now }
+{
+    rows.iter().any(|entry| is_naming(&entry.1, client, handle) && entry.0 < turn)
+}
+
+// Whether a call is the first one of this client that names this handle.
+fn is_first_naming(
+    rows: &[(u64, PendingRow)],
+    turn: u64,
+    row: &PendingRow,
+    client: u32,
+    handle: u32,
+) -> bool
+    ensures { result ≡ is_first_naming rows.now client handle (turn, row.now) }
+{
+    is_naming(row, client, handle) && !has_naming_below(rows, turn, client, handle)
+}
+
+// The least turn of a call of this client that names this handle, with a look at each.
+fn seek_naming(rows: &[(u64, PendingRow)], client: u32, handle: u32) -> Option<u64>
+    ensures { result ≡ option_map (λ entry. entry.0) (find (is_first_naming rows.now client handle) rows.now) }
+{
+    rows.iter()
+        .find(|entry| is_first_naming(rows, entry.0, &entry.1, client, handle))
+        .map(|entry| entry.0)
+}
+
+// Whether a call of this client that names this handle is pending under this turn.
+fn is_naming_at(pending: &PendingCalls, turn: u64, client: u32, handle: u32) -> bool
+    ensures { result ≡ option_map_or (λ row. is_naming client handle row) (row_of pending.now.items turn) false }
+{
+    match pending.row_under(turn) {
+        None => false,
+        Some(row) => is_naming(row, client, handle),
+    }
+}
+
+// The first of these turns under which a call of this client is pending that names this handle.
+fn find_naming(
+    pending: &PendingCalls,
+    entries: &[(u64, u64)],
+    client: u32,
+    handle: u32,
+) -> Option<u64>
+    ensures { result ≡ option_map (λ entry. entry.1) (find (row_passes pending.now.items (λ entry. is_naming client handle entry.1)) entries.now) }
+{
+    entries
+        .iter()
+        .find(|entry| is_naming_at(pending, entry.1, client, handle))
+        .map(|entry| entry.1)
+}
+
+// Takes the row of this turn out.
+fn take_row(rows: &mut Vec<(u64, PendingRow)>, turn: u64) -> Option<PendingRow>
+    requires differ { AllPairs (λ a b. (a.0 == b.0) ≡ false) rows.old.items }
+    ensures row { result ≡ row_of rows.old.items turn }
+    ensures items { rows.new.items ≡ without_row rows.old.items turn }
     ensures few { vec_len rows.new ≤ vec_len rows.old }
     ensures room { vec_capacity rows.new ≡ vec_capacity rows.old }
 {
-    rows.retain(|entry| !is_call(&entry.1, client, number));
+    match place_of(rows, turn) {
+        None => None,
+        Some(place) => {
+            let entry = rows.remove(place);
+            Some(entry.1)
+        }
+    }
+}
+
+// Takes the row of this turn out, and its turn out of the index.
+fn drop_row(rows: &mut Vec<(u64, PendingRow)>, turns: &mut CallIndex, turn: u64)
+    requires differ { AllPairs (λ a b. (a.0 == b.0) ≡ false) rows.old.items }
+    ensures items { rows.new.items ≡ without_row rows.old.items turn }
+    ensures few { vec_len rows.new ≤ vec_len rows.old }
+    ensures room { vec_capacity rows.new ≡ vec_capacity rows.old }
+    ensures calls { (last : ℕ) → IsNumbered rows.old.items last → IsIndexOf row_call_key rows.old.items turns.old.calls → IsIndexOf row_call_key rows.new.items turns.new.calls }
+    ensures handles { (last : ℕ) → IsNumbered rows.old.items last → IsIndexOf row_handle_key rows.old.items turns.old.handles → IsIndexOf row_handle_key rows.new.items turns.new.handles }
+    ensures kept { turns.new.room ≡ turns.old.room }
+{
+    match take_row(rows, turn) {
+        None => {}
+        Some(row) => {
+            turns.remove(turn, &row.call);
+        }
+    }
 }
 
 /// Whether a call waits for another.
@@ -332,6 +495,20 @@ fn place_of(rows: &[(u64, PendingRow)], turn: u64) -> Option<usize>
         return Some(place);
     }
     rows.iter().position(|entry| entry.0 == turn)
+}
+
+// The row of this turn.
+fn row_under(rows: &[(u64, PendingRow)], turn: u64) -> Option<&PendingRow>
+    requires differ { AllPairs (λ a b. (a.0 == b.0) ≡ false) rows.now }
+    ensures { option_copied result ≡ row_of rows.now turn }
+{
+    match place_of(rows, turn) {
+        None => None,
+        Some(place) => {
+            let row = &rows[place].1;
+            Some(row)
+        }
+    }
 }
 
 // The call that is pending under this turn.

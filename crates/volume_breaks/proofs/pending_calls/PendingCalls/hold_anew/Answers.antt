@@ -1,5 +1,8 @@
-use Rattle.std.proofs.Common.{arith, ◌≡◌, ◌∙◌}
+use Rattle.std.proofs.Common.{arith, refl, ◌≡◌, ◌∙◌}
+use Rattle.fsa_model.specs.Volume.{Pending}
+use Rattle.key_index.proofs.RowLaws.{index-changed}
 use Rattle.pending_queue.specs.PendingQueue.{held_among}
+use Rattle.volume_breaks.specs.CallIndex.{row_call_key, row_handle_key}
 use Rattle.volume_breaks.proofs.CallLemmas.{AreCalls-changed, held-changed}
 use Rattle.volume_breaks.proofs.OrderLemmas.{AreInOrder-changed}
 use Rattle.volume_breaks.proofs.WaitingLemmas.{has_wait-changed}
@@ -19,6 +22,9 @@ invariant_of-self c = (
       }),
   rw c.set_blockers.ensures.items (AreInOrder-changed c.self.inside.rising c.self.inside.rows.items c.args.turn c.args.blockers.items c.self.invariant.2),
   rw c.set_blockers.ensures.items (c.self.invariant.3 ∙ has_wait-changed c.self.inside.rows.items c.args.turn c.args.blockers.items),
+  (λ is. rw c.set_blockers.ensures.items (index-changed row_call_key (λ (row : Pending). record row { blockers = c.args.blockers.items }) c.self.inside.rows.items c.self.inside.turns.calls c.args.turn (λ row. refl) (c.self.invariant.4 is))),
+  (λ is. rw c.set_blockers.ensures.items (index-changed row_handle_key (λ (row : Pending). record row { blockers = c.args.blockers.items }) c.self.inside.rows.items c.self.inside.turns.handles c.args.turn (λ row. refl) (c.self.invariant.5 is))),
+  c.self.invariant.6,
 )
 
 pub returns-clause-held : goal.returns-clause-held

@@ -27,6 +27,9 @@ invariant_of-self c = (
   rw (c.waits_with-self-inside.ensures, c.in-Ok.ensures.items) (
       ap (λ (waiting : Bool). waiting || is_wait c.args.call.what) c.self.invariant.3
       ∙ has_wait-push c.self.inside.rows.items c.args.turn (record { call = c.args.call; blockers = c.args.blockers.items })),
+  (λ is. rw c.in-Ok.ensures.items (c.add.ensures.calls c.self.inside.rows.items c.args.blockers.items (c.self.invariant.4 (c.stays_rising-self-inside.ensures.rose is)))),
+  (λ is. rw c.in-Ok.ensures.items (c.add.ensures.handles c.self.inside.rows.items c.args.blockers.items (c.self.invariant.5 (c.stays_rising-self-inside.ensures.rose is)))),
+  (let room = rw (← c.self.view_is) at c.requires.room in omega (arith, c.self.invariant.6, c.add.ensures.left, room)),
 )
 
 pub returns-clause-held : goal.returns-clause-held
