@@ -2,7 +2,7 @@
 use Rattle.std.proofs.Common.{◌≡◌, ℕ, ◌<◌, ◌≤◌, Bool, List, [], ◌∷◌, length, get_or, refl, ap, sym, ◌∙◌, arith, inl, inr, Option, Some, None, true, false}
 use Rattle.std.specs.List.{All, filter, find, list_any}
 use Rattle.std.specs.Prelude.{◌==◌, ◌&&◌, not, nat_lt, option_map, IfSome}
-use Rattle.std.proofs.lemmas.Bool.{and_from, and_parts, and_right, both_ways, cases_Bool, eq-eqb, eqb-false, eqb-true, false_from_ne_true, le-ltb, lt-ltb, ltb-false, not-true, not_from_true, or_parts}
+use Rattle.std.proofs.lemmas.Bool.{and_from, and_parts, and_right, both_ways, cases_Bool, eq-eqb, eqb-false, eqb-true, false_from_ne_true, le-ltb, lt-ltb, ltb-false, ltb-true, not-true, not_from_true, or_parts}
 use Rattle.std.proofs.lemmas.List.Folds.{list_any_none}
 use Rattle.fsa_types.specs.Rows.{lives, row_of}
 use Rattle.fsa_types.specs.Sorting.{in_order}
@@ -12,7 +12,7 @@ use Rattle.fsa_model.specs.Edits.{is_call}
 use Rattle.fsa_model.specs.Lookups.{next_pending}
 use Rattle.fsa_model.specs.Sound.{ArePending}
 use Rattle.fsa_model.specs.Volume.{Pending, Volume}
-use Rattle.fsa_model.proofs.RowLaws.{find-any, lives-found, none-all, option_cases}
+use Rattle.fsa_model.proofs.RowLaws.{any-weaker, find-any, lives-found, none-all, option_cases}
 use Rattle.volume_state.proofs.OpenLaws.{find-passes}
 use Rattle.op_delete.specs.Ends.{ends_call, end_status, to_end, with_ended, with_row_ended, with_turn_ended}
 use Rattle.op_delete.specs.declared.ends.Ending.{Ending}
@@ -226,6 +226,119 @@ IsEnding-turn ending old now new after turn walk sound next above live is same =
 -- no later turn is left
 pub IsEnding-last : (ending : Ending) (old now : Volume) (after : ℕ) → IsEnding ending old now after → list_any (λ entry. nat_lt after entry.0) now.pending ≡ false → now ≡ with_ended ending old
 IsEnding-last ending old now after walk none = sym (to_end-last ending now after none) ∙ walk.goes
+
+-- ---- the first of those that end
+
+-- the call that is pending under a turn, where it ends
+abbrev pub EndsUnder : Ending → Volume → ℕ → Type 0
+EndsUnder ending v turn = (row : Pending) × (row_of v.pending turn ≡ Some row) × (ends_call ending row.call ≡ true)
+
+-- it is next by itself, of the turns that aren't below it
+abbrev pub not_below : ℕ → ℕ → Bool
+not_below turn other = not (nat_lt other turn)
+
+as-next : (v : Volume) (turn : ℕ) (row : Pending) → ArePending v.clients v.pending → row_of v.pending turn ≡ Some row → IsNext v (not_below turn) turn row
+as-next v turn row sound found = record {
+  sound = sound;
+  found = found;
+  above = ap not (le-ltb turn turn (omega arith));
+  up = λ other below. let less : other < turn = ltb-true other turn (not-false (nat_lt other turn) below) in omega (arith, less);
+  none_between = list_any_none (λ (other : ℕ × Pending). not (nat_lt other.0 turn) && nat_lt other.0 turn) v.pending (λ k d within. never (nat_lt (get_or v.pending k d).0 turn));
+}
+  where
+    not-false : (b : Bool) → not b ≡ false → b ≡ true
+    not-false true is = refl
+    not-false false is = (let impossible : true ≡ false = is in cc)
+
+    never : (b : Bool) → (not b && b) ≡ false
+    never true = refl
+    never false = refl
+
+pub ends-under : (ending : Ending) (v : Volume) (turn : ℕ) → ArePending v.clients v.pending → list_any (λ entry. entry.0 == turn && ends_call ending entry.1.call) v.pending ≡ true → EndsUnder ending v turn
+ends-under ending v turn sound there = elim (option_cases (row_of v.pending turn)) [
+  | inl none ↦ absurd (lives-found v.pending turn
+      (any-weaker (λ (entry : ℕ × Pending). entry.0 == turn && ends_call ending entry.1.call) (λ entry. entry.0 == turn) v.pending (λ entry both. (and_parts (entry.0 == turn) (ends_call ending entry.1.call) both).0) there) none)
+  | inr some ↦ elim (cases_Bool (ends_call ending some.0.call)) [
+    | inl ends ↦ (some.0, some.1, ends)
+    | inr stays ↦ absurd (both_ways (list_any (λ (entry : ℕ × Pending). entry.0 == turn && ends_call ending entry.1.call) v.pending)
+        (list_any_none (λ (entry : ℕ × Pending). entry.0 == turn && ends_call ending entry.1.call) v.pending
+        (λ k d within. fails some.0 stays (get_or v.pending k d) (own_turn v (not_below turn) turn some.0 (as-next v turn some.0 sound some.1) k d within))) there)
+  ]
+]
+  where
+    fails : (row : Pending) → ends_call ending row.call ≡ false → (entry : ℕ × Pending) → ((entry.0 == turn) ≡ true → entry ≡ (turn, row)) → (entry.0 == turn && ends_call ending entry.1.call) ≡ false
+    fails row stays entry of_turn = elim (cases_Bool (entry.0 == turn)) [
+      | inl here ↦ rw here (ap (λ (e : ℕ × Pending). ends_call ending e.1.call) (of_turn here) ∙ stays)
+      | inr other ↦ rw other refl
+    ]
+
+ended-row : (ending : Ending) (v : Volume) (turn : ℕ) (row : Pending) → ArePending v.clients v.pending → row_of v.pending turn ≡ Some row → ends_call ending row.call ≡ true
+    → list_any (λ entry. ends_call ending entry.1.call && nat_lt entry.0 turn) v.pending ≡ false → with_ended ending (with_row_ended ending row v) ≡ with_ended ending v
+ended-row ending v turn row sound found ends least =
+    rw ends (sym (ap (λ (calls : List (ℕ × Pending)). with_calls_ended (end_status ending) calls v)
+    (first-picked (λ (entry : ℕ × Pending). entry.0) (λ entry. ends_call ending entry.1.call)
+    (λ entry. not (is_call row.call.client row.call.number entry.1) && ends_call ending entry.1.call) v.pending (turn, row) picks
+    (λ k d within. agree (get_or v.pending k d) (own_turn v (not_below turn) turn row next k d within) (own_call v (not_below turn) turn row next k d within))
+    ∙ ap (λ (calls : List (ℕ × Pending)). (turn, row) ∷ in_order (by_key (λ (entry : ℕ × Pending). entry.0)) calls)
+    (sym (filter-both (λ entry. not (is_call row.call.client row.call.number entry.1)) (λ entry. ends_call ending entry.1.call) v.pending)))))
+  where
+    next : IsNext v (not_below turn) turn row
+    next = as-next v turn row sound found
+
+    agree : (entry : ℕ × Pending) → ((entry.0 == turn) ≡ true → entry ≡ (turn, row)) → (is_call row.call.client row.call.number entry.1 ≡ true → entry ≡ (turn, row))
+        → (not (is_call row.call.client row.call.number entry.1) && ends_call ending entry.1.call) ≡ (ends_call ending entry.1.call && not (entry.0 == turn))
+    agree entry of_turn of_call = elim (cases_Bool (entry.0 == turn)) [
+      | inl here ↦ (let same : entry ≡ (turn, row) = of_turn here in
+          let own : is_call row.call.client row.call.number entry.1 ≡ true = ap (λ (e : ℕ × Pending). is_call row.call.client row.call.number e.1) same ∙ is_call-own row in
+          rw (own, here) (sym (and_right (ends_call ending entry.1.call) false refl)))
+      | inr other ↦ (let not_own : is_call row.call.client row.call.number entry.1 ≡ false = false_from_ne_true _ (λ own. eqb-false entry.0 turn other (ap (λ (e : ℕ × Pending). e.0) (of_call own))) in
+          rw (not_own, other) (sym (and_true (ends_call ending entry.1.call))))
+    ]
+
+    two : (a b : ℕ × Pending) → (a.0 == b.0) ≡ false → ((ends_call ending a.1.call && a.0 == turn) && (ends_call ending b.1.call && b.0 == turn)) ≡ false
+    two a b differ = false_from_ne_true _ (λ both.
+        let parts = and_parts (ends_call ending a.1.call && a.0 == turn) (ends_call ending b.1.call && b.0 == turn) both in
+        let of_a : (a.0 == turn) ≡ true = (and_parts (ends_call ending a.1.call) (a.0 == turn) parts.0).1 in
+        let of_b : (b.0 == turn) ≡ true = (and_parts (ends_call ending b.1.call) (b.0 == turn) parts.1).1 in
+        eqb-false a.0 b.0 differ (eqb-true a.0 turn of_a ∙ sym (eqb-true b.0 turn of_b)))
+
+    picks : Picks (λ (entry : ℕ × Pending). entry.0) (λ entry. ends_call ending entry.1.call) v.pending (turn, row)
+    picks = record {
+      some = find-any (λ (entry : ℕ × Pending). entry.0 == turn) (λ entry. ends_call ending entry.1.call && entry.0 == turn) v.pending (turn, row) (find-row v.pending turn row found)
+          (and_from (ends_call ending row.call) (turn == turn) ends (eq-eqb turn turn refl));
+      only = λ k d within both. own_turn v (not_below turn) turn row next k d within (and_parts (ends_call ending (get_or v.pending k d).1.call) ((get_or v.pending k d).0 == turn) both).1;
+      single = alone-pairs (λ (entry : ℕ × Pending). ends_call ending entry.1.call && entry.0 == turn) v.pending (λ i j d below within.
+          two (get_or v.pending i d) (get_or v.pending j d) (sound.turns_differ i j d below within));
+      least = least;
+    }
+
+-- once the first of those that end has ended, the others are to end, and there are fewer
+pub record IsFewer (ending : Ending) (old new : Volume) : Type 0 where
+  pub goes : with_ended ending new ≡ with_ended ending old
+  pub less : length new.pending < length old.pending
+
+pub ended-first : (ending : Ending) (old new : Volume) (turn : ℕ) → ArePending old.clients old.pending → list_any (λ entry. entry.0 == turn && ends_call ending entry.1.call) old.pending ≡ true
+    → list_any (λ entry. ends_call ending entry.1.call && nat_lt entry.0 turn) old.pending ≡ false → new ≡ with_turn_ended ending turn old → IsFewer ending old new
+ended-first ending old new turn sound there least is =
+    let under = ends-under ending old turn sound there in
+    let row : Pending = under.0 in
+    let ended : new ≡ with_row_ended ending row old = is ∙ rw under.1 refl in
+    record {
+      goes = ap (with_ended ending) ended ∙ ended-row ending old turn row sound under.1 under.2 least;
+      less = rw (ended, under.2) (fewer (λ (entry : ℕ × Pending). entry.0 == turn) (λ entry. not (is_call row.call.client row.call.number entry.1)) old.pending (turn, row) (find-row old.pending turn row under.1)
+          (not_from_true _ (is_call-own row)));
+    }
+
+-- and where none is left that ends, all have ended
+pub ended-none : (ending : Ending) (v : Volume) → list_any (λ entry. ends_call ending entry.1.call) v.pending ≡ false → with_ended ending v ≡ v
+ended-none ending v none =
+    ap (λ (calls : List (ℕ × Pending)). with_calls_ended (end_status ending) (in_order (by_key (λ (entry : ℕ × Pending). entry.0)) calls) v)
+    (filter-none (λ entry. ends_call ending entry.1.call) v.pending (none-all (λ (entry : ℕ × Pending). ends_call ending entry.1.call) v.pending none))
+
+-- where one is pending there is one at least
+pub some-pending : (rows : List (ℕ × Pending)) (test : ℕ × Pending → Bool) → list_any test rows ≡ true → 1 ≤ length rows
+some-pending [] test there = cc
+some-pending (row ∷ rows) test there = omega arith
 
 -- a call that is pending can end
 pub one-pending : (rows : List (ℕ × Pending)) (turn : ℕ) → lives rows turn ≡ true → 1 ≤ length rows

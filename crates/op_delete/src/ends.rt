@@ -3,12 +3,14 @@
 ghost use Rattle.std.specs.Prelude.{◌≡◌, ◌≤◌, ◌+◌, ◌==◌, ◌&&◌, [], false, nat_lt, IfNone, IfSome, IsTrue, length};
 ghost use Rattle.std.specs.List.{list_any};
 ghost use Rattle.fsa_types.specs.Rows.{lives};
-ghost use Rattle.fsa_model.specs.Close.{closed_status, handle_named, is_open_or_wait, names};
+ghost use Rattle.fsa_model.specs.Close.{closed_status, is_open_or_wait};
 ghost use Rattle.fsa_model.specs.Sound.{ArePending};
 ghost use Rattle.op_delete.specs.Ends.{end_status, ends_call, with_ended, with_turn_ended};
+ghost use Rattle.op_delete.specs.declared.ends.Ending.TheVariants.{OfHandle};
 ghost use Rattle.volume_state.specs.Room.{KeepsEnds};
 
 use fsa_types::{Body, Call, Reply, Request, Status, What};
+use volume_breaks::names;
 use volume_state::Volume;
 
 /// Which pending calls end.
@@ -49,51 +51,6 @@ impl Ending {
             Ending::OfHandle { .. } => closed_status(what),
             Ending::OfClient { .. } => Status::Cancelled,
         }
-    }
-}
-
-// The number of the handle that a request names.
-fn handle_named(request: &Request) -> Option<u32>
-    ensures { result ≡ handle_named request.now }
-{
-    match request {
-        Request::Create { .. }
-        | Request::SetQuota { .. }
-        | Request::QueryQuota { .. }
-        | Request::Cancel { .. } => None,
-        Request::Close { handle }
-        | Request::Read { handle, .. }
-        | Request::Write { handle, .. }
-        | Request::Flush { handle }
-        | Request::Lock { handle, .. }
-        | Request::Unlock { handle, .. }
-        | Request::QueryDir { handle, .. }
-        | Request::Notify { handle, .. }
-        | Request::QueryInfo { handle, .. }
-        | Request::SetBasic { handle, .. }
-        | Request::SetEnd { handle, .. }
-        | Request::SetDisposition { handle, .. }
-        | Request::Rename { handle, .. }
-        | Request::Link { handle, .. }
-        | Request::SetSecurity { handle, .. }
-        | Request::SetReparse { handle, .. }
-        | Request::GetReparse { handle, .. }
-        | Request::DeleteReparse { handle, .. }
-        | Request::Oplock { handle, .. }
-        | Request::Ack { handle, .. } => Some(*handle),
-    }
-}
-
-// Whether what is asked names this handle.
-fn names(what: &What, handle: u32) -> bool
-    ensures { result ≡ names what.now handle }
-{
-    let What::Ask(request) = what else {
-        return false;
-    };
-    match handle_named(request) {
-        None => false,
-        Some(named) => named == handle,
     }
 }
 
@@ -161,9 +118,8 @@ fn first_pending(volume: &Volume) -> Option<u64>
     }
 }
 
-/// The pending calls of this kind end, in order of turns. There has to be room for as many ends as there
-/// are pending calls.
-pub fn end_calls(volume: &mut Volume, ending: Ending)
+// The calls of this kind end, in order of turns, with a look at each that is pending.
+fn end_each(volume: &mut Volume, ending: Ending)
     requires room { length volume.old.content.pending ≤ volume.old.spare.ends }
     ensures content { volume.new.content ≡ with_ended ending volume.old.content }
     ensures rest { volume.new.content ≡ record volume.old.content { pending = volume.new.content.pending; ended = volume.new.content.ended } }
@@ -179,5 +135,35 @@ pub fn end_calls(volume: &mut Volume, ending: Ending)
     'turns: while let Some(turn) = volume.next_pending(after) {
         end_turn(volume, ending, turn);
         after = turn;
+    }
+}
+
+// The calls that name a handle which is closed end, in order of turns. No others are looked at.
+fn end_on(volume: &mut Volume, client: u32, handle: u32)
+    requires room { length volume.old.content.pending ≤ volume.old.spare.ends }
+    ensures content { volume.new.content ≡ with_ended (OfHandle client handle) volume.old.content }
+    ensures rest { volume.new.content ≡ record volume.old.content { pending = volume.new.content.pending; ended = volume.new.content.ended } }
+    ensures others { volume.new.spare ≡ record volume.old.spare { ends = volume.new.spare.ends; pending = volume.new.spare.pending; blockers = volume.new.spare.blockers } }
+    ensures count { volume.old.spare.ends + length volume.new.content.pending ≤ volume.new.spare.ends + length volume.old.content.pending }
+    ensures ends { KeepsEnds volume.old volume.new }
+{
+    'turns: while let Some(turn) = volume.first_pending_on(client, handle) {
+        end_turn(volume, Ending::OfHandle { client, handle }, turn);
+    }
+}
+
+/// The pending calls of this kind end, in order of turns. There has to be room for as many ends as there
+/// are pending calls. Those that name a handle are found without a look at the others.
+pub fn end_calls(volume: &mut Volume, ending: Ending)
+    requires room { length volume.old.content.pending ≤ volume.old.spare.ends }
+    ensures content { volume.new.content ≡ with_ended ending volume.old.content }
+    ensures rest { volume.new.content ≡ record volume.old.content { pending = volume.new.content.pending; ended = volume.new.content.ended } }
+    ensures others { volume.new.spare ≡ record volume.old.spare { ends = volume.new.spare.ends; pending = volume.new.spare.pending; blockers = volume.new.spare.blockers } }
+    ensures count { volume.old.spare.ends + length volume.new.content.pending ≤ volume.new.spare.ends + length volume.old.content.pending }
+    ensures ends { KeepsEnds volume.old volume.new }
+{
+    match ending {
+        Ending::OfHandle { client, handle } => end_on(volume, client, handle),
+        Ending::OfClient { .. } => end_each(volume, ending),
     }
 }

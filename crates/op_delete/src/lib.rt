@@ -25,8 +25,8 @@
 //! - All room is taken before the first change: for a SetDisposition that of a call that is held; for a close
 //!   as many ends as calls are pending, and two notes for each handle that is closed. What is noted later
 //!   takes no more room than it would have taken then.
-//! - A close costs a look through the pending calls for each of them, and a few through the other tables;
-//!   a leaving costs that for each handle of the client.
+//! - A close costs a look at the pending calls that name the handle, and a few looks through the other tables;
+//!   a leaving costs that for each handle of the client, and a look through all pending calls.
 #![tactic(auto)]
 
 mod close;

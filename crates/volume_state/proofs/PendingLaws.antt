@@ -1,10 +1,10 @@
 -- What is true of an entry that is found by a test of its number too, and where none is found.
 use Rattle.std.proofs.Common.{◌≡◌, ℕ, Bool, true, false, List, Option, Some, None, refl, inl, inr}
 use Rattle.std.specs.Borrow.{Bor}
-use Rattle.std.specs.List.{All, find}
+use Rattle.std.specs.List.{All, find, list_any}
 use Rattle.std.specs.Option.{option_copied}
-use Rattle.std.specs.Prelude.{◌==◌, option_map, IfSome, IfNone, IsSome}
-use Rattle.std.proofs.lemmas.Bool.{eq-eqb}
+use Rattle.std.specs.Prelude.{◌==◌, ◌&&◌, option_map, IfSome, IfNone, IsSome}
+use Rattle.std.proofs.lemmas.Bool.{and_from, eq-eqb}
 use Rattle.fsa_types.specs.Rows.{row_of, lives}
 use Rattle.fsa_model.proofs.RowLaws.{find-any, find-none, lives-found, none-all, option_cases}
 use Rattle.volume_state.proofs.OpenLaws.{find-passes}
@@ -15,6 +15,16 @@ entry-lives {R} test rows =
     elim (option_cases (find test rows)) [
       | inl none ↦ rw none tt
       | inr some ↦ rw some.1 (find-any test (λ (entry : ℕ × R). entry.0 == some.0.0) rows some.0 some.1 (eq-eqb some.0.0 some.0.0 refl))
+    ]
+
+-- an entry that passes another test too stands under a number that is found
+pub entry-there : {R : Type 0} (test other : ℕ × R → Bool) (rows : List (ℕ × R)) → ((entry : ℕ × R) → test entry ≡ true → other entry ≡ true)
+    → IfSome (option_map (λ entry. entry.0) (find test rows)) (λ id. list_any (λ entry. entry.0 == id && other entry) rows ≡ true)
+entry-there {R} test other rows also =
+    elim (option_cases (find test rows)) [
+      | inl none ↦ rw none tt
+      | inr some ↦ rw some.1 (find-any test (λ (entry : ℕ × R). entry.0 == some.0.0 && other entry) rows some.0 some.1
+          (and_from (some.0.0 == some.0.0) (other some.0) (eq-eqb some.0.0 some.0.0 refl) (also some.0 (find-passes test rows some.0 some.1))))
     ]
 
 -- what each entry that passes says of its number is so of the one that is found

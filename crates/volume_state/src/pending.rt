@@ -1,6 +1,6 @@
 //! Pending calls.
 
-ghost use Rattle.std.specs.Prelude.{ℕ, ◌≡◌, ◌≤◌, ◌<◌, ◌+◌, ◌^◌, ◌==◌, All, IsTrue, IsSome, IfSome, IfNone, true, false, length, nat_lt, option_map, slice_get};
+ghost use Rattle.std.specs.Prelude.{ℕ, ◌≡◌, ◌≤◌, ◌<◌, ◌+◌, ◌^◌, ◌==◌, ◌&&◌, All, IsTrue, IsSome, IfSome, IfNone, true, false, length, nat_lt, option_map, slice_get};
 ghost use Rattle.std.specs.List.{list_any};
 ghost use Rattle.std.specs.Option.{option_copied, ForSome};
 ghost use Rattle.fsa_types.specs.Rows.{lives, row_of};
@@ -9,6 +9,7 @@ ghost use Rattle.fsa_model.specs.Edits.{is_call, with_blockers, with_end, with_p
 ghost use Rattle.fsa_model.specs.Lookups.{has_row, next_pending, number_of};
 ghost use Rattle.fsa_model.specs.Sound.{ArePending};
 ghost use Rattle.fsa_model.specs.Waiting.{blocker_lives};
+ghost use Rattle.volume_breaks.specs.CallIndex.{is_naming};
 ghost use Rattle.volume_state.specs.Room.{KeepsEnds};
 
 use crate::volume::Volume;
@@ -51,6 +52,19 @@ impl Volume {
         ensures sound { ArePending self.now.content.clients self.now.content.pending }
     {
         self.pending.next_turn(after)
+    }
+
+    /// The least turn under which a call of this client is pending that names this handle; `None` exactly where
+    /// there is none. As long as calls came in the order of their turns no others are looked at.
+    pub fn first_pending_on(&self, client: u32, handle: u32) -> Option<u64>
+        ensures there { IfSome result (λ turn. IsTrue (list_any (λ entry. entry.0 == turn && is_naming client handle entry.1) self.now.content.pending)) }
+        ensures least { IfSome result (λ turn. list_any (λ entry. is_naming client handle entry.1 && nat_lt entry.0 turn) self.now.content.pending ≡ false) }
+        ensures none { IfNone result (has_row (is_naming client handle) self.now.content.pending ≡ false) }
+
+        // The turns of pending calls differ, and a client and a number name one of them.
+        ensures sound { ArePending self.now.content.clients self.now.content.pending }
+    {
+        self.pending.first_naming(client, handle)
     }
 
     /// The turn under which this call of this client is pending; `None` exactly where it isn't.

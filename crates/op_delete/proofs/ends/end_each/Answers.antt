@@ -1,7 +1,7 @@
 use Rattle.std.proofs.Common.{sym, ap, ◌∙◌, arith}
 use Rattle.volume_state.specs.VolumeView.{Spare}
 use Rattle.op_delete.proofs.EndLaws.{IsEnding-first, IsEnding-last, IsEnding-turn}
-use Rattle.op_delete.proofs.ends.end_calls.Goals as goal
+use Rattle.op_delete.proofs.ends.end_each.Goals as goal
 
 pub turns-init : goal.turns-init
 turns-init c = record {

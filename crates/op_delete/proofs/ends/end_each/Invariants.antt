@@ -1,7 +1,7 @@
 use Rattle.std.proofs.Common.{◌≡◌, ◌≤◌, ◌+◌, ◌-◌, ◌^◌, length}
 use Rattle.op_delete.proofs.EndLaws.{IsEnding}
 use Rattle.volume_state.specs.Room.{KeepsEnds}
-use Rattle.op_delete.proofs.ends.end_calls.Given as goal
+use Rattle.op_delete.proofs.ends.end_each.Given as goal
 
 abbrev pub invariant-turns : goal.invariant-turns
 invariant-turns l = record {
