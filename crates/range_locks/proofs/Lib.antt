@@ -1,2 +1,3 @@
 pub mod FirstLemmas
+pub mod ListedLemmas
 mod RangeExamples

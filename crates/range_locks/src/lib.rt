@@ -14,9 +14,10 @@
 //! held many times, under one number too. It doesn't refuse a range that conflicts; that is for its
 //! caller.
 //!
-//! **Cost.** Each look-up and each removal takes time linear in the ranges that are held. `insert`
-//! takes constant time, and memory only where no room was reserved; `blockers` takes memory for
-//! what it lists; nothing else takes any.
+//! **Cost.** Each look-up and each removal takes time linear in the ranges that are held: `conflict`
+//! goes up to the first that conflicts, and `blockers` once over all, and once more from the first
+//! to the last that conflicts. `insert` takes constant time, and memory only where no room was
+//! reserved; `blockers` takes memory for what it lists; nothing else takes any.
 #![tactic(auto)]
 
 mod range;

@@ -74,27 +74,11 @@ impl RangeTable {
     ) -> Result<BlockerList, NoMemory>
         ensures { IfOk result (λ list. list ≡ full (blockers_of (conflicts want handle at count) self.now.ranges)) }
     {
-        let found = self.count_of_conflicts(want, handle, at, count);
-        let Ok(room) = u32::try_from(found) else {
-            return Err(NoMemory);
+        let Some(first) = first_conflict(&self.ranges, want, handle, at, count) else {
+            return Ok(BlockerList::with_room(alloc, 0)?);
         };
-        let mut list = BlockerList::with_room(alloc, room)?;
-        for range in &self.ranges {
-            if range.conflicts(want, handle, at, count) {
-                list.push(Blocker::Lock(range.id));
-            }
-        }
-        Ok(list)
-    }
-
-    // How many ranges conflict with what this handle wants.
-    fn count_of_conflicts(&self, want: Want, handle: u64, at: u64, count: u64) -> usize
-        ensures { result ≡ count_by (conflicts want handle at count) self.now.ranges }
-    {
-        self.ranges
-            .iter()
-            .filter(|range| range.conflicts(want, handle, at, count))
-            .count()
+        let (_, ranges) = self.ranges.split_at(first);
+        listed(alloc, ranges, want, handle, at, count)
     }
 
     /// Takes room for `n` ranges beside those that are held. `NoMemory` where there is none.
@@ -154,6 +138,53 @@ impl RangeTable {
     {
         remove_all_of(&mut self.ranges, handle);
     }
+}
+
+// The place of the first range that conflicts with what this handle wants.
+fn first_conflict(ranges: &[Range], want: Want, handle: u64, at: u64, count: u64) -> Option<usize>
+    ensures { result ≡ position (conflicts want handle at count) ranges.now }
+{
+    ranges
+        .iter()
+        .position(|range| range.conflicts(want, handle, at, count))
+}
+
+// How many ranges conflict with what this handle wants.
+fn count_of_conflicts(ranges: &[Range], want: Want, handle: u64, at: u64, count: u64) -> usize
+    ensures { result ≡ count_by (conflicts want handle at count) ranges.now }
+{
+    ranges
+        .iter()
+        .filter(|range| range.conflicts(want, handle, at, count))
+        .count()
+}
+
+// The numbers of those ranges that conflict with what this handle wants, in order. What stands behind the last of
+// them is looked at only as they are counted.
+fn listed(
+    alloc: Global,
+    ranges: &[Range],
+    want: Want,
+    handle: u64,
+    at: u64,
+    count: u64,
+) -> Result<BlockerList, NoMemory>
+    ensures { IfOk result (λ list. list ≡ full (blockers_of (conflicts want handle at count) ranges.now)) }
+{
+    let found = count_of_conflicts(ranges, want, handle, at, count);
+    let Ok(room) = u32::try_from(found) else {
+        return Err(NoMemory);
+    };
+    let mut list = BlockerList::with_room(alloc, room)?;
+    for range in ranges {
+        if list.len() == found {
+            return Ok(list);
+        }
+        if range.conflicts(want, handle, at, count) {
+            list.push(Blocker::Lock(range.id));
+        }
+    }
+    Ok(list)
 }
 
 // Takes all ranges of this handle out.

@@ -1,4 +1,4 @@
-use Rattle.std.proofs.Common.{rules, not, ◌==◌}
+use Rattle.std.proofs.Common.{rules, not}
 use Rattle.std.proofs.lemmas.Fn.{filter_same}
 use Rattle.range_locks.specs.RangeTable.{is_of}
 use Rattle.range_locks.proofs.table.remove_all_of.Goals as goal
