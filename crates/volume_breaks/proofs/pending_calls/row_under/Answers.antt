@@ -1,4 +1,4 @@
-use Rattle.std.proofs.Common.{ap, ◌∙◌, sym, Some}
+use Rattle.std.proofs.Common.{◌∙◌, sym}
 use Rattle.fsa_types.proofs.RowLemmas.{row_of-none}
 use Rattle.volume_breaks.proofs.WaitingLemmas.{row-there}
 use Rattle.volume_breaks.proofs.pending_calls.row_under.Goals as goal
