@@ -1,3 +1,4 @@
 pub mod ClosureLemmas
 pub mod NextLemmas
+pub mod PlaceLemmas
 pub mod SearchLemmas

@@ -1,4 +1,6 @@
 pub mod Lends
+pub mod ListLends
 pub mod Next
+pub mod Places
 pub mod Series
 pub mod Table

@@ -1,39 +1,41 @@
 //! Rows under numbers that rise and are never given twice.
 
-ghost use Rattle.std.specs.Prelude.{AllPairs, ◌≡◌, ◌≤◌, ◌<◌, ◌+◌, ◌^◌, ◌++◌, ◌∷◌, [], OnOk, OnErr, IsOk, IfOk, IfErr, length, option_map, position, slice_get, ◌==◌};
-ghost use Rattle.std.specs.List.Sorted.{IsPartitionPoint};
+ghost use Rattle.std.specs.Prelude.{◌≡◌, ◌≤◌, ◌<◌, ◌+◌, ◌^◌, ◌++◌, ◌∷◌, [], OnOk, OnErr, IsOk, IfOk, IfErr, length, position, ◌==◌};
 ghost use Rattle.std.specs.Borrow.{sem};
-ghost use Rattle.std.specs.Fn.{CalledAt};
-ghost use Rattle.std.specs.List.Retain.{IsFiltered};
 ghost use Rattle.std.specs.Option.{option_copied, option_copied_mut, option_map_or};
 ghost use Rattle.fsa_types.specs.Rows.{row_of, without_row, with_row_changed, IsNumbered};
 ghost use Rattle.object_tables.specs.Next.{IsNext, number_after};
 
+use crate::search::{end_of, number_at, place_of};
 use fsa_types::NoMemory;
-use std::alloc::{AllocFailed, Global};
+use slab::Slab;
+use std::alloc::Global;
 use std::marker::Model;
 
 /// Rows under numbers that rise from 1 and are never given twice. A row is found by its number in time
-/// logarithmic in the rows.
+/// logarithmic in the rows, and stays where it is while others come and go.
 #[derive(Debug, Drop)]
 pub struct Table<T> {
-    rows: Vec<(u64, T)>,
+    // The number of each row with its key in `rows`, by rising number.
+    places: Vec<(u64, usize)>,
+    rows: Slab<T>,
     last: u64,
 }
 
 impl<T> Model for Table<T> {
-    ghost use Rattle.fsa_types.specs.Rows.{IsNumbered};
+    ghost use Rattle.object_tables.specs.Places.{ArePlaced, rows_in};
     ghost use Rattle.object_tables.specs.Table.{Rows, rows_code};
-    ghost use Rattle.std.specs.Prelude.{AllPairs, ◌-◌};
+    ghost use Rattle.slab.specs.Slab.{get, slab_len};
+    ghost use Rattle.std.specs.Prelude.{◌-◌, min};
     ghost use Rattle.std.specs.Vec.{vec_capacity, vec_len};
 
     ghost Value = { Rows T };
 
     ghost coded = { rows_code T.code };
 
-    ghost view = { λ t. record { rows = t.rows.items; last = t.last; room = vec_capacity t.rows - vec_len t.rows } };
+    ghost view = { λ t. record { rows = rows_in t.rows t.places.items; last = t.last; room = min (vec_capacity t.places - vec_len t.places) (t.rows.capacity - slab_len t.rows) } };
 
-    ghost invariant = { λ t. IsNumbered t.rows.items t.last };
+    ghost invariant = { λ t. ArePlaced (get t.rows) t.places.items t.last };
 }
 
 impl<T: Drop> Table<T> {
@@ -45,7 +47,8 @@ impl<T: Drop> Table<T> {
         ensures last { result.last ≡ 0 }
     {
         Table {
-            rows: Vec::new(alloc),
+            places: Vec::new(alloc),
+            rows: Slab::new(alloc),
             last: 0,
         }
     }
@@ -57,6 +60,7 @@ impl<T: Drop> Table<T> {
         ensures room { OnOk result (more ≤ self.new.room) }
         ensures kept { self.old.room ≤ self.new.room }
     {
+        self.places.reserve(more)?;
         self.rows.reserve(more)?;
         Ok(())
     }
@@ -74,22 +78,26 @@ impl<T: Drop> Table<T> {
         ensures err { OnErr result ((self.new.rows ≡ self.old.rows) × (self.new.last ≡ self.old.last)) }
         ensures back { IfErr result (λ e. e.0 ≡ row) }
     {
-        let id = self.last + 1;
-        match self.rows.push((id, row)) {
-            Ok(()) => {
-                self.last = id;
-                Ok(id)
-            }
-            Err(AllocFailed { value }) => Err((value.1, NoMemory)),
+        if self.places.reserve(1).is_err() {
+            return Err((row, NoMemory));
         }
+        if self.rows.reserve(1).is_err() {
+            return Err((row, NoMemory));
+        }
+        let id = self.last + 1;
+        let key = self.rows.insert_reserved(row);
+        self.places.push_reserved((id, key));
+        self.last = id;
+        Ok(id)
     }
 
-    /// All rows with their numbers, by rising number.
-    pub fn as_slice(&self) -> &[(u64, T)]
-        ensures rows { result.now ≡ self.now.rows }
+    /// The number of rows. The numbers rise, and none is above the last one given.
+    pub fn len(&self) -> usize
+        ensures count { result ≡ length self.now.rows }
+        ensures few { length self.now.rows + 1 < 2 ^ 64 }
         ensures numbered { IsNumbered self.now.rows self.now.last }
     {
-        self.rows.as_slice()
+        self.places.len()
     }
 
     /// The last number that was given, 0 where there is none.
@@ -104,16 +112,16 @@ impl<T: Drop> Table<T> {
         ensures found { result ≡ number_after self.now.rows after }
         ensures next { IsNext self.now.rows after result }
     {
-        number_at(&self.rows, end_of(&self.rows, after))
+        number_at(&self.places, end_of(&self.places, after))
     }
 
     /// The row of this number; `None` exactly where there is none.
     pub fn get(&self, id: u64) -> Option<&T>
         ensures { option_copied result ≡ row_of self.now.rows id }
     {
-        match place_of(&self.rows, id) {
+        match place_of(&self.places, id) {
             None => None,
-            Some(place) => Some(&self.rows[place].1),
+            Some(place) => self.rows.get(self.places[place].1),
         }
     }
 
@@ -125,7 +133,7 @@ impl<T: Drop> Table<T> {
         // A change of the row that was found is a change of the row of this number.
         ensures one { (change : T → T) → option_map_or (λ row. with_row_changed (λ _. change row) self.old.rows id) (row_of self.old.rows id) self.old.rows ≡ with_row_changed change self.old.rows id }
     {
-        match place_of(&self.rows, id) {
+        match place_of(&self.places, id) {
             None => None,
             Some(place) => Some(self.row_mut(id, place)),
         }
@@ -137,8 +145,8 @@ impl<T: Drop> Table<T> {
         ensures* writes_back { sem 𝓛 (LendsRowAt T.row self.entry id result) }
         ensures row { row_of self.old.rows id ≡ Some result.now }
     {
-        let entry = &mut self.rows[place];
-        &mut entry.1
+        let key = self.places[place].1;
+        &mut self.rows[key]
     }
 
     /// Takes the row of this number out; `None` exactly where there is none. It takes no memory,
@@ -149,47 +157,12 @@ impl<T: Drop> Table<T> {
         ensures last { self.new.last ≡ self.old.last }
         ensures room { self.old.room ≤ self.new.room }
     {
-        match place_of(&self.rows, id) {
+        match place_of(&self.places, id) {
             None => None,
-            Some(place) => Some(self.rows.remove(place).1),
+            Some(place) => {
+                let key = self.places.remove(place).1;
+                Some(self.rows.remove(key))
+            }
         }
-    }
-
-    /// Keeps the rows, seen with their numbers, at which `keep` answers `true`. It takes no memory,
-    /// and leaves the room as it was or larger.
-    pub fn retain<F: FnMut(&(u64, T)) -> bool>(&mut self, keep: F)
-        requires { F.IsAlwaysCallable keep }
-        ensures rows { IsFiltered (CalledAt F.FnMut) keep self.old.rows self.new.rows }
-        ensures last { self.new.last ≡ self.old.last }
-        ensures room { self.old.room ≤ self.new.room }
-    {
-        self.rows.retain(keep);
-    }
-}
-
-// The place of the row of this number, among rows whose numbers rise.
-fn place_of<T>(rows: &[(u64, T)], id: u64) -> Option<usize>
-    requires rising { AllPairs (λ a b. a.0 < b.0) rows.now }
-    ensures { result ≡ position (λ entry. entry.0 == id) rows.now }
-{
-    rows.binary_search_by_key(&id, |entry| entry.0).ok()
-}
-
-// Where the rows of numbers up to this one end, among rows whose numbers rise.
-fn end_of<T>(rows: &[(u64, T)], after: u64) -> usize
-    requires rising { AllPairs (λ a b. a.0 < b.0) rows.now }
-    ensures bound { result ≤ length rows.now }
-    ensures point { IsPartitionPoint (λ e. e.0 ≤ after) (λ e. after < e.0) rows.now result }
-{
-    rows.partition_point(|row| row.0 <= after)
-}
-
-// The number of the row at this place.
-fn number_at<T>(rows: &[(u64, T)], place: usize) -> Option<u64>
-    ensures { result ≡ option_map (λ row. row.0) (slice_get rows.now place) }
-{
-    match rows.get(place) {
-        None => None,
-        Some(row) => Some(row.0),
     }
 }

@@ -16,9 +16,9 @@
 //!
 //! The calls group so: links (`LinksByFile`, `is_at_or_below`); files (`FileRow::set_basic`,
 //! `set_owner`, `set_dacl`, `set_point`); handles (`is_opened_by`, `find_next`,
-//! `count_on`, `is_one_of`, `is_clashing`, `some_clashes`, `is_open_by_others`) and their enumerations (`Enumeration`,
-//! `Cursor`); streams (`is_stream_named`, `is_stream_of`, and `StreamRow` with its bytes in the pages of
-//! `stream_pages`); the space that streams take (`clusters_of`, `clusters_of_file`) and what an owner may be
+//! `count_on`, `is_one_of`, `is_clashing`, `some_clashes`) and their enumerations (`Enumeration`,
+//! `Cursor`); streams (`is_stream_named`, and `StreamRow` with its bytes in the pages of
+//! `stream_pages`); the space that streams take (`clusters_of`) and what an owner may be
 //! charged (`find_limit`); oplocks (`effect`, `is_awaited`, `in_both`, `is_within`, `is_same_key`, `is_oplock_of`,
 //! `find_break`, `find_target`);
 //! pending calls (`find_pending`, `find_next_pending`, `is_call`); and changes noted (`Changes`), in the log
@@ -29,7 +29,7 @@
 //!
 //! - Nothing is asked of the rows: not that their numbers rise, nor that what they name is there. What
 //!   is found is the first row that passes.
-//! - Room for links, bytes and changes has to be reserved, and a sum of clusters has to fit 64 bits.
+//! - Room for links, bytes and changes has to be reserved.
 //! - A scan takes time linear in the rows; one for the next pending call takes that for each row. The links of a
 //!   file are found in time logarithmic in all links, and `is_at_or_below` and a note take that for each directory
 //!   above; handles below a directory take the way up for each handle.
@@ -50,15 +50,13 @@ pub use cursors::{Cursor, Enumeration};
 pub use effects::{
     BreakEffect, effect, has_read, has_write, in_both, is_awaited, is_same_key, is_within,
 };
-pub use growth::{clusters_of, clusters_of_file};
+pub use growth::clusters_of;
 pub use handles::is_opened_by;
 pub use links::LinksByFile;
 pub use noting::Changes;
-pub use opens::{
-    count_on, find_next, is_at_or_below, is_clashing, is_one_of, is_open_by_others, some_clashes,
-};
+pub use opens::{count_on, find_next, is_at_or_below, is_clashing, is_one_of, some_clashes};
 pub use rows::{FileRow, HandleRow, LinkRow, Need, StreamInfo, StreamRow};
-pub use streams::{is_stream_named, is_stream_of};
+pub use streams::is_stream_named;
 pub use waiting::{
     OplockRow, PendingRow, find_break, find_limit, find_next_pending, find_pending, find_target,
     is_call, is_oplock_of,

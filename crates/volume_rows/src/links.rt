@@ -92,20 +92,12 @@ impl LinksByFile {
         &self.links
     }
 
-    /// All links with their numbers, by rising number.
-    pub fn as_slice(&self) -> &[(u64, LinkRow)]
-        ensures rows { result.now ≡ self.now.rows }
-        ensures numbered { IsNumbered self.now.rows self.now.last }
-    {
-        self.links.as_slice()
-    }
-
     /// How many links there are.
     pub fn len(&self) -> usize
         ensures count { result ≡ length self.now.rows }
         ensures few { length self.now.rows + 1 < 2 ^ 64 }
     {
-        self.links.as_slice().len()
+        self.links.len()
     }
 
     /// The least number above `after` that a link has; `None` exactly where there is none.
@@ -133,7 +125,7 @@ impl LinksByFile {
     pub fn first_of(&self, file: u64) -> Option<&LinkRow>
         ensures { option_copied result ≡ option_map (λ entry. entry.1) (link_of_file self.now.rows file) }
     {
-        let _numbered = self.links.as_slice();
+        let _numbered = self.links.len();
         match self.number_of(file) {
             None => None,
             Some(id) => self.links.get(id),
@@ -152,7 +144,7 @@ impl LinksByFile {
         ensures count { result ≡ length (filter (λ entry. entry.1.file == file) self.now.rows) }
         ensures numbered { IsNumbered self.now.rows self.now.last }
     {
-        let _numbered = self.links.as_slice();
+        let _numbered = self.links.len();
         self.files.of(file).len()
     }
 
@@ -160,7 +152,7 @@ impl LinksByFile {
     pub fn count_unmarked_of(&self, file: u64) -> usize
         ensures { result ≡ length (filter (λ entry. entry.1.file == file && not entry.1.deleted) self.now.rows) }
     {
-        let _numbered = self.links.as_slice();
+        let _numbered = self.links.len();
         count_unmarked(&self.links, self.files.of(file))
     }
 
@@ -198,7 +190,7 @@ fn remove(links: &mut Table<LinkRow>, files: &mut KeyIndex, id: u64) -> Option<L
     ensures indexed { IsIndexOf file_key links.old.rows files.old.entries → IsIndexOf file_key links.new.rows files.new.entries }
     ensures kept { files.old.room ≤ files.new.room }
 {
-    let _numbered = links.as_slice();
+    let _numbered = links.len();
     match links.remove(id) {
         None => None,
         Some(row) => {

@@ -95,29 +95,6 @@ pub fn some_clashes(
         .any(|entry| is_clashing(links, on, access, share, &entry.1))
 }
 
-// Whether a handle is open on this stream.
-fn is_open_on(stream: u64, handle: &HandleRow) -> bool
-    ensures { result ≡ is_open_on stream handle.now }
-{
-    handle.stream == Some(stream)
-}
-
-// Whether a handle is open on this stream, and has another key than that handle.
-fn is_open_by_other(stream: u64, entry: &(u64, HandleRow), handle: u64, key: u64) -> bool
-    ensures { result ≡ (is_open_on stream entry.now.1 && not (is_same_key entry.now.0 entry.now.1.key (Some handle) key)) }
-{
-    is_open_on(stream, &entry.1) && !is_same_key(entry.0, entry.1.key, Some(handle), key)
-}
-
-/// Whether a handle of another key than this one is open on the stream.
-pub fn is_open_by_others(handles: &[(u64, HandleRow)], handle: u64, key: u64, stream: u64) -> bool
-    ensures { result ≡ list_any (λ entry. is_open_on stream entry.1 && not (is_same_key entry.0 entry.1.key (Some handle) key)) handles.now }
-{
-    handles
-        .iter()
-        .any(|entry| is_open_by_other(stream, entry, handle, key))
-}
-
 // Whether a handle is the client's, with a number above this one.
 fn is_after(client: u32, after: u32, handle: &HandleRow) -> bool
     ensures { result ≡ is_after client after handle.now }

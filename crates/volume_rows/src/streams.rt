@@ -12,10 +12,3 @@ pub fn is_stream_named(table: &UpcaseTable, file: u64, units: &[u16], stream: &S
 {
     stream.info.file == file && table.same_name(stream.info.name.units(), units)
 }
-
-/// Whether a stream is one of this file.
-pub fn is_stream_of(stream: &StreamRow, file: u64) -> bool
-    ensures { result ≡ (stream.now.stream.file == file) }
-{
-    stream.info.file == file
-}

@@ -12,7 +12,7 @@ use crate::volume::Volume;
 use fsa_types::NoMemory;
 use object_tables::Table;
 use std::alloc::Global;
-use volume_rows::{FileRow, StreamRow, clusters_of, clusters_of_file, find_limit};
+use volume_rows::{FileRow, StreamRow, clusters_of, find_limit};
 use volume_tables::{SpaceTally, StreamTable};
 
 impl Volume {
@@ -34,7 +34,7 @@ impl Volume {
     pub fn charge_of_file(&self, file: u64) -> u64
         ensures { result ≡ charge_of_file self.now.content file }
     {
-        4096 * clusters_of_file(self.streams.as_slice(), file)
+        4096 * self.streams.clusters_of_file(file)
     }
 
     /// How many bytes an owner may be charged; 2^64 - 1 where no limit of his is set.
@@ -94,7 +94,7 @@ pub(crate) fn part_of_file(
 {
     match files.get(file) {
         None => None,
-        Some(row) => Some((row.owner, clusters_of_file(streams.as_slice(), file))),
+        Some(row) => Some((row.owner, streams.clusters_of_file(file))),
     }
 }
 

@@ -28,7 +28,7 @@ use fsa_types::{BlockerList, Class, EndOf, HandleSet, Level};
 use object_tables::Series;
 use oplock_state::{Asked, OplockTable};
 use volume_breaks::{PendingCalls, Tree, end_switched, end_told, push_breaks, release_breaks};
-use volume_rows::{find_target, in_both, is_open_by_others};
+use volume_rows::{find_target, in_both};
 use volume_tables::HandleTable;
 
 // A handle that is open on a stream, and its key.
@@ -140,7 +140,7 @@ impl Volume {
             key,
             stream,
         } = opened;
-        let others = is_open_by_others(self.handles.as_slice(), handle, key, stream);
+        let others = self.handles.is_open_by_others(handle, key, stream);
         let locked = self.handles.locks_of(stream).len() != 0;
         Asked {
             handle,

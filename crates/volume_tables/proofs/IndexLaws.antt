@@ -1,12 +1,13 @@
 -- What is asked of all rows, where those that pass have one key, is asked of the rows of that key alone.
 use Rattle.std.proofs.Common.{◌≡◌, ℕ, true, false, Bool, List, Option, [], ◌∷◌, ◌∙◌, length, refl, ap, sym, inl, inr, Some, None}
-use Rattle.std.specs.Prelude.{filter, find, option_map, ◌==◌, ◌&&◌, ◌||◌}
+use Rattle.std.specs.Prelude.{filter, find, not, option_map, ◌==◌, ◌&&◌, ◌||◌}
 use Rattle.std.specs.List.{list_any}
 use Rattle.std.specs.Option.{option_map_or}
 use Rattle.std.proofs.lemmas.Bool.{cases_Bool, and_parts, false≢true}
+use Rattle.fsa_types.specs.Oplocks.{is_same_key}
 use Rattle.fsa_types.specs.Rows.{IsNumbered, with_row_changed}
 use Rattle.fsa_types.specs.Sharing.{clash}
-use Rattle.fsa_model.specs.Lookups.{is_one_of, is_opened_by, number_of}
+use Rattle.fsa_model.specs.Lookups.{is_one_of, is_open_on, is_opened_by, number_of}
 use Rattle.fsa_model.specs.Volume.{Handle, Link}
 use Rattle.fsa_types.specs.declared.oplock.HandleSet.TheVariants as set
 use Rattle.key_index.specs.Index.{entries_of}
@@ -52,6 +53,24 @@ module _ {R : Type 0} (key : R → ℕ) (k : ℕ) (p : R → Bool) (only : (row 
     pub count-by_key : length (filter (λ row. p row.1) rows) ≡ length (filter (row_passes rows (λ row. p row.1)) (entries_of entries k))
     count-by_key = ap length (sym (filter-also rows)) ∙ index-counted key rows last entries k (λ row. p row.1) numbered index
 
+-- the same of a test that looks at the number too
+module _ {R : Type 0} (key : R → ℕ) (k : ℕ) (test : ℕ × R → Bool) (only : (row : ℕ × R) → test row ≡ true → (key row.1 == k) ≡ true) where
+  also-entry : (row : ℕ × R) → (key row.1 == k && test row) ≡ test row
+  also-entry row = elim (cases_Bool (test row)) [
+    | inl passes ↦ (let here : (key row.1 == k) ≡ true = only row passes in rw (here, passes) refl)
+    | inr fails ↦ elim (cases_Bool (key row.1 == k)) [
+      | inl here ↦ rw here refl
+      | inr other ↦ rw (other, fails) refl
+    ]
+  ]
+
+  any-entry : (rows : List (ℕ × R)) → list_any (λ row. key row.1 == k && test row) rows ≡ list_any test rows
+  any-entry [] = refl
+  any-entry (x ∷ rows) = rw (also-entry x) (ap (λ rest. test x || rest) (any-entry rows))
+
+  pub any-by_entry : (rows : List (ℕ × R)) (last : ℕ) (entries : List (ℕ × ℕ)) → IsNumbered rows last → IsIndexOf key rows entries → list_any test rows ≡ list_any (row_passes rows test) (entries_of entries k)
+  any-by_entry rows last entries numbered index = sym (any-entry rows) ∙ index-any key rows last entries k test numbered index
+
 -- ---- keys of handles
 
 pub call-only : (client number : ℕ) (row : Handle) → is_opened_by client number row ≡ true → (call_key row == number) ≡ true
@@ -63,6 +82,9 @@ stream-at stream (Some s) is = is
 
 pub stream-only : (links : List (ℕ × Link)) (stream : ℕ) (row : Handle) → is_one_of links (set.Stream stream) row ≡ true → (stream_key row == stream) ≡ true
 stream-only links stream row is = stream-at stream row.stream is
+
+pub other-only : (stream handle key : ℕ) (entry : ℕ × Handle) → (is_open_on stream entry.1 && not (is_same_key entry.0 entry.1.key (Some handle) key)) ≡ true → (stream_key entry.1 == stream) ≡ true
+other-only stream handle key entry is = stream-at stream entry.1.stream (and_parts (is_open_on stream entry.1) (not (is_same_key entry.0 entry.1.key (Some handle) key)) is).0
 
 pub link-only : (links : List (ℕ × Link)) (link : ℕ) (row : Handle) → is_one_of links (set.Link link) row ≡ true → (link_key row == link) ≡ true
 link-only links link row is = is

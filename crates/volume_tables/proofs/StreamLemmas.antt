@@ -1,15 +1,20 @@
 -- What a change of one stream, beside its room, is to the streams; and their numbers as the rows have them.
-use Rattle.std.proofs.Common.{◌≡◌, ℕ, true, false, ◌<◌, ◌≤◌, ◌==◌, List, [], ◌∷◌, refl, ap, sym, ◌∙◌, inl, inr, Some, None}
-use Rattle.std.specs.Prelude.{map, option_map}
+use Rattle.std.proofs.Common.{◌≡◌, ℕ, suc, true, false, Bool, not, ◌+◌, ◌<◌, ◌≤◌, ◌==◌, List, Option, [], ◌∷◌, refl, ap, sym, ◌∙◌, arith, inl, inr, Some, None, eq-eqb}
+use Rattle.std.specs.Prelude.{filter, fold, map, option_map, sum_by}
+use Rattle.std.specs.List.{All, cons_option}
 use Rattle.std.specs.Option.{option_map_or}
-use Rattle.std.proofs.lemmas.Bool.{and_parts, cases_Bool, eqb-true}
-use Rattle.std.proofs.lemmas.List.Elements.{All-map}
+use Rattle.std.proofs.lemmas.Bool.{and_parts, cases_Bool, eqb-true, ne_eqb}
+use Rattle.std.proofs.lemmas.List.Elements.{All-filter, All-map}
+use Rattle.std.proofs.lemmas.List.Sums.{sum_by-cons}
 use Rattle.fsa_types.specs.CaseTable.{same_name}
-use Rattle.fsa_types.specs.Rows.{row_of, with_row_changed, IsNumbered}
-use Rattle.fsa_types.proofs.RowLemmas.{map-change, map-unseen, row_of-map, with_row_changed-none}
+use Rattle.fsa_types.specs.Rows.{row_of, with_row_changed, without_row, IsNumbered}
+use Rattle.fsa_types.proofs.RowLemmas.{AreRising, AreRising-first, AreRising-rest, map-change, map-unseen, row_of-map, with_row_changed-none, without_row-above}
 use Rattle.fsa_model.specs.Lookups.{is_stream_named}
 use Rattle.fsa_model.specs.Volume.{Stream}
 use Rattle.fsa_model.proofs.RowLaws.{AllPairs-map}
+use Rattle.key_index.specs.Index.{entries_of}
+use Rattle.key_index.specs.RowsByKey.{IsIndexOf, pairs, rows_at, rows_with}
+use Rattle.key_index.proofs.RowLaws.{index-rows}
 use Rattle.volume_rows.specs.Streams.{StreamRowView, streams_in}
 use Rattle.volume_tables.specs.StreamTable.{file_key}
 
@@ -71,3 +76,63 @@ IsNumbered-seen {R} {S} view rows last numbered =
 -- a stream of a name of a file is one of the file
 pub named-only : (table : List (ℕ × ℕ)) (file : ℕ) (units : List ℕ) (row : Stream) → is_stream_named table file units row ≡ true → (file_key row == file) ≡ true
 named-only table file units row is = (and_parts (row.file == file) (same_name table row.name units) is).0
+
+-- ---- the streams of a file, by their index
+
+-- a sum over the rows of some numbers, each looked up
+sum-found : (f : Stream → ℕ) (id : ℕ) (found : Option Stream) (rest : List (ℕ × Stream))
+    → option_map_or f found 0 + sum_by (λ (row : ℕ × Stream). f row.1) rest ≡ sum_by (λ (row : ℕ × Stream). f row.1) (cons_option (option_map (λ (row : Stream). (id, row)) found) rest)
+sum-found f id None rest = omega arith
+sum-found f id (Some row) rest = sym (sum_by-cons (λ (row : ℕ × Stream). f row.1) (id, row) rest)
+
+sum-rows : (f : Stream → ℕ) (rows : List (ℕ × Stream)) (entries : List (ℕ × ℕ)) → sum_by (λ (entry : ℕ × ℕ). option_map_or f (row_of rows entry.1) 0) entries ≡ sum_by (λ (row : ℕ × Stream). f row.1) (rows_at rows entries)
+sum-rows f rows [] = refl
+sum-rows f rows (e ∷ entries) =
+    sum_by-cons (λ (entry : ℕ × ℕ). option_map_or f (row_of rows entry.1) 0) e entries
+    ∙ ap (λ n. option_map_or f (row_of rows e.1) 0 + n) (sum-rows f rows entries)
+    ∙ sum-found f e.1 (row_of rows e.1) (rows_at rows entries)
+
+-- one over the streams of a file
+pub sum-by_file : (f : Stream → ℕ) (rows : List (ℕ × Stream)) (last : ℕ) (entries : List (ℕ × ℕ)) (file : ℕ) → IsNumbered rows last → IsIndexOf file_key rows entries
+    → sum_by (λ (entry : ℕ × ℕ). option_map_or f (row_of rows entry.1) 0) (entries_of entries file) ≡ sum_by (λ (row : ℕ × Stream). f row.1) (filter (λ row. row.1.file == file) rows)
+sum-by_file f rows last entries file numbered index =
+    sum-rows f rows (entries_of entries file) ∙ ap (sum_by (λ (row : ℕ × Stream). f row.1)) (index-rows file_key rows last entries file numbered index)
+
+pub sum-filter_le : {X : Type 0} (f : X → ℕ) (p : X → Bool) (xs : List X) → sum_by f (filter p xs) ≤ sum_by f xs
+sum-filter_le f p [] = omega arith
+sum-filter_le f p (x ∷ xs) =
+    let whole = sum_by-cons f x xs in
+    let part = sum_by-cons f x (filter p xs) in
+    let rest = sum-filter_le f p xs in
+    elim (cases_Bool (p x)) [
+      | inl kept ↦ rw kept (omega arith)
+      | inr gone ↦ rw gone (omega arith)
+    ]
+
+-- rows of greater numbers go, and the first stays
+goes-behind : {R : Type 0} (x : ℕ × R) (rows : List (ℕ × R)) (entries : List (ℕ × ℕ)) → All (λ entry. x.0 < entry.1) entries
+    → fold (λ (some : List (ℕ × R)) (entry : ℕ × ℕ). without_row some entry.1) (x ∷ rows) entries ≡ x ∷ fold (λ (some : List (ℕ × R)) (entry : ℕ × ℕ). without_row some entry.1) rows entries
+goes-behind x rows [] above = refl
+goes-behind x rows (e ∷ entries) above =
+    let more : x.0 < e.1 = above 0 e (omega arith) in
+    let other : (x.0 == e.1) ≡ false = ne_eqb x.0 e.1 (λ same. absurd (omega arith)) in
+    rw other (goes-behind x (without_row rows e.1) entries (λ k d within. above (suc k) d (omega arith)))
+
+-- the rows of a key go one after the other
+pub key-goes : {R S : Type 0} (view : R → S) (key : S → ℕ) (k : ℕ) (rows : List (ℕ × R)) → AreRising rows
+    → fold (λ (some : List (ℕ × R)) (entry : ℕ × ℕ). without_row some entry.1) rows (pairs key (rows_with key (map (λ e. (e.0, view e.1)) rows) k)) ≡ filter (λ e. not (key (view e.1) == k)) rows
+key-goes view key k [] rising = refl
+key-goes {R} {S} view key k (x ∷ rows) rising =
+    let rest = key-goes view key k rows (AreRising-rest x rows rising) in
+    let above : All (λ (y : ℕ × R). x.0 < y.0) rows = AreRising-first x rows rising in
+    elim (cases_Bool (key (view x.1) == k)) [
+      | inl here ↦ (let itself : (x.0 == x.0) ≡ true = eq-eqb x.0 x.0 refl in
+          let gone : without_row (x ∷ rows) x.0 ≡ rows = rw itself (without_row-above rows x.0 above) in
+          let seen : List (ℕ × S) = map (λ (e : ℕ × R). (e.0, view e.1)) rows in
+          rw here (ap (λ (some : List (ℕ × R)). fold (λ (some : List (ℕ × R)) (entry : ℕ × ℕ). without_row some entry.1) some (pairs key (rows_with key seen k))) gone ∙ rest))
+      | inr other ↦ (let seen : List (ℕ × S) = map (λ (e : ℕ × R). (e.0, view e.1)) rows in
+          let later : All (λ (entry : ℕ × ℕ). x.0 < entry.1) (pairs key (rows_with key seen k)) =
+          All-map (λ (entry : ℕ × ℕ). x.0 < entry.1) (λ (row : ℕ × S). (key row.1, row.0)) (rows_with key seen k)
+          (All-filter (λ (row : ℕ × S). key row.1 == k) (λ (row : ℕ × S). x.0 < row.0) seen (All-map (λ (row : ℕ × S). x.0 < row.0) (λ (e : ℕ × R). (e.0, view e.1)) rows above)) in
+          rw other (goes-behind x rows (pairs key (rows_with key seen k)) later ∙ ap (λ (some : List (ℕ × R)). x ∷ some) rest))
+    ]

@@ -1,19 +1,20 @@
 //! What is asked of the handles that an index names.
 
-ghost use Rattle.std.specs.Prelude.{◌≡◌, ◌&&◌, false, filter, find, length, option_map};
+ghost use Rattle.std.specs.Prelude.{◌≡◌, ◌&&◌, Some, false, filter, find, length, not, option_map};
 ghost use Rattle.std.specs.List.{list_any};
 ghost use Rattle.std.specs.Option.{option_map_or};
+ghost use Rattle.fsa_types.specs.Oplocks.{is_same_key};
 ghost use Rattle.fsa_types.specs.Rows.{row_of};
 ghost use Rattle.fsa_types.specs.Sharing.{clash};
-ghost use Rattle.fsa_model.specs.Lookups.{is_one_of, is_opened_by};
+ghost use Rattle.fsa_model.specs.Lookups.{is_one_of, is_open_on, is_opened_by};
 ghost use Rattle.key_index.specs.RowsByKey.{row_passes};
 
 use fsa_types::HandleSet;
-use object_tables::Table;
-use volume_rows::{HandleRow, LinksByFile, is_clashing, is_one_of, is_opened_by};
+use object_tables::RowList;
+use volume_rows::{HandleRow, LinksByFile, is_clashing, is_one_of, is_opened_by, is_same_key};
 
 // Whether the handle of this number is there, and this call of this client opened it.
-fn opened_at(table: &Table<HandleRow>, id: u64, client: u32, number: u32) -> bool
+fn opened_at(table: &RowList<HandleRow>, id: u64, client: u32, number: u32) -> bool
     ensures { result ≡ option_map_or (λ row. is_opened_by client number row) (row_of table.now.rows id) false }
 {
     match table.get(id) {
@@ -24,7 +25,7 @@ fn opened_at(table: &Table<HandleRow>, id: u64, client: u32, number: u32) -> boo
 
 /// The first of these handles that this call of this client opened.
 pub fn find_opened(
-    table: &Table<HandleRow>,
+    table: &RowList<HandleRow>,
     entries: &[(u64, u64)],
     client: u32,
     number: u32,
@@ -38,7 +39,7 @@ pub fn find_opened(
 }
 
 // Whether the handle of this number is there, and of the set.
-fn is_one_at(table: &Table<HandleRow>, id: u64, links: &LinksByFile, on: HandleSet) -> bool
+fn is_one_at(table: &RowList<HandleRow>, id: u64, links: &LinksByFile, on: HandleSet) -> bool
     ensures { result ≡ option_map_or (λ row. is_one_of links.now.rows on row) (row_of table.now.rows id) false }
 {
     match table.get(id) {
@@ -49,7 +50,7 @@ fn is_one_at(table: &Table<HandleRow>, id: u64, links: &LinksByFile, on: HandleS
 
 /// How many of these handles are of the set.
 pub fn count_among(
-    table: &Table<HandleRow>,
+    table: &RowList<HandleRow>,
     entries: &[(u64, u64)],
     links: &LinksByFile,
     on: HandleSet,
@@ -64,7 +65,7 @@ pub fn count_among(
 
 // Whether the handle of this number is there, of the set, and clashes.
 fn clashes_at(
-    table: &Table<HandleRow>,
+    table: &RowList<HandleRow>,
     id: u64,
     links: &LinksByFile,
     on: HandleSet,
@@ -81,7 +82,7 @@ fn clashes_at(
 
 /// Whether some of these handles is of the set and clashes.
 pub fn some_clash_among(
-    table: &Table<HandleRow>,
+    table: &RowList<HandleRow>,
     entries: &[(u64, u64)],
     links: &LinksByFile,
     on: HandleSet,
@@ -91,4 +92,29 @@ pub fn some_clash_among(
     ensures { result ≡ list_any (row_passes table.now.rows (λ entry. is_one_of links.now.rows on entry.1 && clash access share entry.1.access entry.1.share)) entries.now }
 {
     entries.iter().any(|entry| clashes_at(table, entry.1, links, on, access, share))
+}
+
+// Whether the handle of this number is there, open on the stream, and has another key than that handle.
+fn is_other_at(table: &RowList<HandleRow>, id: u64, handle: u64, key: u64, stream: u64) -> bool
+    ensures { result ≡ option_map_or (λ row. is_open_on stream row && not (is_same_key id row.key (Some handle) key)) (row_of table.now.rows id) false }
+{
+    match table.get(id) {
+        None => false,
+        Some(row) => { row.stream == Some(stream) && !is_same_key(id, row.key, Some(handle), key) }
+    }
+}
+
+/// Whether some of these handles is open on the stream, and has another key than that handle.
+pub fn some_other_among(
+    table: &RowList<HandleRow>,
+    entries: &[(u64, u64)],
+    handle: u64,
+    key: u64,
+    stream: u64,
+) -> bool
+    ensures { result ≡ list_any (row_passes table.now.rows (λ entry. is_open_on stream entry.1 && not (is_same_key entry.0 entry.1.key (Some handle) key))) entries.now }
+{
+    entries
+        .iter()
+        .any(|entry| is_other_at(table, entry.1, handle, key, stream))
 }

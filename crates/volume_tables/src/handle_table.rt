@@ -1,10 +1,12 @@
 //! The handles of a volume with the byte-range locks that they hold.
 
 ghost use Rattle.std.specs.Prelude.{ℕ, ◌≡◌, ◌≤◌, ◌<◌, ◌+◌, ◌^◌, ◌++◌, ◌∷◌, [], ◌==◌, ◌&&◌, not, false, Some, IsSome, IfSome, IfNone, OnOk, filter, length};
+ghost use Rattle.std.specs.List.{list_any};
 ghost use Rattle.std.specs.Option.{option_copied, option_map_or, ForSome};
+ghost use Rattle.fsa_types.specs.Oplocks.{is_same_key};
 ghost use Rattle.fsa_types.specs.Rows.{row_of, with_row_changed, without_row, IsNumbered};
 ghost use Rattle.fsa_model.specs.Edits.{is_lock_on};
-ghost use Rattle.fsa_model.specs.Lookups.{has_row, is_one_of, is_opened_by, number_of};
+ghost use Rattle.fsa_model.specs.Lookups.{has_row, is_one_of, is_open_on, is_opened_by, number_of};
 ghost use Rattle.fsa_types.specs.Sharing.{clash};
 ghost use Rattle.fsa_types.specs.Ranges.{without_first};
 ghost use Rattle.object_tables.specs.Next.{IsNext};
@@ -14,13 +16,13 @@ ghost use Rattle.volume_tables.specs.HandleTable.{stream_of_handle, ranges_on};
 ghost use Rattle.volume_tables.specs.Ranges.{ranges_in, room_at, AreSetIn};
 ghost use Rattle.volume_tables.specs.Rooms.{room_in};
 
-use crate::among::{count_among, find_opened, some_clash_among};
+use crate::among::{count_among, find_opened, some_clash_among, some_other_among};
 use crate::handle_index::HandleIndex;
 use crate::lock_row::LockRow;
 use crate::ranges::StreamRanges;
 use crate::room_list::RoomList;
 use fsa_types::{HandleSet, NoMemory};
-use object_tables::Table;
+use object_tables::RowList;
 use range_locks::{Range, RangeTable};
 use std::alloc::Global;
 use std::marker::Model;
@@ -31,10 +33,10 @@ use volume_rows::{Enumeration, HandleRow, LinksByFile, count_on, some_clashes};
 /// the stream of its handle.
 #[derive(Debug, Drop)]
 pub struct HandleTable {
-    table: Table<HandleRow>,
+    table: RowList<HandleRow>,
     // The handles by the calls that opened them, by streams and by links; what was promised is its room.
     index: HandleIndex,
-    locks: Table<LockRow>,
+    locks: RowList<LockRow>,
     // The locks once more, stream by stream.
     ranges: StreamRanges,
     // What was promised to each stream.
@@ -63,9 +65,9 @@ impl HandleTable {
         ensures rooms { result.rooms ≡ [] }
     {
         HandleTable {
-            table: Table::new(alloc),
+            table: RowList::new(alloc),
             index: HandleIndex::new(alloc),
-            locks: Table::new(alloc),
+            locks: RowList::new(alloc),
             ranges: StreamRanges::new(alloc),
             rooms: RoomList::new(alloc),
         }
@@ -147,7 +149,7 @@ impl HandleTable {
     pub fn opened_by(&self, client: u32, number: u32) -> Option<u64>
         ensures { result ≡ number_of (is_opened_by client number) self.now.rows }
     {
-        let _numbered = self.table.as_slice();
+        let _numbered = self.table.len();
         find_opened(&self.table, self.index.of_call(number), client, number)
     }
 
@@ -185,6 +187,21 @@ impl HandleTable {
         }
     }
 
+    /// Whether a handle of another key than this one is open on the stream. It looks at the handles on the stream
+    /// alone.
+    pub fn is_open_by_others(&self, handle: u64, key: u64, stream: u64) -> bool
+        ensures { result ≡ list_any (λ entry. is_open_on stream entry.1 && not (is_same_key entry.0 entry.1.key (Some handle) key)) self.now.rows }
+    {
+        let _numbered = self.table.len();
+        some_other_among(
+            &self.table,
+            self.index.on_stream(stream),
+            handle,
+            key,
+            stream,
+        )
+    }
+
     /// Sets the enumeration of a handle; where there is no such handle nothing changes. It takes no memory.
     pub fn set_enumeration(&mut self, id: u64, enumeration: Enumeration)
         ensures { self.new ≡ record self.old { rows = with_row_changed (λ row. record row { enumeration = Some enumeration }) self.old.rows id } }
@@ -210,7 +227,7 @@ impl HandleTable {
         ensures ranges { result.now.ranges ≡ ranges_on self.now.rows self.now.locks stream }
         ensures numbered { IsNumbered self.now.locks self.now.last_lock }
     {
-        let _numbered = self.locks.as_slice();
+        let _numbered = self.locks.len();
         self.ranges.of(stream)
     }
 
@@ -276,7 +293,7 @@ impl HandleTable {
 }
 
 // The stream of a handle, where it has one.
-fn stream_of(table: &Table<HandleRow>, handle: u64) -> Option<u64>
+fn stream_of(table: &RowList<HandleRow>, handle: u64) -> Option<u64>
     ensures { result ≡ stream_of_handle table.now.rows handle }
 {
     let row = table.get(handle)?;
@@ -284,21 +301,21 @@ fn stream_of(table: &Table<HandleRow>, handle: u64) -> Option<u64>
 }
 
 // Takes a handle out of the table and of the index.
-fn remove_row(table: &mut Table<HandleRow>, index: &mut HandleIndex, id: u64)
+fn remove_row(table: &mut RowList<HandleRow>, index: &mut HandleIndex, id: u64)
     ensures rows { table.new.rows ≡ without_row table.old.rows id }
     ensures last { table.new.last ≡ table.old.last }
     ensures room { table.old.room ≤ table.new.room }
     ensures indexed { AreIndexed table.old.rows index.old → AreIndexed table.new.rows index.new }
     ensures promised { index.new.room ≡ index.old.room }
 {
-    let _numbered = table.as_slice();
+    let _numbered = table.len();
     if let Some(row) = table.remove(id) {
         index.remove(id, &row);
     }
 }
 
 // Sets the enumeration of a handle.
-fn set_enumeration(table: &mut Table<HandleRow>, handle: u64, enumeration: Enumeration)
+fn set_enumeration(table: &mut RowList<HandleRow>, handle: u64, enumeration: Enumeration)
     ensures rows { table.new.rows ≡ with_row_changed (λ row. record row { enumeration = Some enumeration }) table.old.rows handle }
     ensures last { table.new.last ≡ table.old.last }
     ensures room { table.new.room ≡ table.old.room }
@@ -331,7 +348,7 @@ fn remove_range(ranges: &mut StreamRanges, stream: Option<u64>, handle: u64, at:
 }
 
 // Takes all locks of a handle out.
-fn remove_locks_of(locks: &mut Table<LockRow>, handle: u64)
+fn remove_locks_of(locks: &mut RowList<LockRow>, handle: u64)
     ensures rows { locks.new.rows ≡ filter (λ entry. not (entry.1.handle == handle)) locks.old.rows }
     ensures last { locks.new.last ≡ locks.old.last }
     ensures room { locks.old.room ≤ locks.new.room }

@@ -132,14 +132,6 @@ impl LinkTable {
         !self.children_after(dir, None).is_empty()
     }
 
-    /// All links with their numbers, by rising number.
-    pub fn as_slice(&self) -> &[(u64, LinkRow)]
-        ensures rows { result.now ≡ self.now.rows }
-        ensures numbered { IsNumbered self.now.rows self.now.last }
-    {
-        self.links.as_slice()
-    }
-
     /// The least number above `after` that a link has; `None` exactly where there is none.
     pub fn next(&self, after: u64) -> Option<u64>
         ensures { IsNext self.now.rows after result }

@@ -100,7 +100,7 @@ impl NameIndex {
         ensures numbers { (file : ℕ) (deleted : Bool) → IsByName table.now (links.now.rows ++ (id, record { parent = parent; name = units.now; file = file; deleted = deleted }) ∷ []) self.new.numbers }
         ensures left { self.old.room ≤ self.new.room + 1 }
     {
-        let _ = links.as_slice();
+        let _ = links.len();
         self.put(links, table, id, parent, units);
     }
 
@@ -119,7 +119,7 @@ impl NameIndex {
         ensures numbers { IsByName table.now (with_row_changed (λ row. record row { parent = parent; name = units.now }) links.now.rows id) self.new.numbers }
         ensures kept { self.old.room ≤ self.new.room }
     {
-        let _ = links.as_slice();
+        let _ = links.len();
         self.take(links, table, id);
         self.put(links, table, id, parent, units);
     }
@@ -173,7 +173,7 @@ fn find_child(
     requires { IsByName table.now links.now.rows numbers.now }
     ensures { result ≡ option_map (λ entry. entry.0) (find (λ entry. is_named table.now parent units.now entry.1) links.now.rows) }
 {
-    let _ = links.as_slice();
+    let _ = links.len();
     match place_of(numbers, links, table, parent, units) {
         Ok(place) => number_of(numbers, place),
         Err(_) => None,
@@ -201,7 +201,7 @@ fn find_children_after<'a>(
     requires { IsByName table.now links.now.rows numbers.now }
     ensures { result.now ≡ map (λ entry. entry.0) (links_after table.now dir (option_copied after.entry) links.now.rows) }
 {
-    let _ = links.as_slice();
+    let _ = links.len();
     let end = end_of(numbers, links, dir);
     let begin = begin_of(numbers, links, table, dir, after).min(end);
     &numbers[begin..end]
@@ -220,7 +220,7 @@ fn place_of_link(
     ensures bound { result < length numbers.now }
     ensures without { remove numbers.now result ≡ map (λ entry. entry.0) (in_order (is_key_before (link_key table.now)) (without_row links.now.rows id)) }
 {
-    let _ = links.as_slice();
+    let _ = links.len();
     match place_of(numbers, links, table, row.parent, row.name.units()) {
         Ok(place) => place,
         Err(_) => unreachable!(),

@@ -1,9 +1,10 @@
 //! The streams of a volume, by number and by file.
 
-ghost use Rattle.std.specs.Prelude.{ℕ, ◌≡◌, ◌≤◌, ◌<◌, ◌+◌, ◌^◌, ◌++◌, ◌∷◌, [], ◌==◌, not, false, IsTrue, IfSome, OnOk, filter, find, length, option_map};
+ghost use Rattle.std.specs.Prelude.{ℕ, ◌≡◌, ◌≤◌, ◌<◌, ◌+◌, ◌^◌, ◌++◌, ◌∷◌, [], ◌==◌, not, false, IsTrue, IfSome, OnOk, filter, find, fold, length, option_map, sum_by};
 ghost use Rattle.std.specs.Option.{option_copied, option_map_or};
 ghost use Rattle.fsa_types.specs.Rows.{row_of, lives, with_row_changed, without_row, IsNumbered};
 ghost use Rattle.fsa_types.specs.StreamBytes.{put, cut};
+ghost use Rattle.fsa_model.specs.Charge.{clusters_for};
 ghost use Rattle.fsa_model.specs.Lookups.{is_stream_named, number_of};
 ghost use Rattle.key_index.specs.RowsByKey.{IsIndexOf, row_passes};
 ghost use Rattle.object_tables.specs.Next.{IsNext};
@@ -12,16 +13,16 @@ ghost use Rattle.volume_tables.specs.StreamTable.{file_key};
 
 use fsa_types::{NoMemory, UpcaseTable};
 use key_index::KeyIndex;
-use object_tables::Table;
+use object_tables::RowList;
 use std::alloc::Global;
 use std::marker::Model;
-use volume_rows::{StreamRow, is_stream_named, is_stream_of};
+use volume_rows::{StreamRow, clusters_of, is_stream_named};
 
 /// Streams under numbers that rise from 1, with room for more of them. A stream is found by its name among those
 /// of its file alone.
 #[derive(Debug, Drop)]
 pub struct StreamTable {
-    table: Table<StreamRow>,
+    table: RowList<StreamRow>,
     // The numbers of all streams, under their files.
     files: KeyIndex,
     // How many more streams were promised.
@@ -48,7 +49,7 @@ impl StreamTable {
         ensures last { result.last ≡ 0 }
     {
         StreamTable {
-            table: Table::new(alloc),
+            table: RowList::new(alloc),
             files: KeyIndex::new(alloc),
             room: 0,
         }
@@ -96,8 +97,17 @@ impl StreamTable {
     pub fn named(&self, upcase: &UpcaseTable, file: u64, units: &[u16]) -> Option<u64>
         ensures { result ≡ number_of (is_stream_named upcase.now file units.now) (streams_in self.now.rows) }
     {
-        let _numbered = self.table.as_slice();
+        let _numbered = self.table.len();
         find_named(&self.table, self.files.of(file), upcase, file, units)
+    }
+
+    /// The clusters of all streams of a file. It looks at these alone. Those of all streams have to fit 64 bits.
+    pub fn clusters_of_file(&self, file: u64) -> u64
+        requires fits { sum_by (λ entry. clusters_for (length entry.1.bytes)) (streams_in self.now.rows) < 2 ^ 64 }
+        ensures { result ≡ sum_by (λ entry. clusters_for (length entry.1.bytes)) (filter (λ entry. entry.1.file == file) (streams_in self.now.rows)) }
+    {
+        let _numbered = self.table.len();
+        clusters_among(&self.table, self.files.of(file))
     }
 
     /// Adds a stream and gives its number, one more than the last one given. Room has to be reserved, and fewer
@@ -183,14 +193,14 @@ impl StreamTable {
         ensures last { self.new.last ≡ self.old.last }
         ensures room { self.new.room ≡ self.old.room }
     {
-        remove_all_of(&mut self.table, file);
+        take_all(&mut self.table, self.files.of(file));
         self.files.remove_all(file);
     }
 }
 
 // Whether the stream of this number is there, and has this name in this file.
 fn is_named_at(
-    table: &Table<StreamRow>,
+    table: &RowList<StreamRow>,
     id: u64,
     upcase: &UpcaseTable,
     file: u64,
@@ -206,7 +216,7 @@ fn is_named_at(
 
 // The first of these streams that has this name in this file.
 fn find_named(
-    table: &Table<StreamRow>,
+    table: &RowList<StreamRow>,
     entries: &[(u64, u64)],
     upcase: &UpcaseTable,
     file: u64,
@@ -220,8 +230,29 @@ fn find_named(
         .map(|entry| entry.1)
 }
 
+// The clusters of the stream of this number; 0 where there is none.
+fn clusters_at(table: &RowList<StreamRow>, id: u64) -> u64
+    ensures { result ≡ option_map_or (λ row. clusters_for (length row.bytes)) (row_of (streams_in table.now.rows) id) 0 }
+{
+    match table.get(id) {
+        None => 0,
+        Some(row) => clusters_of(row),
+    }
+}
+
+// The clusters of these streams.
+fn clusters_among(table: &RowList<StreamRow>, entries: &[(u64, u64)]) -> u64
+    requires { sum_by (λ entry. option_map_or (λ row. clusters_for (length row.bytes)) (row_of (streams_in table.now.rows) entry.1) 0) entries.now < 2 ^ 64 }
+    ensures { result ≡ sum_by (λ entry. option_map_or (λ row. clusters_for (length row.bytes)) (row_of (streams_in table.now.rows) entry.1) 0) entries.now }
+{
+    entries
+        .iter()
+        .map(|entry| clusters_at(table, entry.1))
+        .sum()
+}
+
 // Marks a stream for deletion, or clears its mark.
-fn mark(streams: &mut Table<StreamRow>, stream: u64, deleted: bool)
+fn mark(streams: &mut RowList<StreamRow>, stream: u64, deleted: bool)
     ensures rows { streams.new.rows ≡ with_row_changed (λ row. record row { stream = record row.stream { deleted = deleted } }) streams.old.rows stream }
     ensures last { streams.new.last ≡ streams.old.last }
     ensures room { streams.new.room ≡ streams.old.room }
@@ -233,7 +264,7 @@ fn mark(streams: &mut Table<StreamRow>, stream: u64, deleted: bool)
 
 // Takes room for `count` bytes of a stream from `at` on.
 fn reserve_in(
-    streams: &mut Table<StreamRow>,
+    streams: &mut RowList<StreamRow>,
     stream: u64,
     at: u64,
     count: u64,
@@ -253,7 +284,7 @@ fn reserve_in(
 }
 
 // Puts the piece into a stream.
-fn put_in(streams: &mut Table<StreamRow>, stream: u64, at: u64, piece: &[u8])
+fn put_in(streams: &mut RowList<StreamRow>, stream: u64, at: u64, piece: &[u8])
     requires room { IfSome (row_of streams.old.rows stream) (λ row. (row.room.from ≤ at) × (at + length piece.now ≤ row.room.to)) }
     requires fits { at + length piece.now ≤ 2 ^ 26 }
     ensures rows { ChangesStream streams.old.rows streams.new.rows stream (λ row. record row { bytes = put row.bytes at piece.now }) }
@@ -267,7 +298,7 @@ fn put_in(streams: &mut Table<StreamRow>, stream: u64, at: u64, piece: &[u8])
 }
 
 // Makes a stream so many bytes long.
-fn set_length_in(streams: &mut Table<StreamRow>, stream: u64, bytes: u64)
+fn set_length_in(streams: &mut RowList<StreamRow>, stream: u64, bytes: u64)
     requires { bytes ≤ 2 ^ 26 }
     ensures rows { ChangesStream streams.old.rows streams.new.rows stream (λ row. record row { bytes = cut row.bytes bytes }) }
     ensures others { (other : ℕ) → (other == stream) ≡ false → row_of streams.new.rows other ≡ row_of streams.old.rows other }
@@ -280,14 +311,14 @@ fn set_length_in(streams: &mut Table<StreamRow>, stream: u64, bytes: u64)
 }
 
 // Takes a stream out, and its number.
-fn remove(table: &mut Table<StreamRow>, files: &mut KeyIndex, id: u64)
+fn remove(table: &mut RowList<StreamRow>, files: &mut KeyIndex, id: u64)
     ensures rows { table.new.rows ≡ without_row table.old.rows id }
     ensures last { table.new.last ≡ table.old.last }
     ensures room { table.old.room ≤ table.new.room }
     ensures indexed { IsIndexOf file_key (streams_in table.old.rows) files.old.entries → IsIndexOf file_key (streams_in table.new.rows) files.new.entries }
     ensures kept { files.old.room ≤ files.new.room }
 {
-    let _numbered = table.as_slice();
+    let _numbered = table.len();
     match table.remove(id) {
         None => {}
         Some(row) => {
@@ -296,11 +327,15 @@ fn remove(table: &mut Table<StreamRow>, files: &mut KeyIndex, id: u64)
     }
 }
 
-// Takes all streams of a file out.
-fn remove_all_of(streams: &mut Table<StreamRow>, file: u64)
-    ensures rows { streams.new.rows ≡ filter (λ entry. not (entry.1.stream.file == file)) streams.old.rows }
+// Takes these streams out.
+fn take_all(streams: &mut RowList<StreamRow>, entries: &[(u64, u64)])
+    ensures rows { streams.new.rows ≡ fold (λ rows entry. without_row rows entry.1) streams.old.rows entries.now }
+    ensures numbered { IsNumbered streams.old.rows streams.old.last }
     ensures last { streams.new.last ≡ streams.old.last }
     ensures room { streams.old.room ≤ streams.new.room }
 {
-    streams.retain(|entry| !is_stream_of(&entry.1, file));
+    let _numbered = streams.len();
+    for entry in entries {
+        let _ = streams.remove(entry.1);
+    }
 }

@@ -14,4 +14,4 @@ pub returns-in-Some-clause-indexed : goal.returns-in-Some-clause-indexed
 returns-in-Some-clause-indexed c is =
     let row : Link = record { parent = c.row.inside.parent; name = c.row.inside.name; file = c.row.inside.file; deleted = c.row.inside.deleted } in
     let found : row_of c.args.links.now.rows c.args.id ≡ Some row = sym (rw (← c.row.view_is) at c.in-Some.ensures.row) in
-    rw (c.in-Some.ensures.rows, c.remove-in-Some.ensures.entries) (index-removed file_key c.args.links.now.rows c.args.links.now.last c.args.files.now.entries c.args.id row c.as_slice-numbered.ensures.numbered is found)
+    rw (c.in-Some.ensures.rows, c.remove-in-Some.ensures.entries) (index-removed file_key c.args.links.now.rows c.args.links.now.last c.args.files.now.entries c.args.id row c.len-numbered.ensures.numbered is found)

@@ -4,7 +4,7 @@ use Rattle.volume_tables.proofs.handle_table.remove_row.Goals as goal
 
 pub returns-in-Some-clause-indexed : goal.returns-in-Some-clause-indexed
 returns-in-Some-clause-indexed c is =
-    rw c.in-Some.ensures.rows (c.remove-in-Some.ensures.handles c.args.table.now.rows c.args.table.now.last c.as_slice-numbered.ensures.numbered (sym c.in-Some.ensures.row) is)
+    rw c.in-Some.ensures.rows (c.remove-in-Some.ensures.handles c.args.table.now.rows c.args.table.now.last c.len-numbered.ensures.numbered (sym c.in-Some.ensures.row) is)
 
 pub returns-in_default-clause-indexed : goal.returns-in_default-clause-indexed
 returns-in_default-clause-indexed c is =

@@ -7,12 +7,12 @@ use Rattle.volume_tables.proofs.name_index.find_children_after.Goals as goal
 pub end_of-end-requires : goal.end_of-end-requires
 end_of-end-requires c =
     parents-numbered c.args.table.now c.args.links.now.rows c.args.numbers.now
-    (links-ordered c.args.table.now c.args.links.now.rows c.args.links.now.last c.args.numbers.now c.as_slice.ensures.numbered c.requires)
+    (links-ordered c.args.table.now c.args.links.now.rows c.args.links.now.last c.args.numbers.now c.len.ensures.numbered c.requires)
 
 pub begin_of-requires : goal.begin_of-requires
-begin_of-requires c = links-ordered c.args.table.now c.args.links.now.rows c.args.links.now.last c.args.numbers.now c.as_slice.ensures.numbered c.requires
+begin_of-requires c = links-ordered c.args.table.now c.args.links.now.rows c.args.links.now.last c.args.numbers.now c.len.ensures.numbered c.requires
 
 pub returns : goal.returns
 returns c =
-    children-between c.args.table.now c.args.dir (option_copied c.args.after) c.args.links.now.rows c.args.links.now.last c.args.numbers.now c.as_slice.ensures.numbered c.requires
+    children-between c.args.table.now c.args.dir (option_copied c.args.after) c.args.links.now.rows c.args.links.now.last c.args.numbers.now c.len.ensures.numbered c.requires
     c.begin_of.result c.min-begin.result c.end_of-end.result c.begin_of.ensures (omega arith) (omega arith) (λ less. omega arith) c.end_of-end.ensures.bound c.end_of-end.ensures.point

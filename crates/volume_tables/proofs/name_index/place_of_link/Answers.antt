@@ -8,18 +8,18 @@ use Rattle.volume_tables.proofs.MovedLemmas.{numbers-without, row-placed}
 use Rattle.volume_tables.proofs.name_index.place_of_link.Goals as goal
 
 pub place_of-requires : goal.place_of-requires
-place_of-requires c = links-ordered c.args.table.now c.args.links.now.rows c.args.links.now.last c.args.numbers.now c.as_slice.ensures.numbered c.requires.by_name
+place_of-requires c = links-ordered c.args.table.now c.args.links.now.rows c.args.links.now.last c.args.numbers.now c.len.ensures.numbered c.requires.by_name
 
 pub unreachable-requires : goal.unreachable-requires
 unreachable-requires c =
     let row : Link = record { parent = c.row.inside.parent; name = c.row.inside.name; file = c.row.inside.file; deleted = c.row.inside.deleted } in
     let found : row_of c.args.links.now.rows c.args.id ≡ Some row = rw (← c.row.view_is) at c.requires.found in
     let place : IsKeyPlace (link_key c.args.table.now) (links_at c.args.links.now.rows c.args.numbers.now) (place_key c.args.table.now row.parent row.name) (Err c.in-Err.field-0) = rw c.units.ensures at c.in-Err.ensures in
-    row-placed c.args.table.now c.args.links.now.rows c.args.links.now.last c.args.numbers.now c.as_slice.ensures.numbered c.requires.by_name c.args.id row found c.in-Err.field-0 place
+    row-placed c.args.table.now c.args.links.now.rows c.args.links.now.last c.args.numbers.now c.len.ensures.numbered c.requires.by_name c.args.id row found c.in-Err.field-0 place
 
 pub returns-clause-without : goal.returns-clause-without
 returns-clause-without c =
     let row : Link = record { parent = c.row.inside.parent; name = c.row.inside.name; file = c.row.inside.file; deleted = c.row.inside.deleted } in
     let found : row_of c.args.links.now.rows c.args.id ≡ Some row = rw (← c.row.view_is) at c.requires.found in
     let place : IsKeyPlace (link_key c.args.table.now) (links_at c.args.links.now.rows c.args.numbers.now) (place_key c.args.table.now row.parent row.name) (Ok c.in-Ok.place) = rw c.units.ensures at c.in-Ok.ensures in
-    numbers-without c.args.table.now c.args.links.now.rows c.args.links.now.last c.args.numbers.now c.as_slice.ensures.numbered c.requires.by_name c.args.id row found c.in-Ok.place place
+    numbers-without c.args.table.now c.args.links.now.rows c.args.links.now.last c.args.numbers.now c.len.ensures.numbered c.requires.by_name c.args.id row found c.in-Ok.place place

@@ -1,14 +1,17 @@
-use Rattle.std.proofs.Common.{sym, ◌∙◌, ap, Some, ◌≡◌, ◌==◌}
+use Rattle.std.proofs.Common.{◌≡◌, ◌==◌, ℕ, Some, ap, sym, ◌∙◌}
 use Rattle.std.specs.List.{position}
-use Rattle.fsa_types.proofs.RowLemmas.{row_of-none, IsAt-position, row_of-at}
+use Rattle.slab.specs.Slab.{get}
+use Rattle.object_tables.proofs.PlaceLemmas.{row-missing, row-placed}
 use Rattle.object_tables.proofs.table.Table.get.Goals as goal
 
 pub returns-in-None : goal.returns-in-None
-returns-in-None g c = rw (← c.self.view_is) (sym (row_of-none c.self.inside.rows.items c.args.id (sym (rw c.deref.ensures.value at c.in-None.ensures))))
+returns-in-None g c =
+    let i = c.self.inside in
+    rw (← c.self.view_is) (sym (row-missing (get i.rows) i.places.items i.last c.args.id c.self.invariant (sym (rw c.deref.ensures.value at c.in-None.ensures))))
 
 pub returns-in-Some : goal.returns-in-Some
 returns-in-Some g c =
-    let found : position (λ e. e.0 == c.args.id) c.self.inside.rows.items ≡ Some c.in-Some.place = sym (rw c.deref.ensures.value at c.in-Some.ensures) in
-    let at = IsAt-position c.self.inside.rows.items c.args.id c.in-Some.place c.index.result.now found in
-    rw (← c.self.view_is) (ap (λ e. Some e.1) c.index.ensures ∙
-    sym (row_of-at c.self.inside.rows.items c.in-Some.place c.index.result.now c.args.id c.self.invariant.rising at.within (at.here c.index.result.now)))
+    let i = c.self.inside in
+    let found : position (λ e. e.0 == c.args.id) i.places.items ≡ Some c.in-Some.place = sym (rw c.deref.ensures.value at c.in-Some.ensures) in
+    rw (← c.self.view_is) (c.get.ensures ∙ ap (λ (e : ℕ × ℕ). get i.rows e.1) c.index.ensures
+    ∙ sym (row-placed (get i.rows) i.places.items i.last c.args.id c.in-Some.place c.index.result.now c.self.invariant found))

@@ -1,32 +1,52 @@
-use Rattle.std.proofs.Common.{sym, ◌∙◌, ap, refl, Some, ◌≡◌, ◌==◌}
+use Rattle.std.proofs.Common.{◌≡◌, ◌==◌, ℕ, Some, is_some, ap, arith, refl, sym, ◌∙◌}
 use Rattle.std.specs.List.{position}
-use Rattle.fsa_types.proofs.RowLemmas.{IsNumbered-set, IsAt-position, row_of-at, set-at}
+use Rattle.fsa_types.proofs.RowLemmas.{IsAt-position}
+use Rattle.slab.specs.Slab.{ContainsKey, get, with_value}
+use Rattle.slab.proofs.SlabLemmas.{Updates-with_value}
+use Rattle.object_tables.proofs.PlaceLemmas.{key-there, len-changed, place-same, placed-changed, row-placed, rows-changed}
 use Rattle.object_tables.proofs.table.Table.row_mut.Goals as goal
+
+pub index-requires : goal.index-requires
+index-requires g c =
+    let i = c.self.inside in
+    let found : position (λ e. e.0 == c.args.id) i.places.items ≡ Some c.args.place = sym (place-same (get i.rows) i.places.items c.self.invariant.there c.args.id) ∙ (rw (← c.self.view_is) at c.requires) in
+    let within = (IsAt-position i.places.items c.args.id c.args.place (0, 0) found).within in
+    omega arith
+
+pub index_mut-requires : goal.index_mut-requires
+index_mut-requires g c =
+    let i = c.self.inside in
+    let found : position (λ e. e.0 == c.args.id) i.places.items ≡ Some c.args.place = sym (place-same (get i.rows) i.places.items c.self.invariant.there c.args.id) ∙ (rw (← c.self.view_is) at c.requires) in
+    ap (λ (p : ℕ × ℕ). is_some (get i.rows p.1)) c.index.ensures ∙ key-there (get i.rows) i.places.items i.last c.args.id c.args.place c.index.result.now c.self.invariant found
 
 pub invariant_of-self-lent : goal.invariant_of-self-lent
 invariant_of-self-lent g c w =
-    let found : position (λ e. e.0 == c.args.id) c.self.inside.rows.items ≡ Some c.args.place = rw (← c.self.view_is) at c.requires in
-    let at = IsAt-position c.self.inside.rows.items c.args.id c.args.place c.index_mut-entry.result.now found in
-    let number : c.index_mut-entry.result.now.0 ≡ c.args.id = ap (λ e. e.0) c.index_mut-entry.ensures.value ∙ at.here c.index_mut-entry.result.now in
-    rw number (IsNumbered-set c.self.inside.rows.items _ c.args.id c.args.place c.index_mut-entry.result.now w c.self.invariant found)
+    let i = c.self.inside in
+    let key = c.index.result.now.1 in
+    let found : position (λ e. e.0 == c.args.id) i.places.items ≡ Some c.args.place = sym (place-same (get i.rows) i.places.items c.self.invariant.there c.args.id) ∙ (rw (← c.self.view_is) at c.requires) in
+    let there : ContainsKey i.rows key = ap (λ (p : ℕ × ℕ). is_some (get i.rows p.1)) c.index.ensures ∙ key-there (get i.rows) i.places.items i.last c.args.id c.args.place c.index.result.now c.self.invariant found in
+    let written = Updates-with_value i.rows key w there in
+    placed-changed (get i.rows) (get (with_value i.rows key w)) key c.args.id w written.changed written.others i.places.items i.last c.self.invariant
 
 pub returns : goal.returns
 returns g c =
-    let found : position (λ e. e.0 == c.args.id) c.self.inside.rows.items ≡ Some c.args.place = rw (← c.self.view_is) at c.requires in
-    let at = IsAt-position c.self.inside.rows.items c.args.id c.args.place c.index_mut-entry.result.now found in
-    let number : c.index_mut-entry.result.now.0 ≡ c.args.id = ap (λ e. e.0) c.index_mut-entry.ensures.value ∙ at.here c.index_mut-entry.result.now in (
+    let i = c.self.inside in
+    let key = c.index.result.now.1 in
+    let found : position (λ e. e.0 == c.args.id) i.places.items ≡ Some c.args.place = sym (place-same (get i.rows) i.places.items c.self.invariant.there c.args.id) ∙ (rw (← c.self.view_is) at c.requires) in
+    let there : ContainsKey i.rows key = ap (λ (p : ℕ × ℕ). is_some (get i.rows p.1)) c.index.ensures ∙ key-there (get i.rows) i.places.items i.last c.args.id c.args.place c.index.result.now c.self.invariant found in (
       (
         refl,
-        λ w. rw (
-          ← c.self.view_is,
-          number,
-          set-at c.self.inside.rows.items c.args.place c.index_mut-entry.result.now c.args.id (λ _. w) c.self.invariant.rising at.within (at.here c.index_mut-entry.result.now),
-        ),
+        λ w. (let written = Updates-with_value i.rows key w there in
+            rw (
+              ← c.self.view_is,
+              rows-changed (get i.rows) (get (with_value i.rows key w)) key c.args.id w written.changed written.others i.places.items i.last c.args.place c.index.result.now c.self.invariant found (sym (ap (λ (e : ℕ × ℕ). e.1) c.index.ensures)),
+              len-changed i.rows key w there,
+            ) refl),
       ),
       record {
         writes_back = tt;
         row = rw (← c.self.view_is) (
-            row_of-at c.self.inside.rows.items c.args.place c.index_mut-entry.result.now c.args.id c.self.invariant.rising at.within (at.here c.index_mut-entry.result.now)
-            ∙ ap (λ e. Some e.1) (sym c.index_mut-entry.ensures.value));
+            row-placed (get i.rows) i.places.items i.last c.args.id c.args.place c.index.result.now c.self.invariant found
+            ∙ sym (ap (λ (e : ℕ × ℕ). get i.rows e.1) c.index.ensures) ∙ c.index_mut.ensures.value);
       },
     )

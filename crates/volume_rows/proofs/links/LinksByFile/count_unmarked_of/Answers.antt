@@ -8,4 +8,4 @@ pub returns : goal.returns
 returns c =
     let i = c.self.inside in
     rw (← c.self.view_is) ((rw c.of.ensures at c.count_unmarked.ensures)
-    ∙ sym (index-counted file_key i.links.rows i.links.last i.files.entries c.args.file (λ entry. not entry.1.deleted) c.as_slice-numbered.ensures.numbered c.self.invariant.0))
+    ∙ sym (index-counted file_key i.links.rows i.links.last i.files.entries c.args.file (λ entry. not entry.1.deleted) c.len-numbered.ensures.numbered c.self.invariant.0))

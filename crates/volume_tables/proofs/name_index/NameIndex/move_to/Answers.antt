@@ -3,13 +3,13 @@ use Rattle.volume_tables.proofs.name_index.NameIndex.move_to.Goals as goal
 
 pub put-requires-clause-ordered : goal.put-requires-clause-ordered
 put-requires-clause-ordered c =
-    taken-ordered c.args.table.now c.args.links.now.rows c.args.links.now.last c.args.self.now.numbers c.as_slice.ensures.numbered c.requires.by_name c.args.id c.args.parent c.args.units.now c.requires.free _ c.take.ensures.numbers
+    taken-ordered c.args.table.now c.args.links.now.rows c.args.links.now.last c.args.self.now.numbers c.len.ensures.numbered c.requires.by_name c.args.id c.args.parent c.args.units.now c.requires.free _ c.take.ensures.numbers
 
 pub put-requires-clause-is_new : goal.put-requires-clause-is_new
 put-requires-clause-is_new c =
-    taken-new c.args.table.now c.args.links.now.rows c.args.links.now.last c.args.self.now.numbers c.as_slice.ensures.numbered c.requires.by_name c.args.id c.args.parent c.args.units.now c.requires.free _ c.take.ensures.numbers
+    taken-new c.args.table.now c.args.links.now.rows c.args.links.now.last c.args.self.now.numbers c.len.ensures.numbered c.requires.by_name c.args.id c.args.parent c.args.units.now c.requires.free _ c.take.ensures.numbers
 
 pub returns-clause-numbers : goal.returns-clause-numbers
 returns-clause-numbers c =
-    ByName-moved_living c.args.table.now c.args.links.now.rows c.args.links.now.last c.args.self.now.numbers c.as_slice.ensures.numbered c.requires.by_name c.args.id c.args.parent c.args.units.now c.requires.free _ c.take.ensures.numbers
+    ByName-moved_living c.args.table.now c.args.links.now.rows c.args.links.now.last c.args.self.now.numbers c.len.ensures.numbered c.requires.by_name c.args.id c.args.parent c.args.units.now c.requires.free _ c.take.ensures.numbers
     _ c.requires.lives (λ file deleted. c.put.ensures.numbers file deleted)

@@ -11,4 +11,4 @@ returns c =
     let i = c.self.inside in
     rw (← c.self.view_is) ((rw c.of.ensures at c.find_named.ensures)
     ∙ sym (number-by_key file_key c.args.file (is_stream_named c.args.upcase.now c.args.file c.args.units.now) (named-only c.args.upcase.now c.args.file c.args.units.now) (streams_in i.table.rows) i.table.last i.files.entries
-    (IsNumbered-seen (λ kept. kept.stream) i.table.rows i.table.last c.as_slice-numbered.ensures.numbered) c.self.invariant.0))
+    (IsNumbered-seen (λ kept. kept.stream) i.table.rows i.table.last c.len-numbered.ensures.numbered) c.self.invariant.0))

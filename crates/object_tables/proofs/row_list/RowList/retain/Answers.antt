@@ -1,5 +1,5 @@
 use Rattle.fsa_types.proofs.RowLemmas.{IsNumbered-where}
-use Rattle.object_tables.proofs.table.Table.retain.Goals as goal
+use Rattle.object_tables.proofs.row_list.RowList.retain.Goals as goal
 
 pub invariant_of-self : goal.invariant_of-self
 invariant_of-self g c =

@@ -3,7 +3,7 @@ use Rattle.std.proofs.lemmas.Bool.{leb-true, leb-false}
 use Rattle.std.proofs.lemmas.List.Sorted.{IsPartitionedBy-leb}
 use Rattle.object_tables.proofs.ClosureLemmas.{answers_by}
 use Rattle.object_tables.proofs.NextLemmas.{rising-steps}
-use Rattle.object_tables.proofs.table.end_of.Goals as goal
+use Rattle.object_tables.proofs.search.end_of.Goals as goal
 
 -- the closure compares a row's number with the number
 pub returns-clause-point : goal.returns-clause-point

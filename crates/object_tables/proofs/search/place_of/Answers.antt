@@ -1,7 +1,7 @@
 use Rattle.std.proofs.Common.{rules}
 use Rattle.std.proofs.lemmas.List.Sorted.{answers_always}
 use Rattle.object_tables.proofs.SearchLemmas.{position-searched}
-use Rattle.object_tables.proofs.table.place_of.Goals as goal
+use Rattle.object_tables.proofs.search.place_of.Goals as goal
 
 -- the closure gives a row's number
 pub returns : goal.returns
