@@ -1,3 +1,4 @@
+pub mod BeginningLaws
 mod MatchExamples
 pub mod MatchLaws
 pub mod RowLaws

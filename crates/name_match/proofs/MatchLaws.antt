@@ -53,7 +53,7 @@ pub matches-star : (table : List (ℕ × ℕ)) (units name : List ℕ) → units
 matches-star table units name star = rw star (star_matches-nothing table name)
 
 -- literal units match the same name alone
-literal_sign : (sign : Sign) → is_literal_sign sign ≡ true → sign ≡ Literal
+pub literal_sign : (sign : Sign) → is_literal_sign sign ≡ true → sign ≡ Literal
 literal_sign Literal literal = refl
 literal_sign _ literal = cc
 

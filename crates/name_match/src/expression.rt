@@ -1,11 +1,13 @@
 //! Expressions: made once, and then matched with many names.
 
-ghost use Rattle.std.specs.Prelude.{◌≡◌, ◌↔◌, IfOk, IsErrOf, IsTrue};
-ghost use Rattle.std.specs.List.{list_any};
+ghost use Rattle.std.specs.Prelude.{ℕ, ◌≡◌, ◌↔◌, IfOk, IsErrOf, IsTrue, List, nat_eq, true};
+ghost use Rattle.std.specs.List.{list_any, starts_with, take_while};
+ghost use Rattle.fsa_types.specs.CaseTable.{upcased};
 ghost use Rattle.fsa_types.specs.Match.{is_bad_unit, is_refused, matches};
+ghost use Rattle.name_match.specs.Plan.{is_literal};
 
 use crate::ends::matches_by_ends;
-use crate::plan::{Plan, ends_in};
+use crate::plan::{Plan, ends_in, literal_count};
 use crate::signs::is_bad;
 use fsa_types::{NoMemory, TryCopy, UpcaseTable};
 use std::alloc::{AllocError, Global};
@@ -76,6 +78,16 @@ impl Expression {
             Plan::Suffix => ends_in(table, &self.units[1..], units),
             Plan::Ends => matches_by_ends(table, &self.units, units),
         }
+    }
+
+    /// The literal units that stand before the first sign. Each name that the expression matches begins with these,
+    /// whatever the table by which they are compared.
+    pub fn beginning(&self) -> &[u16]
+        ensures units { result.now ≡ take_while is_literal self.now }
+        ensures begins { (table : List (ℕ × ℕ)) (name : List ℕ) → matches table self.now name ≡ true → starts_with nat_eq (upcased table name) (upcased table result.now) ≡ true }
+    {
+        let count = literal_count(&self.units);
+        &self.units[..count]
     }
 }
 

@@ -4,6 +4,7 @@
 //! ```text
 //! let expression = Expression::new(alloc, &units)?;       // `*.txt`; Bad where it is refused
 //! expression.matches(&table, &name)                       // true for `a.b.TXT`
+//! expression.beginning()                                  // empty here; of `a.b*` it is `a.b`
 //! ```
 //!
 //! The units of an expression, each compared by the case table that the caller hands in:
@@ -16,6 +17,9 @@
 //! - any other unit stands for itself, in either case.
 //!
 //! To `<`, `>` and `"` a `.` is that unit alone, whatever the table says.
+//!
+//! `beginning` lends the literal units before the first sign, with which each name begins that is matched. So who has
+//! names in order needs to look only at those that begin so.
 //!
 //! It asks nothing of its caller: any units are an expression or `Bad`, any units are a name.
 //!

@@ -1,7 +1,7 @@
 //! How an expression is matched: a straight way where there is one.
 
-ghost use Rattle.std.specs.Prelude.{◌≡◌};
-ghost use Rattle.std.specs.List.{list_all};
+ghost use Rattle.std.specs.Prelude.{◌≡◌, ◌≤◌, length};
+ghost use Rattle.std.specs.List.{list_all, prefix_len};
 ghost use Rattle.name_match.specs.Plan.{is_literal, ends_in};
 
 use crate::signs::{STAR, is_literal};
@@ -53,6 +53,19 @@ fn are_literal(units: &[u16]) -> bool
     ensures { result ≡ list_all is_literal units.now }
 {
     units.iter().all(|unit| is_literal(*unit))
+}
+
+// How many units stand for themselves before the first that doesn't.
+pub(crate) fn literal_count(units: &[u16]) -> usize
+    ensures bound { result ≤ length units.now }
+    ensures count { result ≡ prefix_len is_literal units.now }
+{
+    for (count, unit) in units.iter().enumerate() {
+        if !is_literal(*unit) {
+            return count;
+        }
+    }
+    units.len()
 }
 
 // Whether a name ends in these units.
