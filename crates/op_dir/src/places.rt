@@ -1,11 +1,12 @@
 //! The entries of a directory that are still to come, by where they stand.
 
-ghost use Rattle.std.specs.Prelude.{◌≡◌, ◌≤◌, ◌+◌, ◌<◌, ◌++◌, ◌∷◌, [], IfOk, OnOk, filter, length, map, take, vec_len, if◌then◌else◌};
+ghost use Rattle.std.specs.Prelude.{◌≡◌, ◌≤◌, ◌+◌, ◌<◌, ◌++◌, ◌∷◌, ◌&&◌, [], IfOk, OnOk, filter, length, map, take, vec_len, if◌then◌else◌};
+ghost use Rattle.fsa_types.specs.Match.{matches};
 ghost use Rattle.fsa_model.specs.QueryDir.{dots, is_still_to_come, left_to_list, link_entry, listed_links, parent_directory};
 ghost use Rattle.fsa_model.specs.Volume.{After};
 ghost use Rattle.op_dir.specs.Places.{dot_dot_entry, dot_entry, entry_at, is_listed, is_wanted};
 ghost use Rattle.volume_rows.specs.Cursors.{cursor_of};
-ghost use Rattle.volume_state.specs.Children.{is_unmarked, links_under};
+ghost use Rattle.volume_state.specs.Children.{links_under};
 
 use fsa_types::NoMemory;
 use name_match::Expression;
@@ -93,13 +94,20 @@ fn dots_left(
     Ok(places)
 }
 
-// The numbers of the links of a directory, marked or not, that are still to come.
-fn links_left<'a>(volume: &'a Volume, dir: u64, cursor: &Cursor) -> &'a [u64]
-    ensures { filter is_unmarked (links_under volume.now.content result.now) ≡ filter (λ entry. is_still_to_come volume.now.content.table (cursor_of cursor.now) (After entry.1.name)) (listed_links volume.now.content dir) }
+// The numbers of links of a directory, marked or not, among which all stand that are still to come and match: those
+// that begin as the expression does.
+fn links_left<'a>(
+    volume: &'a Volume,
+    dir: u64,
+    expression: &Expression,
+    cursor: &Cursor,
+) -> &'a [u64]
+    ensures { filter (is_listed volume.now.content expression.now) (links_under volume.now.content result.now) ≡ filter (λ entry. is_still_to_come volume.now.content.table (cursor_of cursor.now) (After entry.1.name) && matches volume.now.content.table expression.now entry.1.name) (listed_links volume.now.content dir) }
 {
+    let units = expression.beginning();
     match cursor {
-        Cursor::After(name) => volume.children_after(dir, Some(name.units())),
-        Cursor::Start | Cursor::Dot | Cursor::DotDot => volume.children_after(dir, None),
+        Cursor::After(name) => volume.children_after(dir, Some(name.units()), units),
+        Cursor::Start | Cursor::Dot | Cursor::DotDot => volume.children_after(dir, None, units),
     }
 }
 
@@ -165,7 +173,7 @@ pub(crate) fn places_left(
     ensures { IfOk result (λ places. map (entry_at volume.now.content dir) places.items ≡ take most (left_to_list volume.now.content dir expression.now (cursor_of cursor.now))) }
 {
     let mut places = dots_left(alloc, volume, dir, expression, cursor)?;
-    let links = links_left(volume, dir, cursor);
+    let links = links_left(volume, dir, expression, cursor);
     push_links(volume, dir, expression, links, most, &mut places)?;
     Ok(places)
 }

@@ -1,5 +1,5 @@
 -- The links of a directory in the order of their names, by their numbers.
-use Rattle.std.proofs.Common.{◌≡◌, ℕ, zero, suc, Bool, true, false, List, [], ◌∷◌, get_or, map, refl, ap, sym, ◌∙◌, arith, inl, inr, ◌⊎◌, Option, Some, None, cond}
+use Rattle.std.proofs.Common.{◌≡◌, ℕ, zero, suc, Bool, true, false, List, [], ◌∷◌, get_or, map, refl, ap, sym, ◌∙◌, arith, inl, inr, ◌⊎◌, Option, Some, cond}
 use Rattle.std.specs.List.{All, AllPairs, filter}
 use Rattle.std.specs.Ordering.{is_eq, is_lt, ordering_reverse}
 use Rattle.std.specs.Cmp.Lexicographic.{texts_ties}
@@ -132,7 +132,7 @@ filter-swap p q (x ∷ xs) = elim (cases_Bool (p x)) [
 ]
 
 -- what passes one passes the other
-filter-stronger : {X : Type 0} (p q : X → Bool) (xs : List X) → ((x : X) → q x ≡ true → p x ≡ true) → filter q (filter p xs) ≡ filter q xs
+pub filter-stronger : {X : Type 0} (p q : X → Bool) (xs : List X) → ((x : X) → q x ≡ true → p x ≡ true) → filter q (filter p xs) ≡ filter q xs
 filter-stronger p q [] weaker = refl
 filter-stronger p q (x ∷ xs) weaker = elim (cases_Bool (q x)) [
   | inl yes_q ↦ (let yes_p : p x ≡ true = weaker x yes_q in rw (yes_p, yes_q) (ap (λ rest. x ∷ rest) (filter-stronger p q xs weaker)))
@@ -243,14 +243,16 @@ under-found v (first ∷ rest) found =
     let here : row_of v.links first.0 ≡ Some first.1 = All-head (IsFound v) first rest found in
     rw here (ap (λ (links : List (ℕ × Link)). first ∷ links) (under-found v rest (All-tail (IsFound v) first rest found)))
 
--- the links of the numbers of the links behind a name are these
-pub children-under : (v : Volume) (dir : ℕ) (after : Option (List ℕ)) → IsSound v → links_under v (map (λ (entry : ℕ × Link). entry.0) (children_after v dir after)) ≡ children_after v dir after
-children-under v dir after sound = under-found v (children_after v dir after) (children-found v dir after sound)
+-- the links of the numbers of some links behind a name are these
+pub children-under : (v : Volume) (dir : ℕ) (after : Option (List ℕ)) (p : ℕ × Link → Bool) → IsSound v
+    → links_under v (map (λ (entry : ℕ × Link). entry.0) (filter p (children_after v dir after))) ≡ filter p (children_after v dir after)
+children-under v dir after p sound = under-found v (filter p (children_after v dir after)) (All-filter p (IsFound v) (children_after v dir after) (children-found v dir after sound))
 
 -- those that aren't marked are those that are listed behind the name
-pub children-listed : (v : Volume) (dir : ℕ) (after : Option (List ℕ)) → IsSound v
-    → filter is_unmarked (children_after v dir after) ≡ filter (λ entry. is_name_after v.table after entry.1.name) (listed_links v dir)
-children-listed v dir after sound =
-    ap (filter is_unmarked) (children-behind v dir after sound)
+pub children-listed : (v : Volume) (dir : ℕ) (after : Option (List ℕ)) (p : ℕ × Link → Bool) → IsSound v
+    → filter is_unmarked (filter p (children_after v dir after)) ≡ filter p (filter (λ entry. is_name_after v.table after entry.1.name) (listed_links v dir))
+children-listed v dir after p sound =
+    filter-swap is_unmarked p (children_after v dir after)
+    ∙ ap (filter p) (ap (filter is_unmarked) (children-behind v dir after sound)
     ∙ filter-swap is_unmarked (is_behind v.table after) (children v dir)
-    ∙ ap (filter (is_behind v.table after)) (sym (children-filtered v dir is_unmarked sound))
+    ∙ ap (filter (is_behind v.table after)) (sym (children-filtered v dir is_unmarked sound)))

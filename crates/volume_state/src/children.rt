@@ -5,6 +5,7 @@ ghost use Rattle.std.specs.Option.{option_copied};
 ghost use Rattle.fsa_model.specs.Lookups.{link_of_file};
 ghost use Rattle.fsa_model.specs.QueryDir.{listed_links};
 ghost use Rattle.volume_rows.specs.Children.{is_name_after};
+ghost use Rattle.volume_tables.specs.Beginnings.{begins_with};
 ghost use Rattle.volume_state.specs.Children.{children_after, is_unmarked, links_under};
 
 use crate::volume::Volume;
@@ -18,15 +19,15 @@ impl Volume {
         self.links.by_file().first_of(file)
     }
 
-    /// The numbers of the links of a directory, marked or not, whose names are greater than this one, in the order of
-    /// their names; without a name, of all of its links. Names compare by their upcased units. The empty name is below
-    /// all others.
-    pub fn children_after(&self, dir: u64, after: Option<&[u16]>) -> &[u64]
-        ensures links { links_under self.now.content result.now ≡ children_after self.now.content dir (option_copied after.entry) }
+    /// The numbers of the links of a directory, marked or not, whose names are greater than this one and begin with
+    /// these units, in the order of their names; without a name to be behind, of all that begin so. Names and units
+    /// compare upcased. The empty name is below all others, and each name begins with no units.
+    pub fn children_after(&self, dir: u64, after: Option<&[u16]>, units: &[u16]) -> &[u64]
+        ensures links { links_under self.now.content result.now ≡ filter (λ entry. begins_with self.now.content.table units.now entry.1.name) (children_after self.now.content dir (option_copied after.entry)) }
 
-        // Those that aren't marked are those that are listed behind the name.
-        ensures listed { filter is_unmarked (links_under self.now.content result.now) ≡ filter (λ entry. is_name_after self.now.content.table (option_copied after.entry) entry.1.name) (listed_links self.now.content dir) }
+        // Those that aren't marked are those that are listed behind the name and begin so.
+        ensures listed { filter is_unmarked (links_under self.now.content result.now) ≡ filter (λ entry. begins_with self.now.content.table units.now entry.1.name) (filter (λ entry. is_name_after self.now.content.table (option_copied after.entry) entry.1.name) (listed_links self.now.content dir)) }
     {
-        self.links.children_after(dir, after)
+        self.links.children_beginning(dir, after, units)
     }
 }

@@ -42,7 +42,7 @@
 //! A file, a link, a stream or a handle is found by its number in time logarithmic in the rows of its
 //! table, and so is the least number above another; an owner's charge in time logarithmic in the owners; the
 //! clusters of all streams are kept. A link is found by its name in time logarithmic in all links, and so is where the
-//! links of a directory behind a name stand, which are lent in one piece. The links of a file, and its streams by
+//! links of a directory stand that are behind a name and begin with given units, which are lent in one piece. The links of a file, and its streams by
 //! name, are found in time logarithmic in all of them, and linear in the file's own; so a note and `is_at_or_below` cost that for each directory above.
 //! Any other look-up costs time linear in the rows; one of the handles below a directory, the way up for each. The
 //! next pending call is found in time logarithmic in those that are pending, as long as they came in the order of

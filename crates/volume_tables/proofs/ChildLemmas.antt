@@ -17,7 +17,7 @@ use Rattle.link_index.specs.Keyed.{AreInKeyOrder, cmp_keys, is_key_before}
 use Rattle.link_index.proofs.KeyLaws.{All-in_order, in_order-removed, less-back}
 use Rattle.volume_rows.specs.Children.{is_child_after, is_name_after, links_after}
 use Rattle.volume_tables.specs.Names.{IsBegin, IsByName, link_at, link_key, links_at}
-use Rattle.volume_tables.proofs.NameLemmas.{Links, cmp-within, greater-above, keys-differ, links-listed, links-ordered, numbers-at}
+use Rattle.volume_tables.proofs.NameLemmas.{Links, cmp-within, greater-above, keys-differ, links-listed, numbers-at}
 
 -- ---- those that pass a test, where they stand together
 

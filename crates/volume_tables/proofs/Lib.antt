@@ -1,3 +1,4 @@
+pub mod BeginningLemmas
 pub mod ChildLemmas
 pub mod IndexLaws
 pub mod LockLemmas

@@ -1,3 +1,4 @@
+pub mod Beginnings
 pub mod HandleIndex
 pub mod HandleTable
 pub mod LinkTable

@@ -22,6 +22,7 @@
 //! names.add(&table, &upcase, id, dir, units);     // before the link is added to its table
 //! names.child(&table, &upcase, dir, units);       // by binary search
 //! names.children_after(&table, &upcase, dir, after);      // those behind a name, in one piece
+//! names.children_beginning(&table, &upcase, dir, after, units);   // of these, those that begin so
 //!
 //! space.reserve(1)?;
 //! space.admit(owner);                     // takes no memory
@@ -47,6 +48,7 @@
 #![tactic(auto)]
 
 mod among;
+mod beginning;
 mod handle_index;
 mod handle_table;
 mod link_table;

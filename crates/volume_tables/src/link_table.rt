@@ -1,12 +1,13 @@
 //! The links of a volume in the order of their names, and the room for more of them in each directory.
 
-ghost use Rattle.std.specs.Prelude.{ℕ, ◌≡◌, ◌≤◌, ◌<◌, ◌+◌, ◌^◌, ◌++◌, ◌∷◌, ◌&&◌, not, [], ◌==◌, false, None, OnOk, OnErr, find, map, option_map, position};
+ghost use Rattle.std.specs.Prelude.{ℕ, ◌≡◌, ◌≤◌, ◌<◌, ◌+◌, ◌^◌, ◌++◌, ◌∷◌, ◌&&◌, not, [], ◌==◌, false, None, OnOk, OnErr, filter, find, map, option_map, position};
 ghost use Rattle.std.specs.List.{list_any};
 ghost use Rattle.std.specs.Option.{option_copied};
 ghost use Rattle.fsa_types.specs.Rows.{row_of, without_row, with_row_changed, IsNumbered};
 ghost use Rattle.fsa_model.specs.Lookups.{has_child, is_named};
 ghost use Rattle.object_tables.specs.Next.{IsNext};
 ghost use Rattle.volume_rows.specs.Children.{links_after};
+ghost use Rattle.volume_tables.specs.Beginnings.{begins_with};
 ghost use Rattle.volume_tables.specs.Rooms.{room_in};
 
 use crate::name_index::NameIndex;
@@ -123,6 +124,14 @@ impl LinkTable {
     {
         self.names
             .children_after(self.links.table(), &self.table, dir, after)
+    }
+
+    /// Those of these numbers whose links have names that begin with these units, in the same order.
+    pub fn children_beginning(&self, dir: u64, after: Option<&[u16]>, units: &[u16]) -> &[u64]
+        ensures { result.now ≡ map (λ entry. entry.0) (filter (λ entry. begins_with self.now.table units.now entry.1.name) (links_after self.now.table dir (option_copied after.entry) self.now.rows)) }
+    {
+        self.names
+            .children_beginning(self.links.table(), &self.table, dir, after, units)
     }
 
     /// Whether there is a link in this directory.

@@ -1,6 +1,6 @@
 //! The numbers of links in the order of their directories and names.
 
-ghost use Rattle.std.specs.Prelude.{ℕ, ◌≡◌, ◌≤◌, ◌+◌, ◌<◌, ◌==◌, ◌&&◌, not, ◌++◌, ◌∷◌, [], Bool, false, true, All, Err, OnOk, None, Some, find, length, map, option_map, slice_get};
+ghost use Rattle.std.specs.Prelude.{ℕ, ◌≡◌, ◌≤◌, ◌+◌, ◌<◌, ◌==◌, ◌&&◌, not, ◌++◌, ◌∷◌, [], Bool, false, true, All, Err, OnOk, None, Some, filter, find, length, map, option_map, slice_get};
 ghost use Rattle.std.specs.List.{list_any, remove};
 ghost use Rattle.std.specs.List.Sorted.{IsNonDecreasingBy, IsPartitionPoint};
 ghost use Rattle.std.specs.Option.{option_copied, is_some};
@@ -9,8 +9,10 @@ ghost use Rattle.fsa_types.specs.Sorting.{in_order, put_in_order};
 ghost use Rattle.fsa_model.specs.Lookups.{is_named};
 ghost use Rattle.link_index.specs.Keyed.{AreInKeyOrder, IsKeyPlace, cmp_keys, is_key_before};
 ghost use Rattle.volume_rows.specs.Children.{links_after};
+ghost use Rattle.volume_tables.specs.Beginnings.{begins_with};
 ghost use Rattle.volume_tables.specs.Names.{IsBegin, IsByName, link_at, link_key, links_at, place_key};
 
+use crate::beginning::beginning_with;
 use fsa_types::{NoMemory, UpcaseTable};
 use object_tables::Table;
 use std::alloc::Global;
@@ -82,6 +84,23 @@ impl NameIndex {
         ensures { result.now ≡ map (λ entry. entry.0) (links_after table.now dir (option_copied after.entry) links.now.rows) }
     {
         find_children_after(&self.numbers, links, table, dir, after)
+    }
+
+    /// Those of these numbers whose links have names that begin with these units, in the same order.
+    pub fn children_beginning(
+        &self,
+        links: &Table<LinkRow>,
+        table: &UpcaseTable,
+        dir: u64,
+        after: Option<&[u16]>,
+        units: &[u16],
+    ) -> &[u64]
+        requires { IsByName table.now links.now.rows self.now.numbers }
+        ensures { result.now ≡ map (λ entry. entry.0) (filter (λ entry. begins_with table.now units.now entry.1.name) (links_after table.now dir (option_copied after.entry) links.now.rows)) }
+    {
+        let _ = links.as_slice();
+        let children = self.children_after(links, table, dir, after);
+        beginning_with(children, links, table, units)
     }
 
     /// Puts in the number of a link of a new name, which is then added to its table last. There has to be room for

@@ -1,4 +1,4 @@
-use Rattle.std.proofs.Common.{◌≤◌, ◌<◌, ◌≡◌, arith}
+use Rattle.std.proofs.Common.{arith}
 use Rattle.std.specs.Option.{option_copied}
 use Rattle.volume_tables.proofs.ChildLemmas.{children-between, parents-numbered}
 use Rattle.volume_tables.proofs.NameLemmas.{links-ordered}
