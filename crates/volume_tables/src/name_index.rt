@@ -98,7 +98,7 @@ impl NameIndex {
         requires { IsByName table.now links.now.rows self.now.numbers }
         ensures { result.now ≡ map (λ entry. entry.0) (filter (λ entry. begins_with table.now units.now entry.1.name) (links_after table.now dir (option_copied after.entry) links.now.rows)) }
     {
-        let _ = links.as_slice();
+        let _ = links.len();
         let children = self.children_after(links, table, dir, after);
         beginning_with(children, links, table, units)
     }
