@@ -1,5 +1,6 @@
 //! Tests that cross crates: whole runs of the program over bytes in memory, each with the bytes
-//! that it has to write, and turns of a machine (`turns`). It has no code of its own.
+//! that it has to write, and turns of a machine (`turns`). It is a program, since nothing stands on it; what it
+//! does when it runs is nothing.
 #![tactic(auto)]
 
 #[cfg(test)]
@@ -18,3 +19,5 @@ mod tests;
 mod troubles;
 #[cfg(test)]
 mod turns;
+
+fn main() {}
