@@ -14,7 +14,6 @@ use std::sync::atomic::{AtomicU64, Ordering};
 use std::test::Fail;
 use std::thread;
 use std::thread::Threads;
-use std::time::Clock;
 use wire_io::{Gate, MemorySink, MemorySource};
 
 // Two clients, each with one call and its leaving.
@@ -65,7 +64,7 @@ impl Gate for Holding {
 }
 
 // The status and the text of a race.
-fn race<R: Threads + Wait + Clock + Sync>(
+fn race<R: Threads + Wait + Sync>(
     rt: &R,
     alloc: Global,
     script: &[u8],
@@ -162,7 +161,7 @@ fn script_within(alloc: Global, bytes: &[u8]) -> Option<Script>
 }
 
 // The history that `race_history` gives for a script, once its volume is closed.
-fn closed_history<R: Threads + Wait + Clock + Sync>(
+fn closed_history<R: Threads + Wait + Sync>(
     rt: &R,
     alloc: Global,
     bytes: &[u8],
