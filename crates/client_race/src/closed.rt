@@ -10,13 +10,14 @@ use fsa_machine::VolumeMachine;
 use fsa_types::NoMemory;
 use script_read::Script;
 use std::alloc::Global;
+use std::rt::Clock;
 use std::sync::Wait;
 use std::thread::Threads;
 use wire_io::Gate;
 
 /// Runs the clients of a script as `race_history` does, and closes the volume: its history is whole for the
 /// script, makes no call twice, and has at most 1,000,000 entries.
-pub fn race<R: Threads + Wait + Sync, G: Gate + Sync>(
+pub fn race<R: Threads + Wait + Clock + Sync, G: Gate + Sync>(
     rt: &R,
     alloc: Global,
     script: &Script,

@@ -9,11 +9,13 @@ use crate::runner::Runner;
 use client_run::Step;
 use shared_volume::SharedVolume;
 use std::alloc::Global;
+use std::rt::Clock;
 use std::snapshot::Snapshot;
 use std::sync::Wait;
 use std::sync::atomic::{AtomicBool, AtomicU64, Ordering};
 use std::thread;
 use std::thread::{Promise, PromisedHandle, Scope, Threads};
+use std::time::Duration;
 use wire_io::Gate;
 
 /// What a client's thread gives back: the runner that it took, later.
@@ -36,8 +38,23 @@ pub struct Signals {
     stop: AtomicBool,
 }
 
+// How often in a row a client that can't go on gives its processor up for others before it sleeps.
+const YIELDS: u32 = 2;
+
+// For how long it sleeps then, in microseconds.
+const PAUSE: u64 = 100;
+
+// Lets others go on: a client that has tried in vain this often in a row gives its processor up, and later sleeps.
+fn give_way<R: Clock>(rt: &R, in_vain: u32) {
+    if in_vain < YIELDS {
+        thread::yield_now();
+    } else {
+        thread::sleep(rt, Duration::from_micros(PAUSE));
+    }
+}
+
 // Makes the client's calls until all are made or some client's call is refused.
-fn run_all<R: Wait, G: Gate>(
+fn run_all<R: Wait + Clock, G: Gate>(
     rt: &R,
     alloc: Global,
     volume: &SharedVolume,
@@ -49,13 +66,17 @@ fn run_all<R: Wait, G: Gate>(
     requires gate { (client number : ℕ) → G.is_for gate.now client number }
     ensures { Follows volume.now runner result }
 {
+    let mut in_vain = 0;
     for _ in rt.forever() {
         if signals.stop.load(Ordering::SeqCst) {
             break;
         }
         match runner.step(alloc, volume, gate) {
-            Step::Moved => {}
-            Step::Busy | Step::Waiting => thread::yield_now(),
+            Step::Moved => in_vain = 0,
+            Step::Busy | Step::Waiting => {
+                give_way(rt, in_vain);
+                in_vain = in_vain.saturating_add(1);
+            }
             Step::Ended => break,
             Step::Refused(_) => signals.stop.store(true, Ordering::SeqCst),
         }
@@ -73,7 +94,7 @@ pub enum Task {
 }
 
 // Starts a thread for the runner. Where none can be made, the runner stays here.
-fn start<'s, E, R: Threads + Wait + Sync, G: Gate + Sync>(
+fn start<'s, E, R: Threads + Wait + Clock + Sync, G: Gate + Sync>(
     scope: &Scope<'s, E>,
     rt: &'s R,
     alloc: Global,
@@ -112,7 +133,7 @@ fn start<'s, E, R: Threads + Wait + Sync, G: Gate + Sync>(
 }
 
 // Starts the runners, from the end of the list on.
-fn start_all<'s, E, R: Threads + Wait + Sync, G: Gate + Sync>(
+fn start_all<'s, E, R: Threads + Wait + Clock + Sync, G: Gate + Sync>(
     scope: &Scope<'s, E>,
     rt: &'s R,
     alloc: Global,
@@ -239,7 +260,7 @@ fn join_all<R: Threads>(rt: &R, tasks: Vec<Task>, runners: Vec<Runner>) -> Vec<R
 
 /// Makes the calls of all runners, each on a thread of its own or here, and gives them back in their order.
 /// Room for as many tasks, and for as many runners, is handed in.
-pub(crate) fn drive<R: Threads + Wait + Sync, G: Gate + Sync>(
+pub(crate) fn drive<R: Threads + Wait + Clock + Sync, G: Gate + Sync>(
     rt: &R,
     alloc: Global,
     volume: &SharedVolume,

@@ -19,6 +19,7 @@ use script_read::Script;
 use shared_volume::{Pass, SharedVolume};
 use std::alloc::Global;
 use std::collections::VecDeque;
+use std::rt::Clock;
 use std::sync::Wait;
 use std::thread::Threads;
 use wire_io::Gate;
@@ -67,7 +68,7 @@ fn finished(runners: Vec<Runner>, passes: Vec<Pass>) -> Result<Vec<Pass>, NoMemo
 }
 
 // Runs each client's calls. The passes come back in order of clients, and have made them all.
-fn made<R: Threads + Wait + Sync, G: Gate + Sync>(
+fn made<R: Threads + Wait + Clock + Sync, G: Gate + Sync>(
     rt: &R,
     alloc: Global,
     volume: &SharedVolume,
@@ -114,7 +115,7 @@ fn started(alloc: Global, script: &Script) -> Result<(SharedVolume, Vec<Pass>), 
 /// while the client waited. Where a call is refused, all clients stop, and the answer is `NoMemory`.
 ///
 /// The gate is passed once before each call's first try. It may wait forever.
-pub fn race_history<R: Threads + Wait + Sync, G: Gate + Sync>(
+pub fn race_history<R: Threads + Wait + Clock + Sync, G: Gate + Sync>(
     rt: &R,
     alloc: Global,
     script: &Script,

@@ -19,6 +19,7 @@ use client_race::race;
 use fsa_machine::VolumeMachine;
 use script_read::Script;
 use std::alloc::Global;
+use std::rt::Clock;
 use std::sync::Wait;
 use std::thread::Threads;
 use text_out::{TextFault, write_turn};
@@ -102,7 +103,7 @@ fn put_text<K: Sink>(
 /// Runs the clients of a script side by side, and writes the text of their history, which is whole for the
 /// script. `Failed` where the sink failed, and a part of that text is written then; `NoMemory` where there was
 /// no memory, and such a part is written, or nothing. It may wait forever.
-pub fn race_script<R: Threads + Wait + Sync, K: Sink, G: Gate + Sync>(
+pub fn race_script<R: Threads + Wait + Clock + Sync, K: Sink, G: Gate + Sync>(
     rt: &R,
     alloc: Global,
     script: &Script,

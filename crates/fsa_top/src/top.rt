@@ -18,6 +18,7 @@ use crate::run::{RunFault, run_script};
 use crate::seed::seed_of;
 use script_read::{ReadFault, Script, read_script};
 use std::alloc::Global;
+use std::rt::Clock;
 use std::sync::Wait;
 use std::thread::Threads;
 use wire_io::{Gate, Sink, Source, read_all};
@@ -113,7 +114,7 @@ fn run_read<K: Sink>(alloc: Global, script: &Script, sink: &mut K) -> u8
 }
 
 // Runs the clients of a script side by side: 0, or 4 or 5 where the sink failed or there was no memory.
-fn race_read<R: Threads + Wait + Sync, K: Sink, G: Gate + Sync>(
+fn race_read<R: Threads + Wait + Clock + Sync, K: Sink, G: Gate + Sync>(
     rt: &R,
     alloc: Global,
     script: &Script,
@@ -161,7 +162,7 @@ fn run_source<S: Source, K: Sink>(alloc: Global, source: &mut S, sink: &mut K) -
 }
 
 // Reads a script whole and runs its clients side by side.
-fn race_source<R: Threads + Wait + Sync, S: Source, K: Sink, G: Gate + Sync>(
+fn race_source<R: Threads + Wait + Clock + Sync, S: Source, K: Sink, G: Gate + Sync>(
     rt: &R,
     alloc: Global,
     source: &mut S,
@@ -249,7 +250,7 @@ pub fn fsa_single<S: Source, K: Sink>(
 /// it nothing, begins the text of a history in which each client has made the first of its calls. It may wait forever.
 ///
 /// The gate is passed once before each call's first try. It has to be one for every call where the word is `race`.
-pub fn fsa_main<R: Threads + Wait + Sync, S: Source, K: Sink, G: Gate + Sync>(
+pub fn fsa_main<R: Threads + Wait + Clock + Sync, S: Source, K: Sink, G: Gate + Sync>(
     rt: &R,
     alloc: Global,
     words: &[String],

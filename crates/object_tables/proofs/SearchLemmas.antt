@@ -21,7 +21,7 @@ first_place (x ∷ xs) (suc i) d id rising within here =
     let rest : position_or_len (λ e. e.0 == id) xs ≡ i = first_place xs i d id (AreRising-rest x xs rising) (omega arith) here in
     rw (other, rest) (omega arith)
 
-position-here : {T : Type 0} (xs : List (ℕ × T)) (i : ℕ) (d : ℕ × T) (id : ℕ) → AreRising xs → i < length xs → (get_or xs i d).0 ≡ id → position (λ e. e.0 == id) xs ≡ Some i
+pub position-here : {T : Type 0} (xs : List (ℕ × T)) (i : ℕ) (d : ℕ × T) (id : ℕ) → AreRising xs → i < length xs → (get_or xs i d).0 ≡ id → position (λ e. e.0 == id) xs ≡ Some i
 position-here xs i d id rising within here =
     let place = first_place xs i d id rising within here in
     let less = lt-ltb i (length xs) within in

@@ -252,53 +252,118 @@ IsFirst-0 v client id opened = IfSome-map (λ row. is_opened_by client 0 row ≡
               and_right ((get_or v.handles k d).1.client == client) (nat_lt (get_or v.handles k d).1.number row.number) (le-ltb (get_or v.handles k d).1.number row.number (omega (arith, is_0))));
         }
 
--- where it has none of number 0 it is the next above
-IsFirst-next : (v : Volume) (client id : ℕ) → IsNumbered v.handles v.last_handle → AllPairs (λ a b. is_opened_by b.1.client b.1.number a.1 ≡ false) v.handles
-    → handle_of v client 0 ≡ None → next_handle_of v client 0 ≡ Some id → IfSome (row_of v.handles id) (λ row. IsFirst v client row)
-IsFirst-next v client id numbered differ none_0 next = elim (option_cases (row_of v.handles id)) [
+-- the client has no handle of a number up to this one
+abbrev pub AreLater : Volume → ℕ → ℕ → Type 0
+AreLater v client after = has_row (λ row. row.client == client && not (nat_lt after row.number)) v.handles ≡ false
+
+-- then it is the next above
+pub IsFirst-above : (v : Volume) (client after id : ℕ) → IsNumbered v.handles v.last_handle → AllPairs (λ a b. is_opened_by b.1.client b.1.number a.1 ≡ false) v.handles
+    → AreLater v client after → next_handle_of v client after ≡ Some id → IfSome (row_of v.handles id) (λ row. IsFirst v client row)
+IsFirst-above v client after id numbered differ later next = elim (option_cases (row_of v.handles id)) [
   | inl none ↦ rw none tt
   | inr some ↦ rw some.1 (one some.0 some.1)
 ]
   where
-    lesser : (row other : Handle) → (is_after client 0 other && nat_lt other.number row.number) ≡ false → is_opened_by client 0 other ≡ false → (other.client == client && nat_lt other.number row.number) ≡ false
-    lesser row other smaller not_0 = elim (cases_Bool (other.client == client)) [
-      | inl own ↦ (let differs : (other.number == 0) ≡ false = rw own at not_0 in
-          let not_equal : other.number ≡ 0 → ⊥ = eqb-false other.number 0 differs in
-          let above : nat_lt 0 other.number ≡ true = lt-ltb 0 other.number (omega (arith, not_equal)) in
-          let not_below : nat_lt other.number row.number ≡ false = rw (own, above) at smaller in
-          rw own not_below)
+    lesser : (row other : Handle) → (is_after client after other && nat_lt other.number row.number) ≡ false → (other.client == client && not (nat_lt after other.number)) ≡ false
+        → (other.client == client && nat_lt other.number row.number) ≡ false
+    lesser row other smaller above = elim (cases_Bool (other.client == client)) [
+      | inl own ↦ (elim (cases_Bool (nat_lt after other.number)) [
+        | inl is_above ↦ (let not_below : nat_lt other.number row.number ≡ false = rw (own, is_above) at smaller in rw own not_below)
+        | inr is_not ↦ (let impossible : true ≡ false = rw (own, is_not) at above in absurd (cc))
+      ])
       | inr foreign ↦ rw foreign refl
     ]
 
     one : (row : Handle) → row_of v.handles id ≡ Some row → IsFirst v client row
     one row found =
-        let is : IsNextHandle v client 0 id row = record { numbered = numbered; differ = differ; found = found; next = next } in
+        let is : IsNextHandle v client after id row = record { numbered = numbered; differ = differ; found = found; next = next } in
         record {
-          of_client = (and_parts (row.client == client) (nat_lt 0 row.number) (next-after v client 0 id row is)).0;
+          of_client = (and_parts (row.client == client) (nat_lt after row.number) (next-after v client after id row is)).0;
           least = list_any_none (λ (entry : ℕ × Handle). entry.1.client == client && nat_lt entry.1.number row.number) v.handles (λ k d within.
-              lesser row (get_or v.handles k d).1 (none-all (λ (entry : ℕ × Handle). is_after client 0 entry.1 && nat_lt entry.1.number row.number) v.handles (none_smaller v client 0 id row is) k d within)
-              (number_of-none (is_opened_by client 0) v.handles none_0 k d within));
+              lesser row (get_or v.handles k d).1 (none-all (λ (entry : ℕ × Handle). is_after client after entry.1 && nat_lt entry.1.number row.number) v.handles (none_smaller v client after id row is) k d within)
+              (none-all (λ (entry : ℕ × Handle). entry.1.client == client && not (nat_lt after entry.1.number)) v.handles later k d within));
         }
+
+-- and where there is no next, it has none
+pub none-above : (v : Volume) (client after : ℕ) → AreLater v client after → has_row (is_after client after) v.handles ≡ false → has_row (λ row. row.client == client) v.handles ≡ false
+none-above v client after later none = list_any_none (λ (entry : ℕ × Handle). entry.1.client == client) v.handles (λ k d within.
+    one (get_or v.handles k d).1 (none-all (λ (entry : ℕ × Handle). entry.1.client == client && not (nat_lt after entry.1.number)) v.handles later k d within)
+    (none-all (λ (entry : ℕ × Handle). is_after client after entry.1) v.handles none k d within))
+  where
+    one : (other : Handle) → (other.client == client && not (nat_lt after other.number)) ≡ false → is_after client after other ≡ false → (other.client == client) ≡ false
+    one other above not_after = false_from_ne_true _ (λ own.
+        elim (cases_Bool (nat_lt after other.number)) [
+          | inl is_above ↦ (let impossible : true ≡ false = rw (own, is_above) at not_after in absurd (cc))
+          | inr is_not ↦ (let impossible : true ≡ false = rw (own, is_not) at above in absurd (cc))
+        ])
+
+-- where no item passes that is kept, none passes of those that are kept
+any-of_kept : (test kept : ℕ × Handle → Bool) (xs : List (ℕ × Handle)) → list_any (λ x. kept x && test x) xs ≡ false → list_any test (filter kept xs) ≡ false
+any-of_kept test kept [] none = refl
+any-of_kept test kept (x ∷ xs) none = elim (cases_Bool (kept x)) [
+  | inl is_kept ↦ (elim (cases_Bool (test x)) [
+    | inl passes_it ↦ (let impossible : true ≡ false = rw (is_kept, passes_it) at none in absurd (cc))
+    | inr fails ↦ (let rest : list_any (λ x. kept x && test x) xs ≡ false = rw (is_kept, fails) at none in
+        rw (is_kept, fails) (any-of_kept test kept xs rest))
+  ])
+  | inr is_gone ↦ (let rest : list_any (λ x. kept x && test x) xs ≡ false = rw is_gone at none in
+      rw is_gone (any-of_kept test kept xs rest))
+]
+
+-- once the first is closed, the client's others are later
+pub AreLater-one : (v new : Volume) (client id number : ℕ) → IsNumbered v.handles v.last_handle → AllPairs (λ a b. is_opened_by b.1.client b.1.number a.1 ≡ false) v.handles
+    → IfSome (row_of v.handles id) (λ row. IsFirst v client row) → lives v.handles id ≡ true → IfSome (row_of v.handles id) (λ row. number ≡ row.number) → new.handles ≡ without_row v.handles id
+    → AreLater new client number
+AreLater-one v new client id number numbered differ first live counts handles = elim (option_cases (row_of v.handles id)) [
+  | inl none ↦ absurd (lives-found v.handles id live none)
+  | inr some ↦ one some.0 some.1 (rw some.1 at first) (rw some.1 at counts)
+]
+  where
+    apart : (row : Handle) (entry : ℕ × Handle) → (not (entry.0 == id) && entry.1.client == client) ≡ (entry.1.client == client && not (entry.1.number == row.number))
+        → is_after client row.number entry.1 ≡ (entry.1.client == client && not (entry.1.number == row.number)) → (not (entry.0 == id) && (entry.1.client == client && not (nat_lt row.number entry.1.number))) ≡ false
+    apart row entry others above = false_from_ne_true _ (λ both.
+        let parts = and_parts (not (entry.0 == id)) (entry.1.client == client && not (nat_lt row.number entry.1.number)) both in
+        let own = and_parts (entry.1.client == client) (not (nat_lt row.number entry.1.number)) parts.1 in
+        let after : is_after client row.number entry.1 ≡ true = above ∙ sym others ∙ and_from (not (entry.0 == id)) (entry.1.client == client) parts.0 own.0 in
+        let less = (and_parts (entry.1.client == client) (nat_lt row.number entry.1.number) after).1 in
+        let not_less : nat_lt row.number entry.1.number ≡ false = not-true (nat_lt row.number entry.1.number) own.1 in
+        cc)
+
+    one : (row : Handle) → row_of v.handles id ≡ Some row → IsFirst v client row → number ≡ row.number → AreLater new client number
+    one row found is_first is =
+        let whole : IsFirstHandle v client id row = record { numbered = numbered; differ = differ; found = found; first = is_first } in
+        let picks = first_handle_picked v client id row whole in
+        rw (handles, is) (any-of_kept (λ (entry : ℕ × Handle). entry.1.client == client && not (nat_lt row.number entry.1.number)) (λ (entry : ℕ × Handle). not (entry.0 == id)) v.handles
+        (list_any_none (λ (entry : ℕ × Handle). not (entry.0 == id) && (entry.1.client == client && not (nat_lt row.number entry.1.number))) v.handles (λ k d within.
+        apart row (get_or v.handles k d)
+        (others-first client id row (get_or v.handles k d) (only_row v id row numbered found k d within) (picks.only k d within))
+        (above-first client row (get_or v.handles k d).1
+        (none-all (λ (entry : ℕ × Handle). entry.1.client == client && nat_lt entry.1.number row.number) v.handles is_first.least k d within)))))
+
+-- where it has none of number 0 it is the next above
+AreLater-0 : (v : Volume) (client : ℕ) → handle_of v client 0 ≡ None → AreLater v client 0
+AreLater-0 v client none_0 = list_any_none (λ (entry : ℕ × Handle). entry.1.client == client && not (nat_lt 0 entry.1.number)) v.handles (λ k d within.
+    one (get_or v.handles k d).1 (number_of-none (is_opened_by client 0) v.handles none_0 k d within))
+  where
+    one : (other : Handle) → is_opened_by client 0 other ≡ false → (other.client == client && not (nat_lt 0 other.number)) ≡ false
+    one other not_0 = elim (cases_Bool (other.client == client)) [
+      | inl own ↦ (let differs : (other.number == 0) ≡ false = rw own at not_0 in
+          let not_equal : other.number ≡ 0 → ⊥ = eqb-false other.number 0 differs in
+          let above : nat_lt 0 other.number ≡ true = lt-ltb 0 other.number (omega (arith, not_equal)) in
+          rw (own, above) refl)
+      | inr foreign ↦ rw foreign refl
+    ]
 
 pub IsFirst-later : (v : Volume) (client : ℕ) (later : Option ℕ) → IsNumbered v.handles v.last_handle → AllPairs (λ a b. is_opened_by b.1.client b.1.number a.1 ≡ false) v.handles
     → handle_of v client 0 ≡ None → later ≡ next_handle_of v client 0 → IfSome later (λ id. IfSome (row_of v.handles id) (λ row. IsFirst v client row))
 IsFirst-later v client later numbered differ none_0 found = elim (option_cases later) [
   | inl none ↦ rw none tt
-  | inr some ↦ rw some.1 (IsFirst-next v client some.0 numbered differ none_0 (sym found ∙ some.1))
+  | inr some ↦ rw some.1 (IsFirst-above v client 0 some.0 numbered differ (AreLater-0 v client none_0) (sym found ∙ some.1))
 ]
 
 -- and where there is no next, it has none
 pub none_of_client : (v : Volume) (client : ℕ) → handle_of v client 0 ≡ None → has_row (is_after client 0) v.handles ≡ false → has_row (λ row. row.client == client) v.handles ≡ false
-none_of_client v client none_0 none_above = list_any_none (λ (entry : ℕ × Handle). entry.1.client == client) v.handles (λ k d within.
-    one (get_or v.handles k d).1 (number_of-none (is_opened_by client 0) v.handles none_0 k d within) (none-all (λ (entry : ℕ × Handle). is_after client 0 entry.1) v.handles none_above k d within))
-  where
-    one : (other : Handle) → is_opened_by client 0 other ≡ false → is_after client 0 other ≡ false → (other.client == client) ≡ false
-    one other not_0 not_after = false_from_ne_true _ (λ own.
-        let differs : (other.number == 0) ≡ false = rw own at not_0 in
-        let not_above : nat_lt 0 other.number ≡ false = rw own at not_after in
-        let most : other.number ≤ 0 = ltb-false 0 other.number not_above in
-        let is_0 : other.number ≡ 0 = omega (arith, most) in
-        eqb-false other.number 0 differs is_0)
+none_of_client v client none_0 none = none-above v client 0 (AreLater-0 v client none_0) none
 
 -- ---- the room that is left
 
@@ -344,6 +409,10 @@ pub record IsClosing (client : ℕ) (old now : Volume) (before spare : Spare) : 
   pub room : HasRoomForAll now spare (handles_of_client now client)
   pub ends : length now.pending ≤ spare.ends
   pub count : before.ends + length now.pending ≤ spare.ends + length old.pending
+
+-- at first none is closed
+pub IsClosing-begun : (client : ℕ) (v : Volume) (spare : Spare) → HasRoomForAll v spare (handles_of_client v client) → length v.pending ≤ spare.ends → IsClosing client v v spare spare
+IsClosing-begun client v spare room ends = record { goes = refl; clients = refl; room = room; ends = ends; count = omega arith }
 
 -- there is room for the next close
 pub IsClosing-room : (client : ℕ) (old now : Volume) (before spare : Spare) (id : ℕ) → IsClosing client old now before spare → IsNumbered now.handles now.last_handle

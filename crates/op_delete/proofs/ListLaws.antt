@@ -2,7 +2,7 @@
 use Rattle.std.proofs.Common.{◌≡◌, ℕ, zero, suc, ◌+◌, ◌<◌, ◌≤◌, Bool, true, false, cond, not, List, [], ◌∷◌, length, get_or, refl, ap, sym, ◌∙◌, arith, inl, inr, Some}
 use Rattle.std.specs.List.{All, AllPairs, filter, find, list_any}
 use Rattle.std.specs.Prelude.{◌==◌, ◌&&◌, ◌||◌, nat_lt}
-use Rattle.std.proofs.lemmas.Bool.{both_ways, cases_Bool, and_from, or_parts, not-true, ltb-false, lt-ltb, eqb-false, eqb-true, ne_eqb}
+use Rattle.std.proofs.lemmas.Bool.{both_ways, cases_Bool, and_from, or_parts, not-true, ltb-false, lt-ltb, eqb-false, eqb-true}
 use Rattle.std.proofs.lemmas.List.Folds.{list_any_none}
 use Rattle.fsa_types.specs.Rows.{row_of}
 use Rattle.fsa_types.specs.Sorting.{in_order, put_in_order}

@@ -119,8 +119,8 @@ fn room_to_leave(volume: &mut Volume, client: u32) -> Result<(), NoMemory>
     volume.reserve(&need)
 }
 
-// Closes the handle of this number, which there has to be.
-fn close_one(volume: &mut Volume, id: u64)
+// Closes the handle of this number, which there has to be, and gives the number of the call that opened it.
+fn close_one(volume: &mut Volume, id: u64) -> u32
     requires lives { IsTrue (lives volume.old.content.handles id) }
     requires ends { length volume.old.content.pending ≤ volume.old.spare.ends }
     requires room { IfSome (row_of volume.old.content.handles id) (λ row. HasSweepRoom volume.old.content volume.old.spare row) }
@@ -131,12 +131,15 @@ fn close_one(volume: &mut Volume, id: u64)
     ensures notes { NotesTakeNoMore volume.old.content volume.new.content }
     ensures count { volume.old.spare.ends + length volume.new.content.pending ≤ volume.new.spare.ends + length volume.old.content.pending }
     ensures ends { KeepsEnds volume.old volume.new }
+    ensures number { IfSome (row_of volume.old.content.handles id) (λ row. result ≡ row.number) }
 {
     let Some(row) = volume.handle(id) else {
         unreachable!()
     };
+    let number = row.number;
     let handle = bare(row);
     close(volume, id, &handle);
+    number
 }
 
 // Closes a client's handles, by rising number.
@@ -148,8 +151,12 @@ fn close_all(volume: &mut Volume, client: u32)
     ensures count { volume.old.spare.ends + length volume.new.content.pending ≤ volume.new.spare.ends + length volume.old.content.pending }
     ensures ends { KeepsEnds volume.old volume.new }
 {
-    'handles: while let Some(id) = first_handle_of(volume, client) {
-        close_one(volume, id);
+    let Some(first) = first_handle_of(volume, client) else {
+        return;
+    };
+    let mut after = close_one(volume, first);
+    'handles: while let Some(id) = volume.next_handle_of(client, after) {
+        after = close_one(volume, id);
     }
 }
 

@@ -1,16 +1,18 @@
--- As many entries as fit are among the first ones, as many as could fit at all.
-use Rattle.std.proofs.Common.{◌≡◌, ℕ, zero, suc, ◌+◌, ◌-◌, ◌*◌, ◌/◌, ◌<◌, ◌≤◌, false, List, [], ◌∷◌, length, get_or, take, map, refl, ap, sym, ◌∙◌, arith, inl, inr, Option, Some}
+-- As many entries as fit are among the first ones, once these fill the room.
+use Rattle.std.proofs.Common.{◌≡◌, ℕ, zero, suc, ◌+◌, ◌-◌, ◌*◌, ◌<◌, ◌≤◌, false, List, [], ◌∷◌, ◌++◌, length, get_or, take, map, refl, ap, sym, ◌∙◌, arith, inl, inr, ◌⊎◌, Option, Some}
 use Rattle.std.specs.Option.{option_map_or}
 use Rattle.std.specs.Prelude.{◌==◌, slice_get}
-use Rattle.std.proofs.Math.Nat.{lt-div-mul-add}
 use Rattle.std.proofs.lemmas.Bool.{cases_lt, ne_eqb}
-use Rattle.std.proofs.lemmas.List.{length-map, length-take, take-map}
+use Rattle.std.proofs.lemmas.List.{append-nil, length-map, map-append, take-append-le, take-map}
 use Rattle.fsa_types.specs.PackedRows.{PackRow, pack_kind}
-use Rattle.fsa_types.specs.Packing.{Packed, bytes, fitting, head_size, packed, rounded, size_of}
+use Rattle.fsa_types.specs.Packing.{Packed, bytes, entries_bytes, fitting, head_size, packed, rounded, size_of}
 use Rattle.fsa_types.specs.declared.reply.PackKind.{PackKind}
+use Rattle.fsa_types.specs.declared.reply.PackKind.TheVariants.{Names, Dir, Full, IdFull}
 use Rattle.fsa_types.specs.declared.request.DirKind.{DirKind}
+use Rattle.fsa_types.specs.declared.request.DirKind.TheVariants as dir
 use Rattle.fsa_model.specs.QueryDir.{Entry, entry_row, entry_rows, how_many_fit, place_after}
 use Rattle.fsa_model.specs.Volume.{Cursor, Volume}
+use Rattle.op_dir.specs.Filling.{Fills, padded, padded_size}
 use Rattle.op_dir.specs.Listing.{Lists}
 use Rattle.op_dir.specs.Places.{entry_at}
 use Rattle.op_dir.specs.declared.listing.Listing.{Listing}
@@ -18,95 +20,138 @@ use Rattle.op_dir.specs.declared.listing.Listing.TheVariants.{NoneLeft, NoneFits
 use Rattle.op_dir.specs.declared.places.Place.{Place}
 use Rattle.volume_rows.specs.Cursors.{cursor_of}
 use Rattle.volume_rows.specs.declared.cursors.Cursor.{Cursor as Stand}
-use Rattle.pack_info.proofs.PackLaws.{fit, fit-is, fit-more, fit-none, fit-within, fitting_is, rounds}
+use Rattle.pack_info.proofs.NumberLaws.{length-name_of}
+use Rattle.pack_info.proofs.PackLaws.{fit, fit-is, fit-more, fit-none, fit-within, fitting_is}
 
 -- ---- how many fit
 
--- each entry takes its head at least
-fit-taken : (kind : PackKind) (used room most : ℕ) (entries : List Packed) → room < used + most * head_size kind → fit kind used room (take most entries) ≡ fit kind used room entries
-fit-taken kind used room zero [] few = refl
-fit-taken kind used room zero (entry ∷ entries) few = sym (fit-none kind used room entry entries (omega arith))
-fit-taken kind used room (suc most) [] few = refl
-fit-taken kind used room (suc most) (entry ∷ entries) few = elim (cases_lt room (used + size_of kind entry)) [
-  | inl long ↦ fit-none kind used room entry (take most entries) long ∙ sym (fit-none kind used room entry entries long)
-  | inr fits ↦ (let more = (rounds kind (size_of kind entry)).0 in
-      fit-more kind used room entry (take most entries) fits
-      ∙ ap suc (fit-taken kind (used + rounded kind (size_of kind entry)) room most entries (omega arith))
-      ∙ sym (fit-more kind used room entry entries fits))
-]
+-- an entry of a directory has its name alone behind its head
+size-entry : (kind : DirKind) (v : Volume) (entry : Entry) → size_of (pack_kind kind) (packed (pack_kind kind) (entry_row v entry)) ≡ head_size (pack_kind kind) + 2 * length entry.name
+size-entry dir.Names v entry = omega (arith, length-name_of Names entry.name)
+size-entry dir.Dir v entry = omega (arith, length-name_of Dir entry.name)
+size-entry dir.Full v entry = omega (arith, length-name_of Full entry.name)
+size-entry dir.IdFull v entry = omega (arith, length-name_of IdFull entry.name)
+
+abbrev packed_entries : DirKind → Volume → List Entry → List Packed
+packed_entries kind v entries = map (packed (pack_kind kind)) (entry_rows v entries)
+
+-- where no other fits behind the first ones, as many fit as of these
+fit-filled : (kind : DirKind) (v : Volume) (used room : ℕ) (first rest : List Entry) → room - (used + padded_size (pack_kind kind) first) < head_size (pack_kind kind)
+    → fit (pack_kind kind) used room (packed_entries kind v first) ≡ fit (pack_kind kind) used room (packed_entries kind v (first ++ rest))
+fit-filled kind v used room [] [] full = refl
+fit-filled kind v used room [] (entry ∷ rest) full =
+    sym (fit-none (pack_kind kind) used room (packed (pack_kind kind) (entry_row v entry)) (packed_entries kind v rest) (omega (arith, full, size-entry kind v entry)))
+fit-filled kind v used room (entry ∷ first) rest full =
+    let k : PackKind = pack_kind kind in
+    let e : Packed = packed k (entry_row v entry) in
+    elim (cases_lt room (used + size_of k e)) [
+      | inl long ↦ fit-none k used room e (packed_entries kind v first) long ∙ sym (fit-none k used room e (packed_entries kind v (first ++ rest)) long)
+      | inr fits ↦ (let size : rounded k (size_of k e) ≡ padded k (length entry.name) = ap (rounded k) (size-entry kind v entry) in
+          fit-more k used room e (packed_entries kind v first) fits
+          ∙ ap suc (fit-filled kind v (used + rounded k (size_of k e)) room first rest (omega (arith, full, size)))
+          ∙ sym (fit-more k used room e (packed_entries kind v (first ++ rest)) fits))
+    ]
 
 fitting-fit : (kind : PackKind) (rows : List PackRow) (room : ℕ) → fitting kind rows room ≡ fit kind 0 room (map (packed kind) rows)
 fitting-fit kind rows room = sym (fitting_is kind rows room (fit kind 0 room (map (packed kind) rows)) (fit-is kind room (fit kind 0 room (map (packed kind) rows)) (map (packed kind) rows) refl))
 
-fitting-taken : (kind : PackKind) (rows : List PackRow) (room most : ℕ) → room < most * head_size kind → fitting kind (take most rows) room ≡ fitting kind rows room
-fitting-taken kind rows room most few =
-    fitting-fit kind (take most rows) room
-    ∙ ap (fit kind 0 room) (sym (take-map (packed kind) most rows))
-    ∙ fit-taken kind 0 room most (map (packed kind) rows) (omega arith)
-    ∙ sym (fitting-fit kind rows room)
+pub fitting-within : (kind : PackKind) (rows : List PackRow) (room : ℕ) → fitting kind rows room ≤ length rows
+fitting-within kind rows room = omega (arith, fitting-fit kind rows room, fit-within kind 0 room (map (packed kind) rows), length-map rows (packed kind))
 
-fitting-few : (kind : PackKind) (rows : List PackRow) (room most : ℕ) → room < most * head_size kind → fitting kind rows room ≤ most
-fitting-few kind rows room most few =
-    let same = sym (fitting-taken kind rows room most few) ∙ fitting-fit kind (take most rows) room in
-    let within = fit-within kind 0 room (map (packed kind) (take most rows)) in
-    let mapped : length (map (packed kind) (take most rows)) ≤ most = rw (← take-map (packed kind) most rows) (omega (arith, length-take most (map (packed kind) rows))) in
-    omega arith
+-- rows that are packed alike
+pub fitting-packed : (kind : PackKind) (rows others : List PackRow) (room : ℕ) → map (packed kind) rows ≡ map (packed kind) others → fitting kind rows room ≡ fitting kind others room
+fitting-packed kind rows others room same = fitting-fit kind rows room ∙ ap (fit kind 0 room) same ∙ sym (fitting-fit kind others room)
+
+pub bytes-packed : (kind : PackKind) (n : ℕ) (rows others : List PackRow) → map (packed kind) rows ≡ map (packed kind) others → bytes kind (take n rows) ≡ bytes kind (take n others)
+bytes-packed kind n rows others same =
+    ap (entries_bytes kind) (sym (take-map (packed kind) n rows) ∙ ap (take n) same ∙ take-map (packed kind) n others)
+
+fit-same : (v : Volume) (kind : DirKind) (first rest : List Entry) (room : ℕ) → room - padded_size (pack_kind kind) first < head_size (pack_kind kind)
+    → how_many_fit v kind first room ≡ how_many_fit v kind (first ++ rest) room
+fit-same v kind first rest room full =
+    fitting-fit (pack_kind kind) (entry_rows v first) room ∙ fit-filled kind v 0 room first rest (omega (arith, full)) ∙ sym (fitting-fit (pack_kind kind) (entry_rows v (first ++ rest)) room)
+
+fit-first : (v : Volume) (kind : DirKind) (first : List Entry) (room : ℕ) → how_many_fit v kind first room ≤ length first
+fit-first v kind first room = omega (arith, fitting-within (pack_kind kind) (entry_rows v first) room, length-map first (entry_row v))
 
 -- ---- the first of a list
 
-taken-twice : {X : Type 0} (n most : ℕ) (xs : List X) → n ≤ most → take n (take most xs) ≡ take n xs
-taken-twice zero most xs few = refl
-taken-twice (suc n) zero xs few = absurd (omega arith)
-taken-twice (suc n) (suc most) [] few = refl
-taken-twice (suc n) (suc most) (x ∷ xs) few = ap (λ rest. x ∷ rest) (taken-twice n most xs (omega arith))
-
-taken-at : {X : Type 0} (n most : ℕ) (xs : List X) → n < most → slice_get (take most xs) n ≡ slice_get xs n
-taken-at n zero xs few = absurd (omega arith)
-taken-at zero (suc most) [] few = refl
-taken-at (suc n) (suc most) [] few = refl
-taken-at zero (suc most) (x ∷ xs) few = refl
-taken-at (suc n) (suc most) (x ∷ xs) few = taken-at n most xs (omega arith)
+got-first : {X : Type 0} (n : ℕ) (xs ys : List X) → n < length xs → slice_get xs n ≡ slice_get (xs ++ ys) n
+got-first n [] ys few = absurd (omega arith)
+got-first zero (x ∷ xs) ys few = refl
+got-first (suc n) (x ∷ xs) ys few = got-first n xs ys (omega arith)
 
 nonzero : (n : ℕ) → (suc n == 0) ≡ false
 nonzero n = ne_eqb (suc n) 0 (λ e. omega (arith, e))
 
-none-taken : {X : Type 0} (most : ℕ) (xs : List X) → 1 ≤ most → (length (take most xs) == 0) ≡ (length xs == 0)
-none-taken zero xs some = absurd (omega arith)
-none-taken (suc most) [] some = refl
-none-taken (suc most) (x ∷ xs) some = nonzero (length (take most xs)) ∙ sym (nonzero (length xs))
+none-first : (kind : PackKind) (first rest : List Entry) (room : ℕ) → head_size kind ≤ room → room - padded_size kind first < head_size kind → (length first == 0) ≡ (length (first ++ rest) == 0)
+none-first kind [] rest room some full = absurd (omega arith)
+none-first kind (entry ∷ first) rest room some full = nonzero (length first) ∙ sym (nonzero (length (first ++ rest)))
 
 -- ---- what is listed
 
-rows-taken : (v : Volume) (most : ℕ) (entries : List Entry) → entry_rows v (take most entries) ≡ take most (entry_rows v entries)
-rows-taken v most entries = sym (take-map (entry_row v) most entries)
-
-fit-same : (v : Volume) (kind : DirKind) (most : ℕ) (entries : List Entry) (room : ℕ) → room < most * head_size (pack_kind kind) → how_many_fit v kind (take most entries) room ≡ how_many_fit v kind entries room
-fit-same v kind most entries room few =
-    ap (λ (rows : List PackRow). fitting (pack_kind kind) rows room) (rows-taken v most entries) ∙ fitting-taken (pack_kind kind) (entry_rows v entries) room most few
-
-pub Lists-taken : (v : Volume) (kind : DirKind) (cursor : Cursor) (most : ℕ) (entries : List Entry) (room : ℕ) (listing : Listing) → 1 ≤ most → room < most * head_size (pack_kind kind)
-    → Lists v kind cursor (take most entries) room listing → Lists v kind cursor entries room listing
-Lists-taken v kind cursor most entries room NoneLeft some few lists = sym (none-taken most entries some) ∙ lists
-Lists-taken v kind cursor most entries room NoneFits some few lists = (
-  sym (none-taken most entries some) ∙ lists.0,
-  ap (λ n. n == 0) (sym (fit-same v kind most entries room few)) ∙ lists.1,
+Lists-first : (v : Volume) (kind : DirKind) (cursor : Cursor) (first rest : List Entry) (room : ℕ) (listing : Listing) → head_size (pack_kind kind) ≤ room
+    → room - padded_size (pack_kind kind) first < head_size (pack_kind kind) → Lists v kind cursor first room listing → Lists v kind cursor (first ++ rest) room listing
+Lists-first v kind cursor first rest room NoneLeft some full lists = sym (none-first (pack_kind kind) first rest room some full) ∙ lists
+Lists-first v kind cursor first rest room NoneFits some full lists = (
+  sym (none-first (pack_kind kind) first rest room some full) ∙ lists.0,
+  ap (λ n. n == 0) (sym (fit-same v kind first rest room full)) ∙ lists.1,
 )
-Lists-taken v kind cursor most entries room (Given after made) some few lists =
-    let n : ℕ = how_many_fit v kind entries room in
-    let same : how_many_fit v kind (take most entries) room ≡ n = fit-same v kind most entries room few in
-    let within : n ≤ most = fitting-few (pack_kind kind) (entry_rows v entries) room most few in (
-      sym (none-taken most entries some) ∙ lists.0,
+Lists-first v kind cursor first rest room (Given after made) some full lists =
+    let n : ℕ = how_many_fit v kind first room in
+    let same : n ≡ how_many_fit v kind (first ++ rest) room = fit-same v kind first rest room full in
+    let within : n ≤ length first = fit-first v kind first room in
+    let given : 0 < n = zero-less n lists.1 in
+    let long : length (entry_rows v first) ≡ length first = length-map first (entry_row v) in (
+      sym (none-first (pack_kind kind) first rest room some full) ∙ lists.0,
       ap (λ n. n == 0) (sym same) ∙ lists.1,
-      lists.2 ∙ ap (place_after cursor (take most entries)) same ∙ ap (λ (o : Option Entry). option_map_or (λ entry. entry.place) o cursor) (taken-at (n - 1) most entries (omega arith)),
-      lists.3 ∙ ap (λ m. bytes (pack_kind kind) (take m (entry_rows v (take most entries)))) same
-          ∙ ap (λ (rows : List PackRow). bytes (pack_kind kind) (take n rows)) (rows-taken v most entries)
-          ∙ ap (bytes (pack_kind kind)) (taken-twice n most (entry_rows v entries) within),
+      lists.2 ∙ ap (λ (o : Option Entry). option_map_or (λ entry. entry.place) o cursor) (got-first (n - 1) first rest (omega (arith, within, given)))
+          ∙ ap (place_after cursor (first ++ rest)) same,
+      lists.3 ∙ ap (bytes (pack_kind kind)) (sym (take-append-le n (entry_rows v first) (entry_rows v rest) (omega (arith, within, long))))
+          ∙ ap (λ (rows : List PackRow). bytes (pack_kind kind) (take n rows)) (sym (map-append (entry_row v) first rest))
+          ∙ ap (λ m. bytes (pack_kind kind) (take m (entry_rows v (first ++ rest)))) same,
     )
+  where
+    zero-less : (n : ℕ) → (n == 0) ≡ false → 0 < n
+    zero-less zero some = absurd cc
+    zero-less (suc n) some = omega arith
+
+-- listing from the first entries, which fill the room, is listing from all
+pub Lists-filled : (v : Volume) (kind : DirKind) (cursor : Cursor) (first all : List Entry) (room : ℕ) (listing : Listing) → head_size (pack_kind kind) ≤ room
+    → Fills (pack_kind kind) room first all → Lists v kind cursor first room listing → Lists v kind cursor all room listing
+Lists-filled v kind cursor first all room listing some fills lists = rw fills.parts (go fills.rest fills.full)
+  where
+    go : (rest : List Entry) → (rest ≡ []) ⊎ (room - padded_size (pack_kind kind) first < head_size (pack_kind kind)) → Lists v kind cursor (first ++ rest) room listing
+    go rest (inl none) = rw (none, append-nil first) lists
+    go rest (inr full) = Lists-first v kind cursor first rest room listing some full lists
+
+-- ---- how entries fill a room
+
+pub padded_size-append : (kind : PackKind) (some more : List Entry) → padded_size kind (some ++ more) ≡ padded_size kind some + padded_size kind more
+padded_size-append kind [] more = omega arith
+padded_size-append kind (entry ∷ some) more = omega (arith, padded_size-append kind some more)
+
+-- what is left of the room behind some is at most this, so behind some more it is at most what these leave of it
+pub fills_on : (kind : PackKind) (room left behind : ℕ) (some more all : List Entry) → room - padded_size kind some ≤ left → all ≡ some ++ more → behind ≡ left - padded_size kind more → room - padded_size kind all ≤ behind
+fills_on kind room left behind some more all at_most are is = rw (are, is) (omega (arith, at_most, padded_size-append kind some more))
+
+pub fills-all : (kind : PackKind) (room : ℕ) (first rest all : List Entry) → first ++ rest ≡ all → rest ≡ [] → Fills kind room first all
+fills-all kind room first rest all parts none = record { rest = rest; parts = sym parts; full = inl none }
+
+pub fills-full : (kind : PackKind) (room left : ℕ) (first rest all : List Entry) → first ++ rest ≡ all → room - padded_size kind first ≤ left → left < head_size kind → Fills kind room first all
+fills-full kind room left first rest all parts at_most full = record { rest = rest; parts = sym parts; full = inr (omega (arith, at_most, full)) }
 
 -- ---- what was packed
 
-pub fitting-within : (kind : PackKind) (rows : List PackRow) (room : ℕ) → fitting kind rows room ≤ length rows
-fitting-within kind rows room = omega (arith, fitting-fit kind rows room, fit-within kind 0 room (map (packed kind) rows), length-map rows (packed kind))
+-- the rows of some, and of some more
+pub rows_on : (v : Volume) (kind : PackKind) (some more all : List Entry) (rows made : List PackRow) → map (packed kind) rows ≡ map (packed kind) (entry_rows v some) → all ≡ some ++ more
+    → map (packed kind) made ≡ map (packed kind) rows ++ map (packed kind) (entry_rows v more) → map (packed kind) made ≡ map (packed kind) (entry_rows v all)
+rows_on v kind some more all rows made before are is =
+    is
+    ∙ ap (λ (entries : List Packed). entries ++ map (packed kind) (entry_rows v more)) before
+    ∙ sym (map-append (packed kind) (entry_rows v some) (entry_rows v more))
+    ∙ ap (map (packed kind)) (sym (map-append (entry_row v) some more))
+    ∙ ap (λ (entries : List Entry). map (packed kind) (entry_rows v entries)) (sym are)
 
 slice_get-mapped : {X Y : Type 0} (f : X → Y) (xs : List X) (i : ℕ) (x d : X) → i < length xs → x ≡ get_or xs i d → slice_get (map f xs) i ≡ Some (f x)
 slice_get-mapped f [] i x d within is = absurd (omega arith)
@@ -119,6 +164,10 @@ pub place-given : (v : Volume) (dir : ℕ) (cursor : Cursor) (places : List Plac
 place-given v dir cursor places given place d within is =
     ap (λ (o : Option Entry). option_map_or (λ entry. entry.place) o cursor) (slice_get-mapped (entry_at v dir) places (given - 1) place d within is)
 
+pub none-given : (v : Volume) (dir : ℕ) (kind : DirKind) (places : List Place) (room count : ℕ) → (length places == 0) ≡ false → count ≡ how_many_fit v kind (map (entry_at v dir) places) room → count ≡ 0
+    → (cursor : Cursor) → Lists v kind cursor (map (entry_at v dir) places) room NoneFits
+none-given v dir kind places room count some is none cursor = (ap (λ n. n == 0) (length-map places (entry_at v dir)) ∙ some, ap (λ n. n == 0) (sym is ∙ none))
+
 pub some-given : (v : Volume) (dir : ℕ) (kind : DirKind) (places : List Place) (room count : ℕ) (place d : Place) (after : Stand) (made : List ℕ) → (length places == 0) ≡ false
     → count ≡ how_many_fit v kind (map (entry_at v dir) places) room → (count ≡ 0 → ⊥) → count - 1 < length places → place ≡ get_or places (count - 1) d
     → cursor_of after ≡ (entry_at v dir place).place → made ≡ bytes (pack_kind kind) (take count (entry_rows v (map (entry_at v dir) places)))
@@ -129,15 +178,3 @@ some-given v dir kind places room count place d after made some is more within t
   stands ∙ sym (place-given v dir cursor places count place d within there) ∙ ap (place_after cursor (map (entry_at v dir) places)) is,
   packed ∙ ap (λ n. bytes (pack_kind kind) (take n (entry_rows v (map (entry_at v dir) places)))) is,
 )
-
--- ---- how many entries are looked for
-
-some-looked : (room head least : ℕ) → room < least * head + head → head ≤ room → 2 ≤ least + 1
-some-looked room head zero over fits = absurd (omega arith)
-some-looked room head (suc least) over fits = omega arith
-
-pub looked-for : (room head most : ℕ) → 12 ≤ head → head ≤ room → most ≡ room / head + 1 → (2 ≤ most) × (room < most * head)
-looked-for room head most some fits is =
-    let positive : zero < head = omega arith in
-    let over : room < room / head * head + head = lt-div-mul-add {a = room} {b = head} positive in
-    (rw is (some-looked room head (room / head) over fits), rw is (omega (arith, over)))

@@ -1,5 +1,5 @@
 -- The entries that are still to come, as links are taken one after the other.
-use Rattle.std.proofs.Common.{◌≡◌, ℕ, ◌+◌, ◌<◌, Bool, true, List, [], ◌∷◌, ◌++◌, length, get_or, drop, map, refl, ap, sym, ◌∙◌, inl, inr, ◌⊎◌, Option, None, Some}
+use Rattle.std.proofs.Common.{◌≡◌, ℕ, ◌+◌, ◌<◌, Bool, true, List, [], ◌∷◌, ◌++◌, length, get_or, drop, map, refl, ap, sym, ◌∙◌, append_assoc, inl, inr, ◌⊎◌, Option, None, Some}
 use Rattle.std.specs.Prelude.{◌&&◌}
 use Rattle.std.specs.List.{filter}
 use Rattle.std.specs.Option.{option_map_or}
@@ -88,9 +88,17 @@ under-both v (id ∷ ids) others = go (row_of v.links id) (under-both v ids othe
     go (Some row) rest = ap (λ (links : List (ℕ × Link)). (id, row) ∷ links) rest
 
 -- one link, and then the others
-pub listed-more : (v : Volume) (expression ids : List ℕ) (i d : ℕ) → i < length ids → listed_under v expression (drop i ids) ≡ listed_under v expression (get_or ids i d ∷ []) ++ listed_under v expression (drop (i + 1) ids)
+listed-more : (v : Volume) (expression ids : List ℕ) (i d : ℕ) → i < length ids → listed_under v expression (drop i ids) ≡ listed_under v expression (get_or ids i d ∷ []) ++ listed_under v expression (drop (i + 1) ids)
 listed-more v expression ids i d within =
     at_drop_more (listed_under v expression) ids i d within
     ∙ ap (λ (links : List (ℕ × Link)). map link_entry (filter (is_listed v expression) links)) (under-both v (get_or ids i d ∷ []) (drop (i + 1) ids))
     ∙ ap (map link_entry) (filter-append (is_listed v expression) (links_under v (get_or ids i d ∷ [])) (links_under v (drop (i + 1) ids)))
     ∙ map-append link_entry (filter (is_listed v expression) (links_under v (get_or ids i d ∷ []))) (filter (is_listed v expression) (links_under v (drop (i + 1) ids)))
+
+-- one more was taken, and the others are still to come
+pub goes_on : (v : Volume) (expression ids : List ℕ) (i d : ℕ) (some more all : List Entry) → i < length ids → some ++ listed_under v expression (drop i ids) ≡ all
+    → more ≡ some ++ listed_under v expression (get_or ids i d ∷ []) → more ++ listed_under v expression (drop (i + 1) ids) ≡ all
+goes_on v expression ids i d some more all within before is =
+    rw is (append_assoc some (listed_under v expression (get_or ids i d ∷ [])) (listed_under v expression (drop (i + 1) ids)))
+    ∙ ap (λ (entries : List Entry). some ++ entries) (sym (listed-more v expression ids i d within))
+    ∙ before

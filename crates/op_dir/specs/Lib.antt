@@ -1,3 +1,4 @@
 pub mod Calls
+pub mod Filling
 pub mod Listing
 pub mod Places

@@ -1,8 +1,9 @@
 //! The layouts of entries.
 
-ghost use Rattle.std.specs.Prelude.{◌≡◌, ◌≤◌};
+ghost use Rattle.std.specs.Prelude.{◌≡◌, ◌≤◌, ◌-◌, ◌<◌, ◌^◌, length};
 ghost use Rattle.fsa_types.specs.PackedRows.{pack_kind};
 ghost use Rattle.fsa_types.specs.Packing.{head_size};
+ghost use Rattle.op_dir.specs.Filling.{padded};
 
 use fsa_types::{DirKind, PackKind};
 
@@ -29,4 +30,22 @@ pub(crate) fn head_size(kind: DirKind) -> u32
         DirKind::Full => 68,
         DirKind::IdFull => 80,
     }
+}
+
+// The bytes that an entry takes with its padding, where its name has so many units.
+fn padded(kind: DirKind, units: usize) -> usize
+    requires { units < 2 ^ 32 }
+    ensures { result ≡ padded (pack_kind kind) units }
+{
+    (head_size(kind) as usize + 2 * units + 7) / 8 * 8
+}
+
+/// The bytes that are left behind an entry of this name and its padding; 0 where it takes more than there are.
+pub(crate) fn left_behind(kind: DirKind, left: u32, units: &[u16]) -> u32
+    ensures { result ≡ left - padded (pack_kind kind) (length units.now) }
+{
+    if units.len() > left as usize {
+        return 0;
+    }
+    (left as usize).saturating_sub(padded(kind, units.len())) as u32
 }

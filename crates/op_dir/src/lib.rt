@@ -24,8 +24,9 @@
 //! - The call has to be of its verb. Nothing is asked of the volume.
 //! - All memory is taken before the enumeration goes on or a watch begins or reports; nothing else changes. A report
 //!   that exceeds its room takes none.
-//! - Entries are taken one after the other, no more than could fit into the room and one. Each costs a binary
-//!   search among the links of the volume, marked or not, and so does each that is passed over.
+//! - Links are taken one after the other, until these alone fill the room. Each costs a binary search among the links
+//!   of the volume, marked or not, and so does each that is passed over; one that is taken costs three more for its
+//!   file and two for its default stream, but for a query of names.
 //! - Where something is due, a Notify looks once over the changes that were noted since its watch began or last
 //!   reported, and a report twice; each change costs its ancestor directories and its name.
 #![tactic(auto)]

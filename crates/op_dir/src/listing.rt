@@ -1,20 +1,19 @@
 //! As many entries as fit into the room.
 
-ghost use Rattle.std.specs.Prelude.{◌≡◌, ◌≤◌, ◌<◌, ◌*◌, IfOk, map};
+ghost use Rattle.std.specs.Prelude.{◌≡◌, ◌≤◌, IfOk, map};
 ghost use Rattle.fsa_types.specs.PackedRows.{pack_kind};
-ghost use Rattle.fsa_types.specs.Packing.{head_size};
-ghost use Rattle.fsa_model.specs.QueryDir.{left_to_list};
+ghost use Rattle.fsa_types.specs.Packing.{head_size, packed};
+ghost use Rattle.fsa_model.specs.QueryDir.{entry_rows, left_to_list};
 ghost use Rattle.fsa_model.specs.Volume.{Cursor as Stand};
 ghost use Rattle.op_dir.specs.Listing.{Lists};
 ghost use Rattle.op_dir.specs.Places.{entry_at};
 ghost use Rattle.volume_rows.specs.Cursors.{cursor_of};
 
-use crate::kinds::head_size;
 use crate::places::{Place, places_left};
-use crate::rows::{cursor_after, entry_rows};
+use crate::rows::cursor_after;
 use fsa_types::{Bytes, DirKind, NoMemory};
 use name_match::Expression;
-use pack_info::pack_entries;
+use pack_info::{DirRow, pack_entries};
 use std::alloc::Global;
 use volume_state::{Cursor, Volume};
 
@@ -29,31 +28,23 @@ pub(crate) enum Listing {
     Given(Cursor, Bytes),
 }
 
-// How many entries are looked for: one more than could fit into the room.
-fn most_entries(kind: DirKind, room: u32) -> usize
-    requires room { head_size (pack_kind kind) ≤ room }
-    ensures some { 2 ≤ result }
-    ensures enough { room < result * head_size (pack_kind kind) }
-{
-    (room / head_size(kind)) as usize + 1
-}
-
-// The entries at these places, as many as fit into the room.
+// The entries at these places, of which these are the rows, as many as fit into the room.
 fn pack_places(
     alloc: Global,
     volume: &Volume,
     dir: u64,
     kind: DirKind,
     places: &[Place],
+    rows: &[DirRow],
     room: u32,
 ) -> Result<Listing, NoMemory>
+    requires rows { map (packed (pack_kind kind)) rows.now ≡ map (packed (pack_kind kind)) (entry_rows volume.now.content (map (entry_at volume.now.content dir) places.now)) }
     ensures { IfOk result (λ listing. (cursor : Stand) → Lists volume.now.content kind cursor (map (entry_at volume.now.content dir) places.now) room listing) }
 {
     if places.is_empty() {
         return Ok(Listing::NoneLeft);
     }
-    let rows = entry_rows(alloc, volume, dir, places)?;
-    let (bytes, count) = pack_entries(alloc, kind, &rows, room)?;
+    let (bytes, count) = pack_entries(alloc, kind, rows, room)?;
     if count == 0 {
         return Ok(Listing::NoneFits);
     }
@@ -76,7 +67,6 @@ pub(crate) fn list(
     requires room { head_size (pack_kind kind) ≤ room }
     ensures { IfOk result (λ listing. Lists volume.now.content kind (cursor_of cursor.now) (left_to_list volume.now.content dir expression.now (cursor_of cursor.now)) room listing) }
 {
-    let most = most_entries(kind, room);
-    let places = places_left(alloc, volume, dir, expression, cursor, most)?;
-    pack_places(alloc, volume, dir, kind, &places, room)
+    let (places, rows) = places_left(alloc, volume, dir, kind, expression, cursor, room)?;
+    pack_places(alloc, volume, dir, kind, &places, &rows, room)
 }

@@ -1,15 +1,21 @@
 //! The entries of a directory that are still to come, by where they stand.
 
-ghost use Rattle.std.specs.Prelude.{◌≡◌, ◌≤◌, ◌+◌, ◌<◌, ◌++◌, ◌∷◌, ◌&&◌, [], IfOk, OnOk, filter, length, map, take, vec_len, if◌then◌else◌};
+ghost use Rattle.std.specs.Prelude.{◌≡◌, ◌-◌, ◌++◌, ◌∷◌, ◌&&◌, [], IfOk, OnOk, filter, map, if◌then◌else◌};
+ghost use Rattle.fsa_types.specs.PackedRows.{pack_kind};
 ghost use Rattle.fsa_types.specs.Match.{matches};
-ghost use Rattle.fsa_model.specs.QueryDir.{dots, is_still_to_come, left_to_list, link_entry, listed_links, parent_directory};
+ghost use Rattle.fsa_types.specs.Packing.{packed};
+ghost use Rattle.fsa_model.specs.QueryDir.{dots, entry_rows, is_still_to_come, left_to_list, link_entry, listed_links, parent_directory};
 ghost use Rattle.fsa_model.specs.Volume.{After};
+ghost use Rattle.op_dir.specs.Filling.{Fills, padded_size};
 ghost use Rattle.op_dir.specs.Places.{dot_dot_entry, dot_entry, entry_at, is_listed, is_wanted};
 ghost use Rattle.volume_rows.specs.Cursors.{cursor_of};
 ghost use Rattle.volume_state.specs.Children.{links_under};
 
-use fsa_types::NoMemory;
+use crate::kinds::{head_size, left_behind};
+use crate::rows::{entry_rows, row_for};
+use fsa_types::{DirKind, NoMemory};
 use name_match::Expression;
+use pack_info::DirRow;
 use std::alloc::Global;
 use volume_state::{Cursor, LinkRow, Volume};
 
@@ -80,8 +86,7 @@ fn dots_left(
     expression: &Expression,
     cursor: &Cursor,
 ) -> Result<Vec<Place>, NoMemory>
-    ensures entries { IfOk result (λ places. map (entry_at volume.now.content dir) places.items ≡ filter (is_wanted volume.now.content expression.now (cursor_of cursor.now)) (dots volume.now.content dir)) }
-    ensures few { IfOk result (λ places. length places.items ≤ 2) }
+    ensures { IfOk result (λ places. map (entry_at volume.now.content dir) places.items ≡ filter (is_wanted volume.now.content expression.now (cursor_of cursor.now)) (dots volume.now.content dir)) }
 {
     let mut places = Vec::new(alloc);
     if dir == volume.root() {
@@ -119,61 +124,91 @@ fn is_listed(volume: &Volume, expression: &Expression, id: u64, link: &LinkRow) 
     !link.deleted && expression.matches(volume.table(), link.name.units())
 }
 
-// Puts a link at the end, where it lives, isn't marked and matches.
+// Puts a link at the end, where it lives, isn't marked and matches, and its row. Gives what is left of a room behind it.
 fn push_link(
+    alloc: Global,
     volume: &Volume,
     dir: u64,
+    kind: DirKind,
     expression: &Expression,
     id: u64,
+    left: u32,
     places: &mut Vec<Place>,
-) -> Result<(), NoMemory>
+    rows: &mut Vec<DirRow>,
+) -> Result<u32, NoMemory>
     ensures entries { OnOk result (map (entry_at volume.now.content dir) places.new.items ≡ map (entry_at volume.now.content dir) places.old.items ++ map link_entry (filter (is_listed volume.now.content expression.now) (links_under volume.now.content (id ∷ [])))) }
-    ensures few { OnOk result (length places.new.items ≤ length places.old.items + 1) }
+    ensures rows { OnOk result (map (packed (pack_kind kind)) rows.new.items ≡ map (packed (pack_kind kind)) rows.old.items ++ map (packed (pack_kind kind)) (entry_rows volume.now.content (map link_entry (filter (is_listed volume.now.content expression.now) (links_under volume.now.content (id ∷ [])))))) }
+    ensures left { IfOk result (λ behind. behind ≡ left - padded_size (pack_kind kind) (map link_entry (filter (is_listed volume.now.content expression.now) (links_under volume.now.content (id ∷ []))))) }
 {
     let _dir = dir;
     let Some(link) = volume.link(id) else {
-        return Ok(());
+        return Ok(left);
     };
-    let wanted = is_listed(volume, expression, id, link);
-    push_wanted(places, Place::Link(id), wanted)
+    if !is_listed(volume, expression, id, link) {
+        return Ok(left);
+    }
+    let units = link.name.units();
+    places.push(Place::Link(id))?;
+    rows.push(row_for(alloc, volume, kind, link.file, units)?)?;
+    Ok(left_behind(kind, left, units))
 }
 
-// Puts those of some links that aren't marked and match at the end, as long as there are fewer than `most` places.
+// Puts those of some links that aren't marked and match at the end, and their rows, until these links alone fill the
+// room.
 fn push_links(
+    alloc: Global,
     volume: &Volume,
     dir: u64,
+    kind: DirKind,
     expression: &Expression,
     links: &[u64],
-    most: usize,
+    room: u32,
     places: &mut Vec<Place>,
+    rows: &mut Vec<DirRow>,
 ) -> Result<(), NoMemory>
-    requires few { length places.old.items ≤ most }
-    ensures { OnOk result (map (entry_at volume.now.content dir) places.new.items ≡ take most (map (entry_at volume.now.content dir) places.old.items ++ map link_entry (filter (is_listed volume.now.content expression.now) (links_under volume.now.content links.now)))) }
+    requires rows { map (packed (pack_kind kind)) rows.old.items ≡ map (packed (pack_kind kind)) (entry_rows volume.now.content (map (entry_at volume.now.content dir) places.old.items)) }
+    ensures fills { OnOk result (Fills (pack_kind kind) room (map (entry_at volume.now.content dir) places.new.items) (map (entry_at volume.now.content dir) places.old.items ++ map link_entry (filter (is_listed volume.now.content expression.now) (links_under volume.now.content links.now)))) }
+    ensures rows { OnOk result (map (packed (pack_kind kind)) rows.new.items ≡ map (packed (pack_kind kind)) (entry_rows volume.now.content (map (entry_at volume.now.content dir) places.new.items))) }
 {
+    let mut left = room;
     'links: for id in links {
-        if places.len() >= most {
+        if left < head_size(kind) {
             return Ok(());
         }
-        push_link(volume, dir, expression, *id, places)?;
+        left = push_link(
+            alloc, volume, dir, kind, expression, *id, left, places, rows,
+        )?;
     }
     Ok(())
 }
 
-/// The first `most` entries of a directory that are still to come and match, by where they stand. `most` is 2 at
-/// least. `NoMemory` where there is none for them.
+/// The first entries of a directory that are still to come and match, by where they stand, and their rows: as many as
+/// fill the room. `NoMemory` where there is none for them.
 pub(crate) fn places_left(
     alloc: Global,
     volume: &Volume,
     dir: u64,
+    kind: DirKind,
     expression: &Expression,
     cursor: &Cursor,
-    most: usize,
-) -> Result<Vec<Place>, NoMemory>
-    requires { 2 ≤ most }
-    ensures { IfOk result (λ places. map (entry_at volume.now.content dir) places.items ≡ take most (left_to_list volume.now.content dir expression.now (cursor_of cursor.now))) }
+    room: u32,
+) -> Result<(Vec<Place>, Vec<DirRow>), NoMemory>
+    ensures fills { IfOk result (λ made. Fills (pack_kind kind) room (map (entry_at volume.now.content dir) made.0.items) (left_to_list volume.now.content dir expression.now (cursor_of cursor.now))) }
+    ensures rows { IfOk result (λ made. map (packed (pack_kind kind)) made.1.items ≡ map (packed (pack_kind kind)) (entry_rows volume.now.content (map (entry_at volume.now.content dir) made.0.items))) }
 {
     let mut places = dots_left(alloc, volume, dir, expression, cursor)?;
+    let mut rows = entry_rows(alloc, volume, dir, kind, &places)?;
     let links = links_left(volume, dir, expression, cursor);
-    push_links(volume, dir, expression, links, most, &mut places)?;
-    Ok(places)
+    push_links(
+        alloc,
+        volume,
+        dir,
+        kind,
+        expression,
+        links,
+        room,
+        &mut places,
+        &mut rows,
+    )?;
+    Ok((places, rows))
 }

@@ -1,6 +1,6 @@
 -- Laws of the first item that passes a test: what is at its place, and the list without it.
-use Rattle.std.proofs.Common.{◌≡◌, ℕ, zero, suc, ◌+◌, ◌<◌, ◌≤◌, Bool, List, [], ◌∷◌, length, get_or, drop, refl, ap, arith, inl, inr, Some, None}
-use Rattle.std.specs.List.{filter, find, remove, position, position_or_len}
+use Rattle.std.proofs.Common.{◌≡◌, ℕ, suc, ◌+◌, ◌<◌, ◌≤◌, Bool, List, [], ◌∷◌, length, get_or, refl, ap, arith, inl, inr, Some, None}
+use Rattle.std.specs.List.{find, remove, position, position_or_len}
 use Rattle.std.proofs.lemmas.Bool.{cases_Bool, cases_lt, lt-ltb, le-ltb}
 use Rattle.fsa_types.specs.Ranges.{without_first}
 
@@ -53,42 +53,4 @@ HasFirst-position p xs i d found =
           let place : position_or_len p xs ≡ i = cc in
           rw (← place) (HasFirst-within p xs d less))
       | inr past ↦ (let test = le-ltb _ _ past in let other : None ≡ Some i = rw test at found in cc)
-    ]
-
--- none passes before the place of the first that does
-pub filter-from : {A : Type 0} (p : A → Bool) (xs : List A) (i : ℕ) → position_or_len p xs ≡ i → filter p (drop i xs) ≡ filter p xs
-filter-from p [] zero is = refl
-filter-from p [] (suc i) is = refl
-filter-from p (x ∷ xs) zero is = refl
-filter-from p (x ∷ xs) (suc i) is =
-    elim (cases_Bool (p x)) [
-      | inl passes ↦ (let here = rw passes at is in absurd (omega arith))
-      | inr fails ↦ (let here = rw fails at is in rw fails (filter-from p xs i (omega arith)))
-    ]
-
--- nothing passes where none is found
-pub filter-none : {A : Type 0} (p : A → Bool) (xs : List A) → length xs ≤ position_or_len p xs → filter p xs ≡ []
-filter-none p [] past = refl
-filter-none p (x ∷ xs) past =
-    elim (cases_Bool (p x)) [
-      | inl passes ↦ (let here = rw passes at past in absurd (omega arith))
-      | inr fails ↦ (let here = rw fails at past in rw fails (filter-none p xs (omega arith)))
-    ]
-
-pub filter-position : {A : Type 0} (p : A → Bool) (xs : List A) (i : ℕ) → position p xs ≡ Some i → filter p (drop i xs) ≡ filter p xs
-filter-position p xs i found =
-    elim (cases_lt (position_or_len p xs) (length xs)) [
-      | inl less ↦ (
-          let test = lt-ltb _ _ less in
-          let here : Some (position_or_len p xs) ≡ Some i = rw test at found in
-          let place : position_or_len p xs ≡ i = cc in
-          filter-from p xs i place)
-      | inr past ↦ (let test = le-ltb _ _ past in let other : None ≡ Some i = rw test at found in cc)
-    ]
-
-pub filter-no_position : {A : Type 0} (p : A → Bool) (xs : List A) → position p xs ≡ None → filter p xs ≡ []
-filter-no_position p xs none =
-    elim (cases_lt (position_or_len p xs) (length xs)) [
-      | inl less ↦ (let test = lt-ltb _ _ less in let other : Some (position_or_len p xs) ≡ None = rw test at none in cc)
-      | inr past ↦ filter-none p xs past
     ]

@@ -1,3 +1,5 @@
 pub mod FirstLemmas
 pub mod ListedLemmas
+pub mod NumberLemmas
+pub mod PlaceLemmas
 mod RangeExamples

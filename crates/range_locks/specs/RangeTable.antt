@@ -1,5 +1,6 @@
 -- The byte-range locks of one stream in order, beside the room for more of them.
-use Rattle.std.specs.Prelude.{ℕ, Bool, List, Option, ◌==◌, map, find, filter, option_map}
+use Rattle.std.specs.Prelude.{ℕ, Bool, true, List, [], ◌∷◌, Option, None, Some, ◌≡◌, ◌<◌, ◌==◌, if◌then◌else◌, nat_lt, map, find, filter, option_map}
+use Rattle.std.specs.List.{AllPairs}
 use Rattle.fsa_types.specs.Ranges.{Lock, is_exactly, read_conflicts, write_conflicts, shared_conflicts, exclusive_conflicts}
 use Rattle.fsa_types.specs.declared.reply.Blocker.{Blocker}
 use Rattle.fsa_types.specs.declared.reply.Blocker.TheVariants.{Lock as LockOf}
@@ -42,3 +43,34 @@ first_id passes ranges = option_map (λ range. range.id) (find passes ranges)
 -- all ranges that pass the test, as what a call waits for
 abbrev pub blockers_of : (Range → Bool) → List Range → List Blocker
 blockers_of passes ranges = map lock_blocker (filter passes ranges)
+
+-- a range begins at this place
+abbrev pub begins_at : ℕ → Range → Bool
+begins_at at range = range.at == at
+
+-- both have the same ranges at each place, in the same order
+abbrev pub AreSameByPlace : List Range → List Range → Type 0
+AreSameByPlace one other = (at : ℕ) → filter (begins_at at) one ≡ filter (begins_at at) other
+
+-- each number is less than those behind it
+abbrev pub AreNumbered : List Range → Type 0
+AreNumbered ranges = AllPairs (λ one other. one.id < other.id) ranges
+
+-- a number is greater than the last one, where there is one
+abbrev pub is_behind : Option ℕ → ℕ → Bool
+is_behind None id = true
+is_behind (Some last) id = nat_lt last id
+
+-- the lesser of a number, where there is one, and another
+abbrev pub lesser : Option ℕ → ℕ → ℕ
+lesser None id = id
+lesser (Some least) id = if nat_lt id least then id else least
+
+-- the lesser of a number, where there is one, and that of a range that passes the test
+abbrev pub with_lesser : (Range → Bool) → Option ℕ → Range → Option ℕ
+with_lesser passes least range = if passes range then Some (lesser least range.id) else least
+
+-- the least of a number, where there is one, and those of the ranges that pass the test
+abbrev pub least_from : (Range → Bool) → Option ℕ → List Range → Option ℕ
+least_from passes least [] = least
+least_from passes least (range ∷ ranges) = least_from passes (with_lesser passes least range) ranges

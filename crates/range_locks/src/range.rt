@@ -66,5 +66,5 @@ impl Range {
 fn begins_before_end(place: u64, at: u64, count: u64) -> bool
     ensures { result ≡ nat_lt place (at + count) }
 {
-    u128::from(place) < u128::from(at) + u128::from(count)
+    place < at || place - at < count
 }

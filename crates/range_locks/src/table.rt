@@ -1,11 +1,15 @@
 //! The table of the ranges that are held.
 
-ghost use Rattle.std.specs.Prelude.{◌≡◌, ◌==◌, ◌≤◌, ◌+◌, ◌++◌, ◌∷◌, [], not, filter, length, count_by, position, IfOk, IsOk, OnOk, OnErr};
-ghost use Rattle.std.specs.Vec.{vec_capacity};
+ghost use Rattle.std.specs.Prelude.{◌≡◌, ◌==◌, ◌≤◌, ◌<◌, ◌+◌, ◌-◌, ◌++◌, ◌∷◌, ◌&&◌, [], List, Some, None, true, if◌then◌else◌, not, filter, find, length, count_by, position, slice_index_or, IfOk, IsOk, OnOk, OnErr};
+ghost use Rattle.std.specs.List.{list_any};
+ghost use Rattle.std.specs.List.Sorted.{IsPartitionPoint};
+ghost use Rattle.std.specs.Vec.{vec_capacity, vec_len};
 ghost use Rattle.fsa_types.specs.Ranges.{without_first};
 ghost use Rattle.fsa_types.specs.BoundedList.{full};
-ghost use Rattle.range_locks.specs.RangeTable.{conflicts, is_range, is_of, first_id, blockers_of};
+ghost use Rattle.range_locks.specs.RangeTable.{AreNumbered, AreSameByPlace, conflicts, is_range, is_of, is_behind, lesser, least_from, first_id, blockers_of};
+ghost use Rattle.range_locks.specs.declared.range.Range.{Range};
 
+use crate::places::{RangesByPlace, place_in, remove_all_of};
 use crate::range::{Range, Want};
 use fsa_types::{Blocker, BlockerList, NoMemory};
 use std::alloc::Global;
@@ -15,16 +19,22 @@ use std::marker::Model;
 #[derive(Debug, Drop)]
 pub struct RangeTable {
     ranges: Vec<Range>,
+    // The same ranges in the order of their places.
+    by_place: RangesByPlace,
+    // Each range was put in behind lesser numbers, so that their numbers tell their order.
+    rising: bool,
 }
 
 impl Model for RangeTable {
-    ghost use Rattle.range_locks.specs.RangeTable.{Ranges};
-    ghost use Rattle.std.specs.Prelude.{◌-◌};
+    ghost use Rattle.range_locks.specs.RangeTable.{AreNumbered, AreSameByPlace, Ranges};
+    ghost use Rattle.std.specs.Prelude.{◌-◌, ◌≡◌, min, true};
     ghost use Rattle.std.specs.Vec.{vec_capacity, vec_len};
 
     ghost Value = { Ranges };
 
-    ghost view = { λ t. record { ranges = t.ranges.items; room = vec_capacity t.ranges - vec_len t.ranges } };
+    ghost view = { λ t. record { ranges = t.ranges.items; room = min (vec_capacity t.ranges - vec_len t.ranges) t.by_place.room } };
+
+    ghost invariant = { λ t. AreSameByPlace t.by_place.ranges t.ranges.items × (t.rising ≡ true → AreNumbered t.ranges.items) };
 }
 
 impl RangeTable {
@@ -34,6 +44,8 @@ impl RangeTable {
     {
         RangeTable {
             ranges: Vec::new(alloc),
+            by_place: RangesByPlace::new(alloc),
+            rising: true,
         }
     }
 
@@ -56,10 +68,12 @@ impl RangeTable {
     pub fn conflict(&self, want: Want, handle: u64, at: u64, count: u64) -> Option<u64>
         ensures { result ≡ first_id (conflicts want handle at count) self.now.ranges }
     {
-        self.ranges
-            .iter()
-            .find(|range| range.conflicts(want, handle, at, count))
-            .map(|range| range.id)
+        let near = self.by_place.near(at, count);
+        if goes_by_place(self.rising, near.len(), self.ranges.len()) {
+            least_behind(near, want, handle, at, count, None)
+        } else {
+            first_of(&self.ranges, want, handle, at, count)
+        }
     }
 
     /// The numbers of all ranges that conflict with what this handle wants, in order. `NoMemory`
@@ -74,11 +88,12 @@ impl RangeTable {
     ) -> Result<BlockerList, NoMemory>
         ensures { IfOk result (λ list. list ≡ full (blockers_of (conflicts want handle at count) self.now.ranges)) }
     {
-        let Some(first) = first_conflict(&self.ranges, want, handle, at, count) else {
-            return Ok(BlockerList::with_room(alloc, 0)?);
-        };
-        let (_, ranges) = self.ranges.split_at(first);
-        listed(alloc, ranges, want, handle, at, count)
+        let near = self.by_place.near(at, count);
+        if goes_by_place(self.rising, near.len(), self.ranges.len()) {
+            listed_near(alloc, &self.ranges, near, want, handle, at, count)
+        } else {
+            listed(alloc, &self.ranges, want, handle, at, count)
+        }
     }
 
     /// Takes room for `n` ranges beside those that are held. `NoMemory` where there is none.
@@ -87,6 +102,7 @@ impl RangeTable {
         ensures room { OnOk result (n ≤ self.new.room) }
         ensures kept { self.old.room ≤ self.new.room }
     {
+        self.by_place.reserve(n)?;
         self.ranges.reserve(n)?;
         Ok(())
     }
@@ -99,7 +115,11 @@ impl RangeTable {
         ensures succeeds { 1 ≤ self.old.room → IsOk result }
         ensures left { self.old.room ≤ self.new.room + 1 }
     {
+        self.by_place.reserve(1)?;
+        let rising = stays_rising(&self.ranges, range.id, self.rising);
         self.ranges.push(range)?;
+        self.by_place.add(range);
+        self.rising = rising;
         Ok(())
     }
 
@@ -111,9 +131,12 @@ impl RangeTable {
         ensures ranges { self.new.ranges ≡ without_first (is_range handle at count) self.old.ranges }
         ensures room { self.old.room ≤ self.new.room }
     {
-        match place_of_range(&self.ranges, handle, at, count) {
+        match self.by_place.remove(handle, at, count) {
             None => None,
-            Some(place) => Some(self.ranges.remove(place).id),
+            Some(range) => {
+                remove(&mut self.ranges, handle, at, count, range.id, self.rising);
+                Some(range.id)
+            }
         }
     }
 
@@ -124,9 +147,9 @@ impl RangeTable {
         ensures ranges { self.new.ranges ≡ without_first (is_of handle) self.old.ranges }
         ensures room { self.old.room ≤ self.new.room }
     {
-        match place_of_handle(&self.ranges, handle) {
+        match first_of_handle(&self.ranges, handle) {
             None => None,
-            Some(place) => Some(self.ranges.remove(place).id),
+            Some(range) => self.remove(range.handle, range.at, range.count),
         }
     }
 
@@ -136,17 +159,89 @@ impl RangeTable {
         ensures ranges { self.new.ranges ≡ filter (λ range. not (is_of handle range)) self.old.ranges }
         ensures room { self.old.room ≤ self.new.room }
     {
-        remove_all_of(&mut self.ranges, handle);
+        if has_any_of(&self.ranges, handle) {
+            remove_all_of(&mut self.ranges, handle);
+            self.by_place.remove_all_of(handle);
+        }
     }
 }
 
-// The place of the first range that conflicts with what this handle wants.
-fn first_conflict(ranges: &[Range], want: Want, handle: u64, at: u64, count: u64) -> Option<usize>
-    ensures { result ≡ position (conflicts want handle at count) ranges.now }
+// Whether questions go by the ranges near a place: where the numbers tell the order, and these are few.
+fn goes_by_place(rising: bool, near: usize, all: usize) -> bool
+    ensures { result ≡ true → rising ≡ true }
+{
+    rising && near <= all / 4
+}
+
+// Whether numbers rose so far, and this one is greater than the last one.
+fn stays_rising(ranges: &[Range], id: u64, rising: bool) -> bool
+    ensures before { result ≡ true → rising ≡ true }
+    ensures behind { result ≡ true → (d : Range) → 0 < length ranges.now → (slice_index_or ranges.now (length ranges.now - 1) d).id < id }
+{
+    rising && is_behind_last(ranges, id)
+}
+
+// Whether a number is greater than that of the last range, where there is one.
+fn is_behind_last(ranges: &[Range], id: u64) -> bool
+    ensures { result ≡ true → (d : Range) → 0 < length ranges.now → (slice_index_or ranges.now (length ranges.now - 1) d).id < id }
+{
+    if ranges.is_empty() {
+        return true;
+    }
+    ranges[ranges.len() - 1].id < id
+}
+
+// The number of the first range that conflicts with what this handle wants.
+fn first_of(ranges: &[Range], want: Want, handle: u64, at: u64, count: u64) -> Option<u64>
+    ensures { result ≡ first_id (conflicts want handle at count) ranges.now }
 {
     ranges
         .iter()
-        .position(|range| range.conflicts(want, handle, at, count))
+        .find(|range| range.conflicts(want, handle, at, count))
+        .map(|range| range.id)
+}
+
+// The least number, greater than the last one where there is one, of a range that conflicts with what this handle
+// wants.
+fn least_behind(
+    ranges: &[Range],
+    want: Want,
+    handle: u64,
+    at: u64,
+    count: u64,
+    last: Option<u64>,
+) -> Option<u64>
+    ensures { result ≡ least_from (λ range. conflicts want handle at count range && is_behind last range.id) None ranges.now }
+{
+    let mut least = None;
+    for range in ranges {
+        let passes = range.conflicts(want, handle, at, count) && is_behind(last, range.id);
+        least = with_lesser(passes, least, range.id);
+    }
+    least
+}
+
+// Whether a number is greater than the last one, where there is one.
+fn is_behind(last: Option<u64>, id: u64) -> bool
+    ensures { result ≡ is_behind last id }
+{
+    match last {
+        None => true,
+        Some(last) => last < id,
+    }
+}
+
+// The lesser of a number, where there is one, and another that passes.
+fn with_lesser(passes: bool, least: Option<u64>, id: u64) -> Option<u64>
+    ensures { result ≡ (if passes then Some (lesser least id) else least) }
+{
+    if !passes {
+        return least;
+    }
+    match least {
+        None => Some(id),
+        Some(least) => Some(if id < least { id } else { least }),
+    }
 }
 
 // How many ranges conflict with what this handle wants.
@@ -159,8 +254,60 @@ fn count_of_conflicts(ranges: &[Range], want: Want, handle: u64, at: u64, count:
         .count()
 }
 
-// The numbers of those ranges that conflict with what this handle wants, in order. What stands behind the last of
-// them is looked at only as they are counted.
+// The numbers of those ranges that conflict with what this handle wants, in order. All that do are near, and
+// numbers tell the order. The next one is looked for among those that are near, as long as that takes fewer looks
+// than to go over all.
+fn listed_near(
+    alloc: Global,
+    ranges: &[Range],
+    near: &[Range],
+    want: Want,
+    handle: u64,
+    at: u64,
+    count: u64,
+) -> Result<BlockerList, NoMemory>
+    requires numbered { AreNumbered ranges.now }
+    requires near { AreSameByPlace (filter (conflicts want handle at count) near.now) (filter (conflicts want handle at count) ranges.now) }
+    ensures { IfOk result (λ list. list ≡ full (blockers_of (conflicts want handle at count) ranges.now)) }
+{
+    let found = count_of_conflicts(near, want, handle, at, count);
+    if found.saturating_mul(near.len()) <= ranges.len() {
+        listed_by_number(alloc, near, want, handle, at, count, found)
+    } else {
+        listed_all(alloc, ranges, want, handle, at, count, found)
+    }
+}
+
+// The numbers of those ranges near that conflict with what this handle wants, from the least. There are so many.
+fn listed_by_number(
+    alloc: Global,
+    near: &[Range],
+    want: Want,
+    handle: u64,
+    at: u64,
+    count: u64,
+    found: usize,
+) -> Result<BlockerList, NoMemory>
+    requires { found ≡ count_by (conflicts want handle at count) near.now }
+    ensures { (ranges : List Range) → AreNumbered ranges → AreSameByPlace (filter (conflicts want handle at count) near.now) (filter (conflicts want handle at count) ranges)
+        → IfOk result (λ list. list ≡ full (blockers_of (conflicts want handle at count) ranges)) }
+{
+    let Ok(room) = u32::try_from(found) else {
+        return Err(NoMemory);
+    };
+    let mut list = BlockerList::with_room(alloc, room)?;
+    let mut last = None;
+    for _ in 0..found {
+        let Some(id) = least_behind(near, want, handle, at, count, last) else {
+            return Ok(list);
+        };
+        list.push(Blocker::Lock(id));
+        last = Some(id);
+    }
+    Ok(list)
+}
+
+// The numbers of those ranges that conflict with what this handle wants, in order.
 fn listed(
     alloc: Global,
     ranges: &[Range],
@@ -172,6 +319,23 @@ fn listed(
     ensures { IfOk result (λ list. list ≡ full (blockers_of (conflicts want handle at count) ranges.now)) }
 {
     let found = count_of_conflicts(ranges, want, handle, at, count);
+    listed_all(alloc, ranges, want, handle, at, count, found)
+}
+
+// The numbers of those ranges that conflict with what this handle wants, in order. There are so many. What stands
+// behind the last of them isn't looked at.
+fn listed_all(
+    alloc: Global,
+    ranges: &[Range],
+    want: Want,
+    handle: u64,
+    at: u64,
+    count: u64,
+    found: usize,
+) -> Result<BlockerList, NoMemory>
+    requires { found ≡ count_by (conflicts want handle at count) ranges.now }
+    ensures { IfOk result (λ list. list ≡ full (blockers_of (conflicts want handle at count) ranges.now)) }
+{
     let Ok(room) = u32::try_from(found) else {
         return Err(NoMemory);
     };
@@ -187,22 +351,49 @@ fn listed(
     Ok(list)
 }
 
-// Takes all ranges of this handle out.
-fn remove_all_of(ranges: &mut Vec<Range>, handle: u64)
-    ensures ranges { ranges.new.items ≡ filter (λ range. not (is_of handle range)) ranges.old.items }
-    ensures few { length ranges.new.items ≤ length ranges.old.items }
-    ensures room { vec_capacity ranges.new ≡ vec_capacity ranges.old }
+// Takes the first range of this handle with exactly this place and count out, which has this number.
+fn remove(ranges: &mut Vec<Range>, handle: u64, at: u64, count: u64, id: u64, rising: bool)
+    requires numbered { rising ≡ true → AreNumbered ranges.old.items }
+    requires first { first_id (is_range handle at count) ranges.old.items ≡ Some id }
+    ensures ranges { ranges.new.items ≡ without_first (is_range handle at count) ranges.old.items }
+    ensures room { vec_capacity ranges.old - vec_len ranges.old ≤ vec_capacity ranges.new - vec_len ranges.new }
 {
-    ranges.retain(|range| range.handle != handle);
+    let place = place_of(ranges, handle, at, count, id, rising);
+    let _ = ranges.remove(place);
 }
 
-// The place of the first range of this handle with exactly this place and count.
-fn place_of_range(ranges: &[Range], handle: u64, at: u64, count: u64) -> Option<usize>
-    ensures { result ≡ position (is_range handle at count) ranges.now }
+// The place of the first range of this handle with exactly this place and count, which has this number.
+fn place_of(ranges: &[Range], handle: u64, at: u64, count: u64, id: u64, rising: bool) -> usize
+    requires numbered { rising ≡ true → AreNumbered ranges.now }
+    requires first { first_id (is_range handle at count) ranges.now ≡ Some id }
+    ensures { position (is_range handle at count) ranges.now ≡ Some result }
 {
-    ranges
-        .iter()
-        .position(|range| range.is_exactly(handle, at, count))
+    if rising {
+        return begin_of_number(ranges, id);
+    }
+    let Some(place) = place_in(ranges, handle, at, count) else {
+        unreachable!()
+    };
+    place
+}
+
+// Where the ranges of lesser numbers end.
+fn begin_of_number(ranges: &[Range], id: u64) -> usize
+    requires rising { AreNumbered ranges.now }
+    ensures bound { result ≤ length ranges.now }
+    ensures point { IsPartitionPoint (λ range. range.id < id) (λ range. id ≤ range.id) ranges.now result }
+{
+    ranges.partition_point(|range| range.id < id)
+}
+
+// The first range of this handle.
+fn first_of_handle(ranges: &[Range], handle: u64) -> Option<Range>
+    ensures { result ≡ find (is_of handle) ranges.now }
+{
+    match place_of_handle(ranges, handle) {
+        None => None,
+        Some(place) => Some(ranges[place]),
+    }
 }
 
 // The place of the first range of this handle.
@@ -210,4 +401,11 @@ fn place_of_handle(ranges: &[Range], handle: u64) -> Option<usize>
     ensures { result ≡ position (is_of handle) ranges.now }
 {
     ranges.iter().position(|range| range.handle == handle)
+}
+
+// Whether there is a range of this handle.
+fn has_any_of(ranges: &[Range], handle: u64) -> bool
+    ensures { result ≡ list_any (is_of handle) ranges.now }
+{
+    ranges.iter().any(|range| range.handle == handle)
 }

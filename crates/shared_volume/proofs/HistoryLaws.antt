@@ -86,6 +86,10 @@ next-numbered entries entry numbered next client number =
           rw own (omega arith))
     ])
 
+-- no turns are a history
+pub history-none : (setup : Setup) (entries : List HistoryEntry) → entries ≡ [] → IsMachineHistory setup entries
+history-none setup entries none = rw none (record { runs = refl; numbered = λ client number. grind (arith, nat_tests); few = omega arith })
+
 -- a history with one turn more is one
 pub history-grows : (setup : Setup) (entries longer : List HistoryEntry) (entry : HistoryEntry) (out : TurnOut) → IsMachineHistory setup entries → longer ≡ entries ++ entry ∷ []
     → entry.call.number ≡ calls_of entry.call.client (calls_in entries) + 1 → GaveOut setup longer out → length entries ≢ most_entries → IsMachineHistory setup longer

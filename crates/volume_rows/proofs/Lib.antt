@@ -1,3 +1,2 @@
 pub mod ChangeLemmas
 pub mod FileLemmas
-pub mod NextLemmas

@@ -4,6 +4,5 @@ pub mod Effects
 pub mod Enumerated
 pub mod Infos
 pub mod Links
-pub mod NextHandle
 pub mod Noting
 pub mod Streams

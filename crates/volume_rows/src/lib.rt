@@ -15,14 +15,13 @@
 //! ```
 //!
 //! The calls group so: links (`LinksByFile`, `is_at_or_below`); files (`FileRow::set_basic`,
-//! `set_owner`, `set_dacl`, `set_point`); handles (`is_opened_by`, `find_next`,
-//! `count_on`, `is_one_of`, `is_clashing`, `some_clashes`) and their enumerations (`Enumeration`,
-//! `Cursor`); streams (`is_stream_named`, and `StreamRow` with its bytes in the pages of
-//! `stream_pages`); the space that streams take (`clusters_of`) and what an owner may be
-//! charged (`find_limit`); oplocks (`effect`, `is_awaited`, `in_both`, `is_within`, `is_same_key`, `is_oplock_of`,
-//! `find_break`, `find_target`);
-//! pending calls (`find_pending`, `find_next_pending`, `is_call`); and changes noted (`Changes`), in the log
-//! of `notify_queue`.
+//! `set_owner`, `set_dacl`, `set_point`); handles (`is_opened_by`, `count_on`,
+//! `is_one_of`, `is_clashing`, `some_clashes`) and their enumerations (`Enumeration`, `Cursor`); streams
+//! (`is_stream_named`, and `StreamRow` with its bytes in the pages of `stream_pages`); the space that streams
+//! take (`clusters_of`) and what an owner may be charged (`find_limit`); oplocks (`effect`, `is_awaited`,
+//! `in_both`, `is_within`, `is_same_key`, `is_oplock_of`, `find_break`, `find_target`); pending calls
+//! (`find_pending`, `find_next_pending`, `is_call`); and changes noted (`Changes`), in the log of
+//! `notify_queue`.
 //!
 //! Contracts see a row as the row of `fsa_model`'s record, a stream beside the room that was taken for
 //! its bytes, and the changes that were noted beside the room for more.
@@ -54,7 +53,7 @@ pub use growth::clusters_of;
 pub use handles::is_opened_by;
 pub use links::LinksByFile;
 pub use noting::Changes;
-pub use opens::{count_on, find_next, is_at_or_below, is_clashing, is_one_of, some_clashes};
+pub use opens::{count_on, is_at_or_below, is_clashing, is_one_of, some_clashes};
 pub use rows::{FileRow, HandleRow, LinkRow, Need, StreamInfo, StreamRow};
 pub use streams::is_stream_named;
 pub use waiting::{

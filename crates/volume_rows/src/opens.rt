@@ -1,13 +1,10 @@
 //! Handles of a stream, of a link, or below a directory.
 
-ghost use Rattle.std.specs.Prelude.{ℕ, ◌≡◌, ◌==◌, ◌&&◌, not, nat_lt, length, filter, find, option_map, Some};
+ghost use Rattle.std.specs.Prelude.{◌≡◌, ◌==◌, ◌&&◌, length, filter, Some};
 ghost use Rattle.std.specs.List.{list_any};
-ghost use Rattle.std.specs.Option.{option_copied};
 ghost use Rattle.fsa_types.specs.Oplocks.{is_same_key};
-ghost use Rattle.fsa_types.specs.Rows.{row_of};
 ghost use Rattle.fsa_types.specs.Sharing.{clash};
-ghost use Rattle.volume_rows.specs.NextHandle.{lesser_of, next_of, next_with};
-ghost use Rattle.fsa_model.specs.Lookups.{has_row, is_after, is_at_or_below, is_below, is_one_of, is_open_on, leads_to};
+ghost use Rattle.fsa_model.specs.Lookups.{has_row, is_at_or_below, is_below, is_one_of, is_open_on, leads_to};
 
 use crate::effects::is_same_key;
 use crate::links::LinksByFile;
@@ -93,61 +90,4 @@ pub fn some_clashes(
     handles
         .iter()
         .any(|entry| is_clashing(links, on, access, share, &entry.1))
-}
-
-// Whether a handle is the client's, with a number above this one.
-fn is_after(client: u32, after: u32, handle: &HandleRow) -> bool
-    ensures { result ≡ is_after client after handle.now }
-{
-    handle.client == client && handle.number > after
-}
-
-// Of a handle and that one, where there is one, the one of the lesser number.
-fn lesser_of<'a>(
-    entry: &'a (u64, HandleRow),
-    first: Option<&'a (u64, HandleRow)>,
-) -> &'a (u64, HandleRow)
-    ensures { result.now ≡ lesser_of entry.now (option_copied first.entry) }
-{
-    match first {
-        Some(other) if other.1.number < entry.1.number => other,
-        _ => entry,
-    }
-}
-
-// The next so far, and this handle where it is one of the client's above `after`.
-fn next_with<'a>(
-    client: u32,
-    after: u32,
-    entry: &'a (u64, HandleRow),
-    first: Option<&'a (u64, HandleRow)>,
-) -> Option<&'a (u64, HandleRow)>
-    ensures { option_copied result ≡ next_with client after entry.now (option_copied first.entry) }
-{
-    if is_after(client, after, &entry.1) {
-        Some(lesser_of(entry, first))
-    } else {
-        first
-    }
-}
-
-// The client's handle of the least number above `after`, with its own number.
-fn next_of(handles: &[(u64, HandleRow)], client: u32, after: u32) -> Option<&(u64, HandleRow)>
-    ensures { option_copied result ≡ next_of client after handles.now }
-{
-    let mut first = None;
-    for place in (0..handles.len()).rev() {
-        first = next_with(client, after, &handles[place], first);
-    }
-    first
-}
-
-/// The client's first handle above `after`.
-pub fn find_next(handles: &[(u64, HandleRow)], client: u32, after: u32) -> Option<u64>
-    ensures { result ≡ option_map (λ entry. entry.0) (find (λ entry. is_after client after entry.1 && not (has_row (λ other. is_after client after other && nat_lt other.number entry.1.number) handles.now)) handles.now) }
-{
-    match next_of(handles, client, after) {
-        None => None,
-        Some(entry) => Some(entry.0),
-    }
 }

@@ -1,6 +1,6 @@
 -- Streams in the order of their names: what comes after a name, and that a walk from name to name meets each stream once.
-use Rattle.std.proofs.Common.{◌≡◌, ◌∙◌, ℕ, suc, ◌+◌, ◌-◌, ◌<◌, ◌≤◌, Bool, true, false, List, [], ◌∷◌, Option, Some, None, drop, get_or, length, refl, sym, ap, subst, inl, inr, ◌⊎◌, arith}
-use Rattle.std.specs.Prelude.{◌==◌, ◌&&◌, not, filter, find, map, option_map, slice_get, All, AllPairs, IfSome, IfNone}
+use Rattle.std.proofs.Common.{◌≡◌, ◌∙◌, ℕ, suc, Bool, true, false, List, [], ◌∷◌, Option, Some, None, get_or, refl, sym, ap, subst, inl, inr, ◌⊎◌, arith}
+use Rattle.std.specs.Prelude.{◌==◌, ◌&&◌, not, filter, find, option_map, slice_get, All, AllPairs, IfSome, IfNone}
 use Rattle.std.specs.Option.{option_map_or}
 use Rattle.std.specs.Ordering.{is_lt, is_eq, ordering_reverse}
 use Rattle.std.specs.declared.cmp.Ordering.{Ordering}
@@ -8,9 +8,7 @@ use Rattle.std.specs.declared.cmp.Ordering.TheVariants.{Less, Equal, Greater}
 use Rattle.std.specs.Cmp.Lexicographic.{texts_ties}
 use Rattle.std.proofs.lemmas.Bool.{cases_Bool, and_parts, eqb-true, eq-eqb}
 use Rattle.std.proofs.lemmas.Cmp.{nat_list_cmp_total, tied_itself}
-use Rattle.std.proofs.lemmas.Option.{slice_get-map}
 use Rattle.std.proofs.lemmas.List.Elements.{All-cons, All-filter, filter_passes}
-use Rattle.std.proofs.lemmas.List.{drop_more}
 use Rattle.std.proofs.lemmas.List.Kept.{AllPairs-filter}
 use Rattle.fsa_types.specs.CaseTable.{cmp_name, same_name, upcased}
 use Rattle.fsa_types.specs.Rows.{row_of, lives}
@@ -22,8 +20,8 @@ use Rattle.fsa_model.specs.Shown.{default_stream}
 use Rattle.fsa_model.specs.Sound.{IsSound}
 use Rattle.fsa_model.specs.Volume.{Stream, Volume}
 use Rattle.fsa_model.proofs.RowLaws.{find-all, row_of-here}
-use Rattle.volume_rows.specs.Streams.{StreamRowView, streams_in}
-use Rattle.volume_state.specs.InOrder.{first_of, is_kept_before, is_stream_after, stream_after, streams_after}
+use Rattle.volume_tables.specs.StreamOrder.{is_stream_after}
+use Rattle.volume_state.specs.InOrder.{stream_after, streams_after}
 
 -- ---- filters
 
@@ -58,27 +56,7 @@ filter-all : {T : Type 0} (test : T → Bool) (items : List T) → All (λ item.
 filter-all test [] all = refl
 filter-all test (item ∷ items) all = rw (all 0 item (omega arith)) (ap (λ rest. item ∷ rest) (filter-all test items (λ k d within. all (suc k) d (omega arith))))
 
-filter-map : {S T : Type 0} (test : T → Bool) (view : S → T) (items : List S) → filter test (map view items) ≡ map view (filter (λ item. test (view item)) items)
-filter-map test view [] = refl
-filter-map test view (item ∷ items) = elim (cases_Bool (test (view item))) [
-  | inl passes ↦ rw passes (ap (λ rest. view item ∷ rest) (filter-map test view items))
-  | inr fails ↦ rw fails (filter-map test view items)
-]
-
 -- ---- items in order
-
-put-map : {S T : Type 0} (before : T → T → Bool) (view : S → T) (item : S) (items : List S)
-    → put_in_order before (view item) (map view items) ≡ map view (put_in_order (λ one other. before (view one) (view other)) item items)
-put-map before view item [] = refl
-put-map before view item (first ∷ items) = elim (cases_Bool (before (view item) (view first))) [
-  | inl earlier ↦ rw earlier refl
-  | inr later ↦ rw later (ap (λ rest. view first ∷ rest) (put-map before view item items))
-]
-
-in_order-map : {S T : Type 0} (before : T → T → Bool) (view : S → T) (items : List S) → in_order before (map view items) ≡ map view (in_order (λ one other. before (view one) (view other)) items)
-in_order-map before view [] = refl
-in_order-map before view (item ∷ items) =
-    ap (put_in_order before (view item)) (in_order-map before view items) ∙ put-map before view item (in_order (λ one other. before (view one) (view other)) items)
 
 -- what comes after an item that passes, passes
 abbrev IsClosed : {T : Type 0} → (T → T → Bool) → (T → Bool) → Type 0
@@ -301,23 +279,6 @@ streams_of-first v file sound =
 
 -- ---- what is looked up
 
-seen-first : (o : Option (ℕ × StreamRowView)) → option_map (λ (entry : ℕ × Stream). entry.0) (option_map (λ (entry : ℕ × StreamRowView). (entry.0, entry.1.stream)) o) ≡ option_map (λ (entry : ℕ × StreamRowView). entry.0) o
-seen-first None = refl
-seen-first (Some entry) = refl
-
--- the first of the streams beside their room is that of the streams
-pub stream_after-kept : (table : List (ℕ × ℕ)) (file : ℕ) (units : List ℕ) (rows : List (ℕ × StreamRowView))
-    → option_map (λ (entry : ℕ × Stream). entry.0) (slice_get (in_order (is_stream_before table) (filter (λ (entry : ℕ × Stream). is_stream_after table file units entry.1) (streams_in rows))) 0)
-    ≡ option_map (λ (entry : ℕ × StreamRowView). entry.0) (slice_get (in_order (is_kept_before table) (filter (λ (entry : ℕ × StreamRowView). is_stream_after table file units entry.1.stream) rows)) 0)
-stream_after-kept table file units rows =
-    let seen : ℕ × StreamRowView → ℕ × Stream = λ entry. (entry.0, entry.1.stream) in
-    let kept : List (ℕ × StreamRowView) = filter (λ entry. is_stream_after table file units entry.1.stream) rows in
-    let moved : in_order (is_stream_before table) (filter (λ (entry : ℕ × Stream). is_stream_after table file units entry.1) (map seen rows)) ≡ map seen (in_order (is_kept_before table) kept)
-    = ap (in_order (is_stream_before table)) (filter-map (λ entry. is_stream_after table file units entry.1) seen rows) ∙ in_order-map (is_stream_before table) seen kept in
-    ap (λ (l : List (ℕ × Stream)). option_map (λ (entry : ℕ × Stream). entry.0) (slice_get l 0)) moved
-    ∙ ap (option_map (λ (entry : ℕ × Stream). entry.0)) (slice_get-map seen (in_order (is_kept_before table) kept) 0)
-    ∙ seen-first (slice_get (in_order (is_kept_before table) kept) 0)
-
 rows-found : (v : Volume) → IsSound v → All (λ (entry : ℕ × Stream). row_of v.streams entry.0 ≡ Some entry.1) v.streams
 rows-found v sound k d within = row_of-here v.streams v.last_stream k d sound.streams_numbered within
 
@@ -381,35 +342,3 @@ default-none v file sound = go (find (λ entry. is_stream_named v.table file [] 
         → IfNone (option_map (λ (entry : ℕ × Stream). entry.0) o) (streams_of v file ≡ streams_after v file [])
     go None is = is
     go (Some entry) is = tt
-
--- ---- a look at each item, from the last to the first
-
--- the first of a list that an item was put into
-first-put : {T : Type 0} (before : T → T → Bool) (test : T → Bool) (item : T) (items : List T) → test item ≡ true
-    → slice_get (put_in_order before item items) 0 ≡ first_of before test item (slice_get items 0)
-first-put before test item [] passes = rw passes refl
-first-put before test item (first ∷ items) passes = elim (cases_Bool (before item first)) [
-  | inl earlier ↦ rw (passes, earlier) refl
-  | inr later ↦ rw (passes, later) refl
-]
-
-fails-first : {T : Type 0} (before : T → T → Bool) (test : T → Bool) (item : T) (items : List T) → test item ≡ false
-    → slice_get items 0 ≡ first_of before test item (slice_get items 0)
-fails-first before test item [] fails = rw fails refl
-fails-first before test item (first ∷ items) fails = rw fails refl
-
-first-more : {T : Type 0} (before : T → T → Bool) (test : T → Bool) (item : T) (items : List T)
-    → slice_get (in_order before (filter test (item ∷ items))) 0 ≡ first_of before test item (slice_get (in_order before (filter test items)) 0)
-first-more before test item items = elim (cases_Bool (test item)) [
-  | inl passes ↦ rw passes (first-put before test item (in_order before (filter test items)) passes)
-  | inr fails ↦ rw fails (fails-first before test item (in_order before (filter test items)) fails)
-]
-
--- as the items are looked at from the last to the first
-pub first-earlier : {T : Type 0} (before : T → T → Bool) (test : T → Bool) (items : List T) (place : ℕ) (item : T) → 0 < place → place ≤ length items
-    → item ≡ get_or items (place - 1) item
-    → first_of before test item (slice_get (in_order before (filter test (drop place items))) 0) ≡ slice_get (in_order before (filter test (drop (place - 1) items))) 0
-first-earlier before test items place item above within is =
-    let next : place - 1 + 1 ≡ place = omega (arith, above) in
-    let starts : drop (place - 1) items ≡ item ∷ drop place items = drop_more items (place - 1) item (omega (arith, above, within)) ∙ (λ i. sym is i ∷ drop (next i) items) in
-    sym (ap (λ rest. slice_get (in_order before (filter test rest)) 0) starts ∙ first-more before test item (drop place items))

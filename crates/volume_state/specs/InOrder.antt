@@ -1,29 +1,12 @@
 -- The streams of a file in the order of their upcased names, from a name on.
-use Rattle.std.specs.Prelude.{ℕ, Bool, ◌==◌, ◌&&◌, List, Option, Some, None, filter, option_map, slice_get, if◌then◌else◌}
-use Rattle.std.specs.Ordering.{is_lt}
-use Rattle.fsa_types.specs.CaseTable.{cmp_name}
-use Rattle.fsa_types.specs.Sorting.{in_order}
-use Rattle.fsa_model.specs.QueryInfo.{is_stream_before}
+use Rattle.std.specs.Prelude.{ℕ, List, Option}
 use Rattle.fsa_model.specs.Volume.{Stream, Volume}
-use Rattle.volume_rows.specs.Streams.{StreamRowView}
-
--- a stream of this file whose name comes after this one
-abbrev pub is_stream_after : List (ℕ × ℕ) → ℕ → List ℕ → Stream → Bool
-is_stream_after table file units stream = stream.file == file && is_lt (cmp_name table units stream.name)
+use Rattle.volume_tables.specs.StreamOrder.{number_after, rows_after}
 
 -- the streams of the file whose names come after this one, in order
 abbrev pub streams_after : Volume → ℕ → List ℕ → List (ℕ × Stream)
-streams_after v file units = in_order (is_stream_before v.table) (filter (λ entry. is_stream_after v.table file units entry.1) v.streams)
+streams_after v file units = rows_after v.table file units v.streams
 
 -- the number of the first of them
 abbrev pub stream_after : Volume → ℕ → List ℕ → Option ℕ
-stream_after v file units = option_map (λ entry. entry.0) (slice_get (streams_after v file units) 0)
-
--- one stream's name comes before another's, each beside its room
-abbrev pub is_kept_before : List (ℕ × ℕ) → ℕ × StreamRowView → ℕ × StreamRowView → Bool
-is_kept_before table one other = is_lt (cmp_name table one.1.stream.name other.1.stream.name)
-
--- the first in an order of the items that pass, where this one was the first of some, and `item` is one more
-abbrev pub first_of : {T : Type 0} → (T → T → Bool) → (T → Bool) → T → Option T → Option T
-first_of before test item None = if test item then Some item else None
-first_of before test item (Some first) = if test item && before item first then Some item else Some first
+stream_after v file units = number_after v.table file units v.streams

@@ -8,7 +8,6 @@ ghost use Rattle.fsa_model.specs.Lookups.{handles_on, has_row, is_after, is_belo
 
 use crate::volume::Volume;
 use fsa_types::HandleSet;
-use volume_rows::find_next;
 
 impl Volume {
     /// How many handles of the set there are.
@@ -39,6 +38,6 @@ impl Volume {
         // A client and a number name one handle.
         ensures differ { AllPairs (λ a b. is_opened_by b.1.client b.1.number a.1 ≡ false) self.now.content.handles }
     {
-        find_next(self.handles.as_slice(), client, after)
+        self.handles.next_of(client, after)
     }
 }

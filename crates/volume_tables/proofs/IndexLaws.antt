@@ -11,8 +11,8 @@ use Rattle.fsa_model.specs.Lookups.{is_one_of, is_open_on, is_opened_by, number_
 use Rattle.fsa_model.specs.Volume.{Handle, Link}
 use Rattle.fsa_types.specs.declared.oplock.HandleSet.TheVariants as set
 use Rattle.key_index.specs.Index.{entries_of}
-use Rattle.key_index.specs.RowsByKey.{IsIndexOf, row_passes}
-use Rattle.key_index.proofs.RowLaws.{index-any, index-changed, index-counted, index-found}
+use Rattle.key_index.specs.RowsByKey.{IsIndexOf, row_passes, rows_at}
+use Rattle.key_index.proofs.RowLaws.{index-any, index-changed, index-counted, index-found, index-listed}
 use Rattle.volume_tables.specs.HandleIndex.{AreIndexed, IndexedHandles, call_key, stream_key, link_key}
 
 module _ {R : Type 0} (key : R → ℕ) (k : ℕ) (p : R → Bool) (only : (row : R) → p row ≡ true → (key row == k) ≡ true) where
@@ -52,6 +52,9 @@ module _ {R : Type 0} (key : R → ℕ) (k : ℕ) (p : R → Bool) (only : (row 
 
     pub count-by_key : length (filter (λ row. p row.1) rows) ≡ length (filter (row_passes rows (λ row. p row.1)) (entries_of entries k))
     count-by_key = ap length (sym (filter-also rows)) ∙ index-counted key rows last entries k (λ row. p row.1) numbered index
+
+    pub list-by_key : filter (λ row. p row.1) rows ≡ filter (λ row. p row.1) (rows_at rows (entries_of entries k))
+    list-by_key = sym (filter-also rows) ∙ index-listed key rows last entries k (λ row. p row.1) numbered index
 
 -- the same of a test that looks at the number too
 module _ {R : Type 0} (key : R → ℕ) (k : ℕ) (test : ℕ × R → Bool) (only : (row : ℕ × R) → test row ≡ true → (key row.1 == k) ≡ true) where

@@ -4,6 +4,8 @@ pub mod IndexLaws
 pub mod LockLemmas
 pub mod MovedLemmas
 pub mod NameLemmas
+pub mod NextLemmas
+pub mod OrderLemmas
 pub mod PlaceLemmas
 pub mod RangeLemmas
 pub mod RoomLemmas

@@ -1,8 +1,8 @@
 -- The locks on a stream, as handles and locks are added and taken out.
-use Rattle.std.proofs.Common.{◌≡◌, ℕ, suc, ◌+◌, ◌<◌, ◌≤◌, true, false, not, List, [], ◌∷◌, ◌++◌, get_or, refl, ap, sym, ◌∙◌, arith, inl, inr, Option, Some, None, eq-eqb}
-use Rattle.std.specs.List.{filter, All, find}
+use Rattle.std.proofs.Common.{◌≡◌, ℕ, suc, ◌+◌, ◌<◌, ◌≤◌, Bool, true, false, not, List, [], ◌∷◌, ◌++◌, get_or, refl, ap, sym, ◌∙◌, arith, inl, inr, Option, Some, None, eq-eqb}
+use Rattle.std.specs.List.{filter, All, find, list_any}
 use Rattle.std.specs.Option.{option_map_or}
-use Rattle.std.specs.Prelude.{◌==◌, map, is_some, if◌then◌else◌}
+use Rattle.std.specs.Prelude.{◌==◌, map, is_some, IfSome, IfNone, if◌then◌else◌}
 use Rattle.std.proofs.lemmas.Bool.{cases_Bool, eqb-true, both_ways, ne_eqb, and_parts, not-true}
 use Rattle.std.proofs.lemmas.List.{append-nil, map-append}
 use Rattle.std.proofs.lemmas.List.Elements.{filter-append, All-push, All-filter, filter_passes}
@@ -12,8 +12,9 @@ use Rattle.fsa_types.proofs.RowLemmas.{AreRising, AreRising-rest, AreRising-firs
 use Rattle.fsa_model.specs.Edits.{is_lock_on}
 use Rattle.fsa_model.specs.Lookups.{is_open_on, number_of}
 use Rattle.fsa_model.specs.Volume.{Handle, Lock}
-use Rattle.fsa_model.proofs.RowLaws.{any-filter, any-map, any-push, any-same, change_at, change_at-number, find-all, option_cases, eqb-swap}
-use Rattle.range_locks.specs.RangeTable.{Ranges, is_of, is_range}
+use Rattle.fsa_model.proofs.RowLaws.{any-filter, any-map, any-push, any-same, change_at, change_at-number, find-all, option_cases, option_map-none, eqb-swap}
+use Rattle.range_locks.specs.RangeTable.{Ranges, first_id, is_of, is_range}
+use Rattle.range_locks.specs.declared.range.Range.{Range}
 use Rattle.volume_tables.specs.Ranges.{ranges_in, room_at, AreSetIn}
 use Rattle.volume_tables.specs.HandleTable.{stream_of_handle, is_on_stream, range_of_lock, ranges_on, AreTabled, HaveRoom}
 use Rattle.volume_tables.specs.Rooms.{IsOneTaken}
@@ -122,6 +123,31 @@ is_on-stream_of handles handle stream =
       | inl none ↦ rw none refl
       | inr some ↦ rw some.1 refl
     ]
+
+-- where a handle's stream has no range of it, no lock is its
+pub none-locked : (handles : List (ℕ × Handle)) (locks : List (ℕ × Lock)) (gone own : ℕ) → stream_of_handle handles gone ≡ Some own → list_any (is_of gone) (ranges_on handles locks own) ≡ false
+    → filter (λ entry. not (entry.1.handle == gone)) locks ≡ locks
+none-locked handles [] gone own is none = refl
+none-locked handles (entry ∷ locks) gone own is none = elim (cases_Bool (entry.1.handle == gone)) [
+  | inl held ↦ (
+      let same : entry.1.handle ≡ gone = eqb-true _ _ held in
+      let on : is_on_stream handles own entry.1 ≡ true = rw same (is_on-stream_of handles gone own ∙ rw is (eq-eqb own own refl)) in
+      let impossible : true ≡ false = rw (on, held) at none in
+      cc)
+  | inr other ↦ (
+      let rest : list_any (is_of gone) (ranges_on handles locks own) ≡ false
+      = elim (cases_Bool (is_on_stream handles own entry.1)) [
+        | inl on ↦ rw (on, other) at none
+        | inr off ↦ rw off at none
+      ] in
+      rw other (ap (λ kept. entry ∷ kept) (none-locked handles locks gone own is rest)))
+]
+
+-- the same of each handle, where a stream is told
+pub none-held : (handles : List (ℕ × Handle)) (locks : List (ℕ × Lock)) (tables : List (ℕ × Ranges)) (stream : Option ℕ) (gone : ℕ) → AreTabled handles locks tables → stream ≡ stream_of_handle handles gone
+    → option_map_or (λ own. list_any (is_of gone) (ranges_in tables own)) stream true ≡ false → filter (λ entry. not (entry.1.handle == gone)) locks ≡ locks
+none-held handles locks tables None gone is own none = (let impossible : true ≡ false = none in cc)
+none-held handles locks tables (Some s) gone is own none = none-locked handles locks gone s (sym own) (rw (is.ranges s) at none)
 
 -- of the stream of a handle that is gone, or of another stream, its locks are taken out
 gone-ranges : (handles : List (ℕ × Handle)) (locks : List (ℕ × Lock)) (old new : List (ℕ × Ranges)) (gone stream : ℕ) → AreTabled handles locks old
@@ -268,6 +294,56 @@ AreTabled-unlock handles locks last old new handle at count number is numbered f
               (set own.0 own.1).others stream differ ∙ is.ranges stream ∙ sym (rw off at without))
         ]
       ];
+}
+
+-- the first lock of a handle on a range stands first among those of the handle's stream
+pub number-on : (handles : List (ℕ × Handle)) (locks : List (ℕ × Lock)) (handle at count own : ℕ) → stream_of_handle handles handle ≡ Some own
+    → first_id (is_range handle at count) (ranges_on handles locks own) ≡ number_of (is_lock_on handle at count) locks
+number-on handles [] handle at count own is = refl
+number-on handles (entry ∷ locks) handle at count own is =
+    let rest = number-on handles locks handle at count own is in
+    elim (cases_Bool (is_lock_on handle at count entry.1)) [
+      | inl first ↦ (
+          let same : entry.1.handle ≡ handle = eqb-true _ _ (and_parts _ _ (and_parts _ _ first).0).0 in
+          let on : is_on_stream handles own entry.1 ≡ true = rw same (is_on-stream_of handles handle own ∙ rw is (eq-eqb own own refl)) in
+          rw (on, first) refl)
+      | inr later ↦ elim (cases_Bool (is_on_stream handles own entry.1)) [
+        | inl on ↦ rw (on, later) rest
+        | inr off ↦ rw (off, later) rest
+      ]
+    ]
+
+-- and where no stream is told it is looked for among all
+pub number-held : (handles : List (ℕ × Handle)) (locks : List (ℕ × Lock)) (tables : List (ℕ × Ranges)) (stream : Option ℕ) (handle at count : ℕ) → AreTabled handles locks tables
+    → stream ≡ stream_of_handle handles handle
+    → option_map_or (λ own. first_id (is_range handle at count) (ranges_in tables own)) stream (number_of (is_lock_on handle at count) locks) ≡ number_of (is_lock_on handle at count) locks
+number-held handles locks tables None handle at count is own = refl
+number-held handles locks tables (Some s) handle at count is own = ap (first_id (is_range handle at count)) (is.ranges s) ∙ number-on handles locks handle at count s (sym own)
+
+-- nothing is taken out where none passes
+without_first-none : {X : Type 0} (p : X → Bool) (xs : List X) → find p xs ≡ None → without_first p xs ≡ xs
+without_first-none p [] none = refl
+without_first-none p (x ∷ xs) none = elim (cases_Bool (p x)) [
+  | inl passes ↦ (let found : Some x ≡ None = rw passes at none in cc)
+  | inr fails ↦ rw fails (ap (λ rest. x ∷ rest) (without_first-none p xs (rw fails at none)))
+]
+
+-- where the handle has no such lock its stream keeps its ranges
+pub AreTabled-kept : (handles : List (ℕ × Handle)) (locks : List (ℕ × Lock)) (old new : List (ℕ × Ranges)) (stream : Option ℕ) (handle at count : ℕ) → AreTabled handles locks old
+    → option_map_or (λ own. first_id (is_range handle at count) (ranges_in old own)) stream (number_of (is_lock_on handle at count) locks) ≡ None
+    → IfSome stream (λ own. AreSetIn old new own (without_first (is_range handle at count) (ranges_in old own)))
+    → IfNone stream (new ≡ old)
+    → AreTabled handles locks new
+AreTabled-kept handles locks old new None handle at count is none set kept = rw kept is
+AreTabled-kept handles locks old new (Some own) handle at count is none set kept = record {
+  live = is.live;
+  ranges = λ stream. elim (cases_Bool (stream == own)) [
+    | inl here ↦ (
+        let same : stream ≡ own = eqb-true _ _ here in
+        let whole = without_first-none (is_range handle at count) (ranges_in old own) (option_map-none (λ (range : Range). range.id) (find (is_range handle at count) (ranges_in old own)) none) in
+        rw same (set.here ∙ whole ∙ is.ranges own))
+    | inr differ ↦ set.others stream differ ∙ is.ranges stream
+  ];
 }
 
 -- no less room keeps what was promised

@@ -1,7 +1,8 @@
 -- The tables of streams, where one of them changes.
-use Rattle.std.proofs.Common.{◌≡◌, ℕ, ◌≤◌, false, List, [], refl, ◌∙◌, arith, inl, inr, Some, None}
-use Rattle.std.specs.Prelude.{◌==◌}
-use Rattle.std.proofs.lemmas.Bool.{cases_Bool, eqb-true}
+use Rattle.std.proofs.Common.{◌≡◌, ℕ, suc, ◌≤◌, Bool, false, not, List, [], ◌∷◌, length, refl, ap, sym, ◌∙◌, eq-eqb, arith, inl, inr, Some, None}
+use Rattle.std.specs.Prelude.{◌==◌, filter}
+use Rattle.std.specs.List.{list_any}
+use Rattle.std.proofs.lemmas.Bool.{cases_Bool, both_ways, eqb-true, ne_eqb}
 use Rattle.fsa_types.specs.Rows.{row_of}
 use Rattle.range_locks.specs.RangeTable.{Ranges}
 use Rattle.range_locks.specs.declared.range.Range.{Range}
@@ -53,3 +54,27 @@ KeepsRanges-put old new stream table put same more = record {
   ];
   room = kept-put old new stream table put more;
 }
+
+-- fewer items are left where some passes, and as many where none does
+few-left : {X : Type 0} (p : X → Bool) (xs : List X) → length (filter (λ x. not (p x)) xs) ≤ length xs
+few-left p [] = omega arith
+few-left p (x ∷ xs) = let rest = few-left p xs in elim (cases_Bool (p x)) [
+  | inl passes ↦ rw passes (omega arith)
+  | inr fails ↦ rw fails (omega arith)
+]
+
+next-same : (a b : ℕ) → (suc a == suc b) ≡ (a == b)
+next-same a b = elim (cases_Bool (a == b)) [
+  | inl same ↦ eq-eqb (suc a) (suc b) (ap suc (eqb-true a b same)) ∙ sym same
+  | inr other ↦ ne_eqb (suc a) (suc b) (λ next. let same : a ≡ b = omega (arith, next) in absurd (both_ways (a == b) other (eq-eqb a b same))) ∙ sym other
+]
+
+pub some-less : {X : Type 0} (p : X → Bool) (xs : List X) → list_any p xs ≡ not (length (filter (λ x. not (p x)) xs) == length xs)
+some-less p [] = refl
+some-less p (x ∷ xs) = elim (cases_Bool (p x)) [
+  | inl passes ↦ (
+      let few = few-left p xs in
+      let fewer : (length (filter (λ x. not (p x)) xs) == suc (length xs)) ≡ false = ne_eqb _ _ (λ same. absurd (omega (arith, same))) in
+      rw (passes, fewer) refl)
+  | inr fails ↦ rw fails (some-less p xs ∙ ap not (sym (next-same (length (filter (λ x. not (p x)) xs)) (length xs))))
+]

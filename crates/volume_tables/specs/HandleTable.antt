@@ -1,9 +1,9 @@
 -- Handles under their numbers with the byte-range locks that they hold, and for each stream the room for
 -- more locks on it.
-use Rattle.std.specs.Prelude.{◌≡◌, ℕ, Bool, List, Option, ◌≤◌, All, IsTrue, false, map, filter}
+use Rattle.std.specs.Prelude.{◌≡◌, ℕ, Bool, List, Option, ◌≤◌, All, IsTrue, false, map, filter, not, nat_lt, ◌&&◌}
 use Rattle.std.specs.Option.{option_map_or, option_and_then}
 use Rattle.fsa_types.specs.Rows.{row_of, lives}
-use Rattle.fsa_model.specs.Lookups.{is_open_on}
+use Rattle.fsa_model.specs.Lookups.{has_row, is_after, is_open_on, number_of}
 use Rattle.fsa_model.specs.Volume.{Handle, Lock}
 use Rattle.range_locks.specs.RangeTable.{Ranges}
 use Rattle.range_locks.specs.declared.range.Range.{Range}
@@ -20,6 +20,13 @@ pub record HandleRows : Type 0 where
   pub locks : List (ℕ × Lock)
   pub last_lock : ℕ
   pub rooms : List (ℕ × ℕ)
+
+-- that client's handle of the least number of a call above `after`: no other stands between
+abbrev pub next_of : List (ℕ × Handle) → ℕ → ℕ → Option ℕ
+next_of handles client after =
+    number_of
+    (λ handle. is_after client after handle && not (has_row (λ other. is_after client after other && nat_lt other.number handle.number) handles))
+    handles
 
 -- the stream of a handle, where it has one
 abbrev pub stream_of_handle : List (ℕ × Handle) → ℕ → Option ℕ

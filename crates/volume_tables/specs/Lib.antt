@@ -6,4 +6,5 @@ pub mod Names
 pub mod Ranges
 pub mod Rooms
 pub mod Space
+pub mod StreamOrder
 pub mod StreamTable

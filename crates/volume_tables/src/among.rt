@@ -1,6 +1,6 @@
 //! What is asked of the handles that an index names.
 
-ghost use Rattle.std.specs.Prelude.{◌≡◌, ◌&&◌, Some, false, filter, find, length, not, option_map};
+ghost use Rattle.std.specs.Prelude.{◌≡◌, ◌==◌, ◌&&◌, Some, false, filter, find, length, not, option_map};
 ghost use Rattle.std.specs.List.{list_any};
 ghost use Rattle.std.specs.Option.{option_map_or};
 ghost use Rattle.fsa_types.specs.Oplocks.{is_same_key};
@@ -35,6 +35,30 @@ pub fn find_opened(
     entries
         .iter()
         .find(|entry| opened_at(table, entry.1, client, number))
+        .map(|entry| entry.1)
+}
+
+// Whether the handle of this number is there, and this client's.
+fn is_of_client_at(table: &RowList<HandleRow>, id: u64, client: u32) -> bool
+    ensures { result ≡ option_map_or (λ row. row.client == client) (row_of table.now.rows id) false }
+{
+    match table.get(id) {
+        None => false,
+        Some(row) => row.client == client,
+    }
+}
+
+/// The first of these handles that is this client's.
+pub fn find_of_client(
+    table: &RowList<HandleRow>,
+    entries: &[(u64, u64)],
+    client: u32,
+) -> Option<u64>
+    ensures { result ≡ option_map (λ entry. entry.1) (find (row_passes table.now.rows (λ entry. entry.1.client == client)) entries.now) }
+{
+    entries
+        .iter()
+        .find(|entry| is_of_client_at(table, entry.1, client))
         .map(|entry| entry.1)
 }
 

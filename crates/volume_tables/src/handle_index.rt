@@ -1,9 +1,10 @@
 //! Which handles a call opened, and which are open on a stream or by a link.
 
-ghost use Rattle.std.specs.Prelude.{ℕ, ◌≡◌, ◌≤◌, ◌+◌, ◌++◌, ◌∷◌, [], List, OnOk, Some};
+ghost use Rattle.std.specs.Prelude.{ℕ, ◌≡◌, ◌≤◌, ◌+◌, ◌++◌, ◌∷◌, [], List, OnOk, Some, find, option_map};
+ghost use Rattle.std.specs.List.Sorted.{IsNonDecreasingBy};
 ghost use Rattle.fsa_types.specs.Rows.{row_of, without_row, IsNumbered};
 ghost use Rattle.fsa_model.specs.Volume.{Handle};
-ghost use Rattle.key_index.specs.Index.{entries_of};
+ghost use Rattle.key_index.specs.Index.{entries_of, is_after};
 ghost use Rattle.volume_tables.specs.HandleIndex.{AreIndexed, stream_key};
 
 use fsa_types::NoMemory;
@@ -87,10 +88,21 @@ impl HandleIndex {
     }
 
     /// The handles that calls of this number opened, each with its number as the second.
-    pub fn of_call(&self, number: u32) -> &[(u64, u64)]
+    pub fn of_call(&self, number: u64) -> &[(u64, u64)]
         ensures { result.now ≡ entries_of self.now.calls number }
     {
-        self.calls.of(number as u64)
+        self.calls.of(number)
+    }
+
+    /// The least number above this one of a call that opened a handle; `None` exactly where there is none.
+    pub fn call_after(&self, number: u64) -> Option<u64>
+        ensures call { result ≡ option_map (λ entry. entry.0) (find (is_after number) self.now.calls) }
+        ensures rising { IsNonDecreasingBy (λ e. e.0) self.now.calls }
+    {
+        match self.calls.after(number) {
+            None => None,
+            Some(entry) => Some(entry.0),
+        }
     }
 
     /// The handles on this stream, each with its number as the second; under 0 those without a stream too.

@@ -1,6 +1,6 @@
 //! The handles of a volume with the byte-range locks that they hold.
 
-ghost use Rattle.std.specs.Prelude.{ℕ, ◌≡◌, ◌≤◌, ◌<◌, ◌+◌, ◌^◌, ◌++◌, ◌∷◌, [], ◌==◌, ◌&&◌, not, false, Some, IsSome, IfSome, IfNone, OnOk, filter, length};
+ghost use Rattle.std.specs.Prelude.{ℕ, ◌≡◌, ◌≤◌, ◌<◌, ◌+◌, ◌^◌, ◌++◌, ◌∷◌, [], ◌==◌, ◌&&◌, not, true, false, Some, IsSome, IfSome, IfNone, OnOk, filter, length};
 ghost use Rattle.std.specs.List.{list_any};
 ghost use Rattle.std.specs.Option.{option_copied, option_map_or, ForSome};
 ghost use Rattle.fsa_types.specs.Oplocks.{is_same_key};
@@ -10,13 +10,14 @@ ghost use Rattle.fsa_model.specs.Lookups.{has_row, is_one_of, is_open_on, is_ope
 ghost use Rattle.fsa_types.specs.Sharing.{clash};
 ghost use Rattle.fsa_types.specs.Ranges.{without_first};
 ghost use Rattle.object_tables.specs.Next.{IsNext};
-ghost use Rattle.range_locks.specs.RangeTable.{is_of, is_range};
-ghost use Rattle.volume_tables.specs.HandleIndex.{AreIndexed};
-ghost use Rattle.volume_tables.specs.HandleTable.{stream_of_handle, ranges_on};
+ghost use Rattle.range_locks.specs.RangeTable.{first_id, is_of, is_range};
+ghost use Rattle.key_index.specs.RowsByKey.{IsIndexOf};
+ghost use Rattle.volume_tables.specs.HandleIndex.{AreIndexed, call_key};
+ghost use Rattle.volume_tables.specs.HandleTable.{next_of, stream_of_handle, ranges_on};
 ghost use Rattle.volume_tables.specs.Ranges.{ranges_in, room_at, AreSetIn};
 ghost use Rattle.volume_tables.specs.Rooms.{room_in};
 
-use crate::among::{count_among, find_opened, some_clash_among, some_other_among};
+use crate::among::{count_among, find_of_client, find_opened, some_clash_among, some_other_among};
 use crate::handle_index::HandleIndex;
 use crate::lock_row::LockRow;
 use crate::ranges::StreamRanges;
@@ -150,7 +151,20 @@ impl HandleTable {
         ensures { result ≡ number_of (is_opened_by client number) self.now.rows }
     {
         let _numbered = self.table.len();
-        find_opened(&self.table, self.index.of_call(number), client, number)
+        find_opened(
+            &self.table,
+            self.index.of_call(number as u64),
+            client,
+            number,
+        )
+    }
+
+    /// That client's handle of the least number of a call above `after`; `None` exactly where there is none. It looks
+    /// at those alone that calls of the numbers up to it opened.
+    pub fn next_of(&self, client: u32, after: u32) -> Option<u64>
+        ensures { result ≡ next_of self.now.rows client after }
+    {
+        next_in(&self.table, &self.index, client, after)
     }
 
     /// How many handles are of the set. Of those on a stream or by a link it looks at these alone.
@@ -216,8 +230,8 @@ impl HandleTable {
         ensures kept { self.old.room ≤ self.new.room }
     {
         let stream = stream_of(&self.table, id);
-        remove_ranges_of(&mut self.ranges, stream, id);
-        remove_locks_of(&mut self.locks, id);
+        let some = remove_ranges_of(&mut self.ranges, stream, id);
+        remove_locks_of(&mut self.locks, some, id);
         remove_row(&mut self.table, &mut self.index, id);
     }
 
@@ -282,14 +296,30 @@ impl HandleTable {
         ensures locks { self.new ≡ record self.old { locks = option_map_or (λ number. without_row self.old.locks number) (number_of (is_lock_on handle at count) self.old.locks) self.old.locks } }
         ensures number { result ≡ number_of (is_lock_on handle at count) self.old.locks }
     {
-        let Some(id) = find_lock(self.locks.as_slice(), handle, at, count) else {
+        let stream = stream_of(&self.table, handle);
+        let locks = self.locks.as_slice();
+        let Some(id) = remove_range(&mut self.ranges, locks, stream, handle, at, count) else {
             return None;
         };
         let _ = self.locks.remove(id);
-        let stream = stream_of(&self.table, handle);
-        remove_range(&mut self.ranges, stream, handle, at, count);
         Some(id)
     }
+}
+
+// The client's handle of the least number of a call above `after`, by the numbers of calls that opened handles.
+fn next_in(table: &RowList<HandleRow>, index: &HandleIndex, client: u32, after: u32) -> Option<u64>
+    requires { IsIndexOf call_key table.now.rows index.now.calls }
+    ensures { result ≡ next_of table.now.rows client after }
+{
+    let _numbered = table.len();
+    let mut below = after as u64;
+    'calls: while let Some(number) = index.call_after(below) {
+        if let Some(id) = find_of_client(table, index.of_call(number), client) {
+            return Some(id);
+        }
+        below = number;
+    }
+    None
 }
 
 // The stream of a handle, where it has one.
@@ -325,35 +355,51 @@ fn set_enumeration(table: &mut RowList<HandleRow>, handle: u64, enumeration: Enu
     }
 }
 
-// Takes all ranges of a handle on this stream out, where it has one.
-fn remove_ranges_of(ranges: &mut StreamRanges, stream: Option<u64>, handle: u64)
+// Takes all ranges of a handle on this stream out, and tells whether there were any. Where it has no stream it isn't
+// known whether the handle has locks.
+fn remove_ranges_of(ranges: &mut StreamRanges, stream: Option<u64>, handle: u64) -> bool
+    ensures some { result ≡ option_map_or (λ own. list_any (is_of handle) (ranges_in ranges.old own)) stream true }
     ensures own { IfSome stream (λ own. AreSetIn ranges.old ranges.new own (filter (λ range. not (is_of handle range)) (ranges_in ranges.old own))) }
     ensures none { IfNone stream (ranges.new ≡ ranges.old) }
     ensures room { (other : ℕ) → room_at ranges.old other ≤ room_at ranges.new other }
 {
-    if let Some(own) = stream {
-        ranges.remove_all_of(own, handle);
+    match stream {
+        None => true,
+        Some(own) => ranges.remove_all_of(own, handle),
     }
 }
 
-// Takes the first range of this handle on this stream with exactly this place and count out.
-fn remove_range(ranges: &mut StreamRanges, stream: Option<u64>, handle: u64, at: u64, count: u64)
+// Takes the first range of this handle on this stream with exactly this place and count out, and gives its number.
+// Where it has no stream, the number is looked for among all locks.
+fn remove_range(
+    ranges: &mut StreamRanges,
+    locks: &[(u64, LockRow)],
+    stream: Option<u64>,
+    handle: u64,
+    at: u64,
+    count: u64,
+) -> Option<u64>
+    ensures number { result ≡ option_map_or (λ own. first_id (is_range handle at count) (ranges_in ranges.old own)) stream (number_of (is_lock_on handle at count) locks.now) }
     ensures own { IfSome stream (λ own. AreSetIn ranges.old ranges.new own (without_first (is_range handle at count) (ranges_in ranges.old own))) }
     ensures none { IfNone stream (ranges.new ≡ ranges.old) }
     ensures room { (other : ℕ) → room_at ranges.old other ≤ room_at ranges.new other }
 {
-    if let Some(own) = stream {
-        ranges.remove(own, handle, at, count);
+    match stream {
+        None => find_lock(locks, handle, at, count),
+        Some(own) => ranges.remove(own, handle, at, count),
     }
 }
 
-// Takes all locks of a handle out.
-fn remove_locks_of(locks: &mut RowList<LockRow>, handle: u64)
+// Takes all locks of a handle out. Where it is known that it has none, none is looked at.
+fn remove_locks_of(locks: &mut RowList<LockRow>, some: bool, handle: u64)
+    requires { some ≡ false → filter (λ entry. not (entry.1.handle == handle)) locks.old.rows ≡ locks.old.rows }
     ensures rows { locks.new.rows ≡ filter (λ entry. not (entry.1.handle == handle)) locks.old.rows }
     ensures last { locks.new.last ≡ locks.old.last }
     ensures room { locks.old.room ≤ locks.new.room }
 {
-    locks.retain(|entry| entry.1.handle != handle);
+    if some {
+        locks.retain(|entry| entry.1.handle != handle);
+    }
 }
 
 // Whether a lock is this handle's, on exactly this range.

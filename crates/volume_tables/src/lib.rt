@@ -11,12 +11,14 @@
 //! let lock = handles.add_lock(handle, at, count, true);
 //! handles.locks_of(stream);               // the ranges of one stream, in the order in which they were granted
 //! handles.opened_by(client, number);      // looks at those alone that calls of this number opened
+//! handles.next_of(client, after);         // goes up by these numbers
 //! handles.some_clashes(links, on, access, share);     // at those alone on a stream, or by a link
 //! handles.remove(handle);                 // with its locks
 //!
 //! streams.reserve(1)?;
 //! let stream = streams.add(row);          // takes no memory
 //! streams.named(&upcase, file, units);    // looks at the streams of the file alone
+//! streams.after(&upcase, file, units);    // so does this, for the first one behind a name
 //!
 //! names.reserve(1)?;
 //! names.add(&table, &upcase, id, dir, units);     // before the link is added to its table
@@ -42,9 +44,11 @@
 //!   stream, and not whether the range conflicts with another. A tally asks that owners are admitted, that
 //!   what goes was charged for, and that sums fit 64 bits.
 //! - Removing takes no memory, and leaves what was promised as it was.
-//! - Each call takes time linear in the rows or locks that it goes over, and in the directories or streams
-//!   to which room was ever promised; one of a tally, time logarithmic in the owners, and linear where one is
-//!   admitted. A stream's table stays once it has been made, and so does an owner.
+//! - Each call takes time linear in the rows or locks that it goes over, and one of locks in the streams to
+//!   which room for them was ever promised; one of a tally, time logarithmic in the owners, and linear where
+//!   one is admitted. What was promised is found in time logarithmic in the directories or streams that have
+//!   room; where one comes to have some or has none left, the others behind it are moved. A stream's table
+//!   stays once it has been made, and so does an owner.
 #![tactic(auto)]
 
 mod among;

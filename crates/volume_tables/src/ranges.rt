@@ -1,10 +1,11 @@
 //! The byte-range locks of streams, for each stream a table of its own.
 
 ghost use Rattle.std.specs.Prelude.{ℕ, ◌≡◌, ◌≤◌, ◌+◌, ◌==◌, ◌++◌, ◌∷◌, ◌⊎◌, [], not, false, None, OnOk, position, filter};
+ghost use Rattle.std.specs.List.{list_any};
 ghost use Rattle.std.specs.Option.{option_copied};
 ghost use Rattle.fsa_types.specs.Ranges.{without_first};
 ghost use Rattle.fsa_types.specs.Rows.{row_of};
-ghost use Rattle.range_locks.specs.RangeTable.{is_of, is_range};
+ghost use Rattle.range_locks.specs.RangeTable.{first_id, is_of, is_range};
 ghost use Rattle.volume_tables.specs.Ranges.{ranges_in, room_at, AreSetIn, KeepsRanges};
 
 use fsa_types::NoMemory;
@@ -75,21 +76,23 @@ impl StreamRanges {
         insert(&mut self.tables, stream, range);
     }
 
-    /// Takes the first range of this handle on this stream with exactly this place and count out, where
-    /// there is one. It takes no memory.
-    pub fn remove(&mut self, stream: u64, handle: u64, at: u64, count: u64)
+    /// Takes the first range of this handle on this stream with exactly this place and count out, and gives its
+    /// number; `None` exactly where there is none. It takes no memory.
+    pub fn remove(&mut self, stream: u64, handle: u64, at: u64, count: u64) -> Option<u64>
+        ensures number { result ≡ first_id (is_range handle at count) (ranges_in self.old stream) }
         ensures ranges { AreSetIn self.old self.new stream (without_first (is_range handle at count) (ranges_in self.old stream)) }
         ensures room { (other : ℕ) → room_at self.old other ≤ room_at self.new other }
     {
-        remove(&mut self.tables, stream, handle, at, count);
+        remove(&mut self.tables, stream, handle, at, count)
     }
 
-    /// Takes all ranges of this handle on this stream out. It takes no memory.
-    pub fn remove_all_of(&mut self, stream: u64, handle: u64)
+    /// Takes all ranges of this handle on this stream out, and tells whether there were any. It takes no memory.
+    pub fn remove_all_of(&mut self, stream: u64, handle: u64) -> bool
+        ensures some { result ≡ list_any (is_of handle) (ranges_in self.old stream) }
         ensures ranges { AreSetIn self.old self.new stream (filter (λ range. not (is_of handle range)) (ranges_in self.old stream)) }
         ensures room { (other : ℕ) → room_at self.old other ≤ room_at self.new other }
     {
-        remove_all_of(&mut self.tables, stream, handle);
+        remove_all_of(&mut self.tables, stream, handle)
     }
 }
 
@@ -154,22 +157,43 @@ fn insert(tables: &mut [(u64, RangeTable)], stream: u64, range: Range)
     };
 }
 
-// Takes the first range of this handle with exactly this place and count out.
-fn remove(tables: &mut [(u64, RangeTable)], stream: u64, handle: u64, at: u64, count: u64)
+// Takes the first range of this handle with exactly this place and count out, and gives its number.
+fn remove(
+    tables: &mut [(u64, RangeTable)],
+    stream: u64,
+    handle: u64,
+    at: u64,
+    count: u64,
+) -> Option<u64>
+    ensures number { result ≡ first_id (is_range handle at count) (ranges_in tables.old stream) }
     ensures ranges { AreSetIn tables.old tables.new stream (without_first (is_range handle at count) (ranges_in tables.old stream)) }
     ensures room { (other : ℕ) → room_at tables.old other ≤ room_at tables.new other }
 {
-    if let Some(place) = place_of(tables, stream) {
-        let _ = tables[place].1.remove(handle, at, count);
+    match place_of(tables, stream) {
+        None => None,
+        Some(place) => tables[place].1.remove(handle, at, count),
     }
 }
 
-// Takes all ranges of this handle out.
-fn remove_all_of(tables: &mut [(u64, RangeTable)], stream: u64, handle: u64)
+// Takes all ranges of this handle out, and tells whether there were any.
+fn remove_all_of(tables: &mut [(u64, RangeTable)], stream: u64, handle: u64) -> bool
+    ensures some { result ≡ list_any (is_of handle) (ranges_in tables.old stream) }
     ensures ranges { AreSetIn tables.old tables.new stream (filter (λ range. not (is_of handle range)) (ranges_in tables.old stream)) }
     ensures room { (other : ℕ) → room_at tables.old other ≤ room_at tables.new other }
 {
-    if let Some(place) = place_of(tables, stream) {
-        tables[place].1.remove_all_of(handle);
+    match place_of(tables, stream) {
+        None => false,
+        Some(place) => remove_from(&mut tables[place].1, handle),
     }
+}
+
+// Takes all ranges of this handle out of a table, and tells whether there were any: it has fewer then.
+fn remove_from(table: &mut RangeTable, handle: u64) -> bool
+    ensures some { result ≡ list_any (is_of handle) table.old.ranges }
+    ensures ranges { table.new.ranges ≡ filter (λ range. not (is_of handle range)) table.old.ranges }
+    ensures room { table.old.room ≤ table.new.room }
+{
+    let before = table.len();
+    table.remove_all_of(handle);
+    table.len() != before
 }

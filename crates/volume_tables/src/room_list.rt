@@ -1,30 +1,32 @@
 //! Room for more items that is promised apart.
 
-ghost use Rattle.std.specs.Prelude.{ℕ, ◌≡◌, ◌≤◌, ◌<◌, ◌+◌, ◌^◌, ◌==◌, [], false, OnOk, OnErr, IfSome, IfNone, position};
-ghost use Rattle.volume_tables.specs.Rooms.{room_in, all_rooms, IsRoomSet, IsOneTaken};
+ghost use Rattle.std.specs.Prelude.{ℕ, AllPairs, ◌≡◌, ◌≤◌, ◌<◌, ◌+◌, ◌^◌, [], OnOk, OnErr, IfOk, IfErr, IfSome, IfNone};
+ghost use Rattle.fsa_types.specs.Places.{IsAt, StandsAt};
+ghost use Rattle.volume_tables.specs.Rooms.{room_in, all_rooms, AreRooms, IsRoomSet, IsOneTaken};
 
 use fsa_types::NoMemory;
 use std::alloc::Global;
 use std::marker::Model;
 
 /// For how many more items there is room, promised to each directory or stream apart: what one of them
-/// takes is taken from its own.
+/// takes is taken from its own. It keeps only those that have room, and finds one in time logarithmic in them;
+/// where one comes or goes, those behind it are moved.
 #[derive(Debug, Drop)]
 pub struct RoomList {
-    // Those with room, each with how much; and all of it.
+    // Those with room, by rising id, each with how much; and all of it.
     rooms: Vec<(u64, usize)>,
     all: usize,
 }
 
 impl Model for RoomList {
     ghost use Rattle.std.specs.Prelude.{ℕ, List, ◌≡◌};
-    ghost use Rattle.volume_tables.specs.Rooms.{all_rooms};
+    ghost use Rattle.volume_tables.specs.Rooms.{all_rooms, AreRooms};
 
     ghost Value = { List (ℕ × ℕ) };
 
     ghost view = { λ r. r.rooms.items };
 
-    ghost invariant = { λ r. r.all ≡ all_rooms r.rooms.items };
+    ghost invariant = { λ r. AreRooms r.rooms.items × (r.all ≡ all_rooms r.rooms.items) };
 }
 
 impl RoomList {
@@ -80,50 +82,84 @@ impl RoomList {
 
 // The room that was promised to this one, at most all room.
 fn room_in(rooms: &[(u64, usize)], id: u64) -> usize
+    requires { AllPairs (λ a b. a.0 < b.0) rooms.now }
     ensures room { result ≡ room_in rooms.now id }
     ensures few { result ≤ all_rooms rooms.now }
 {
-    find_room(rooms, id)
-}
-
-// The first room that is told of this one.
-fn find_room(rooms: &[(u64, usize)], id: u64) -> usize
-    ensures { result ≡ room_in rooms.now id }
-{
-    match rooms.iter().find(|entry| entry.0 == id) {
-        None => 0,
-        Some(entry) => entry.1,
+    match place_of(rooms, id) {
+        Ok(place) => rooms[place].1,
+        Err(_) => 0,
     }
 }
 
-// The first place of this one.
-fn place_of(rooms: &[(u64, usize)], id: u64) -> Option<usize>
-    ensures { result ≡ position (λ entry. entry.0 == id) rooms.now }
+// The place of this one, or where it would stand, by binary search.
+fn place_of(rooms: &[(u64, usize)], id: u64) -> Result<usize, usize>
+    requires rising { AllPairs (λ a b. a.0 < b.0) rooms.now }
+    ensures there { IfOk result (λ place. IsAt rooms.now id place) }
+    ensures missing { IfErr result (λ place. StandsAt rooms.now id place) }
 {
-    rooms.iter().position(|entry| entry.0 == id)
+    rooms.binary_search_by_key(&id, |entry| entry.0)
 }
 
 // Promises so much to this one.
 fn set_room(rooms: &mut Vec<(u64, usize)>, id: u64, room: usize) -> Result<(), NoMemory>
+    requires { AreRooms rooms.old.items }
+    ensures kept { AreRooms rooms.new.items }
     ensures ok { OnOk result (IsRoomSet rooms.old.items rooms.new.items id room) }
     ensures err { OnErr result (rooms.new.items ≡ rooms.old.items) }
 {
-    let Some(place) = place_of(rooms, id) else {
-        rooms.push((id, room))?;
-        return Ok(());
-    };
-    rooms[place] = (id, room);
+    match place_of(rooms, id) {
+        Ok(place) => {
+            set_at(rooms, place, id, room);
+            Ok(())
+        }
+        Err(place) => insert_at(rooms, place, id, room),
+    }
+}
+
+// Promises so much to the one at this place, and takes it out where that is nothing.
+fn set_at(rooms: &mut Vec<(u64, usize)>, place: usize, id: u64, room: usize)
+    requires rooms { AreRooms rooms.old.items }
+    requires there { IsAt rooms.old.items id place }
+    ensures kept { AreRooms rooms.new.items }
+    ensures room { IsRoomSet rooms.old.items rooms.new.items id room }
+{
+    if room == 0 {
+        rooms.remove(place);
+    } else {
+        rooms[place] = (id, room);
+    }
+}
+
+// Promises so much to one that had no room, and that would stand at this place.
+fn insert_at(
+    rooms: &mut Vec<(u64, usize)>,
+    place: usize,
+    id: u64,
+    room: usize,
+) -> Result<(), NoMemory>
+    requires rooms { AreRooms rooms.old.items }
+    requires missing { StandsAt rooms.old.items id place }
+    ensures kept { AreRooms rooms.new.items }
+    ensures ok { OnOk result (IsRoomSet rooms.old.items rooms.new.items id room) }
+    ensures err { OnErr result (rooms.new.items ≡ rooms.old.items) }
+{
+    if room > 0 {
+        rooms.insert(place, (id, room))?;
+    }
     Ok(())
 }
 
 // Takes room for one item from this one, which has to have some.
 fn take_one(rooms: &mut Vec<(u64, usize)>, id: u64)
-    requires { 1 ≤ room_in rooms.old.items id }
-    ensures { IsOneTaken rooms.old.items rooms.new.items id }
+    requires rooms { AreRooms rooms.old.items }
+    requires room { 1 ≤ room_in rooms.old.items id }
+    ensures kept { AreRooms rooms.new.items }
+    ensures taken { IsOneTaken rooms.old.items rooms.new.items id }
 {
-    let room = room_in(rooms, id);
-    let Some(place) = place_of(rooms, id) else {
+    let Ok(place) = place_of(rooms, id) else {
         unreachable!()
     };
-    rooms[place] = (id, room - 1);
+    let room = rooms[place].1;
+    set_at(rooms, place, id, room - 1);
 }

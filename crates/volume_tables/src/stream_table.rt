@@ -1,19 +1,23 @@
 //! The streams of a volume, by number and by file.
 
-ghost use Rattle.std.specs.Prelude.{ℕ, ◌≡◌, ◌≤◌, ◌<◌, ◌+◌, ◌^◌, ◌++◌, ◌∷◌, [], ◌==◌, not, false, IsTrue, IfSome, OnOk, filter, find, fold, length, option_map, sum_by};
+ghost use Rattle.std.specs.Prelude.{ℕ, ◌≡◌, ◌≤◌, ◌<◌, ◌+◌, ◌^◌, ◌++◌, ◌∷◌, [], ◌==◌, not, false, IsTrue, IfSome, OnOk, filter, find, fold, length, option_map, slice_get, sum_by};
 ghost use Rattle.std.specs.Option.{option_copied, option_map_or};
+ghost use Rattle.std.specs.Ordering.{is_lt};
+ghost use Rattle.fsa_types.specs.CaseTable.{cmp_name};
 ghost use Rattle.fsa_types.specs.Rows.{row_of, lives, with_row_changed, without_row, IsNumbered};
 ghost use Rattle.fsa_types.specs.StreamBytes.{put, cut};
 ghost use Rattle.fsa_model.specs.Charge.{clusters_for};
 ghost use Rattle.fsa_model.specs.Lookups.{is_stream_named, number_of};
-ghost use Rattle.key_index.specs.RowsByKey.{IsIndexOf, row_passes};
+ghost use Rattle.fsa_model.specs.QueryInfo.{is_stream_before};
+ghost use Rattle.key_index.specs.RowsByKey.{IsIndexOf, row_passes, rows_at};
 ghost use Rattle.object_tables.specs.Next.{IsNext};
 ghost use Rattle.volume_rows.specs.Streams.{ChangesStream, KeepsStreams, streams_in};
+ghost use Rattle.volume_tables.specs.StreamOrder.{first_of, is_stream_after, number_after, rows_after};
 ghost use Rattle.volume_tables.specs.StreamTable.{file_key};
 
 use fsa_types::{NoMemory, UpcaseTable};
 use key_index::KeyIndex;
-use object_tables::RowList;
+use object_tables::Table;
 use std::alloc::Global;
 use std::marker::Model;
 use volume_rows::{StreamRow, clusters_of, is_stream_named};
@@ -22,7 +26,7 @@ use volume_rows::{StreamRow, clusters_of, is_stream_named};
 /// of its file alone.
 #[derive(Debug, Drop)]
 pub struct StreamTable {
-    table: RowList<StreamRow>,
+    table: Table<StreamRow>,
     // The numbers of all streams, under their files.
     files: KeyIndex,
     // How many more streams were promised.
@@ -49,7 +53,7 @@ impl StreamTable {
         ensures last { result.last ≡ 0 }
     {
         StreamTable {
-            table: RowList::new(alloc),
+            table: Table::new(alloc),
             files: KeyIndex::new(alloc),
             room: 0,
         }
@@ -69,14 +73,6 @@ impl StreamTable {
         self.files.reserve(more)?;
         self.room = more;
         Ok(())
-    }
-
-    /// All streams with their numbers, by rising number.
-    pub fn as_slice(&self) -> &[(u64, StreamRow)]
-        ensures rows { result.now ≡ self.now.rows }
-        ensures numbered { IsNumbered self.now.rows self.now.last }
-    {
-        self.table.as_slice()
     }
 
     /// The least number above `after` that a stream has; `None` exactly where there is none.
@@ -99,6 +95,15 @@ impl StreamTable {
     {
         let _numbered = self.table.len();
         find_named(&self.table, self.files.of(file), upcase, file, units)
+    }
+
+    /// The stream of this file with the least name after this one, by upcased units; `None` exactly where there is
+    /// none. It looks at those of the file alone.
+    pub fn after(&self, upcase: &UpcaseTable, file: u64, units: &[u16]) -> Option<u64>
+        ensures { result ≡ number_after upcase.now file units.now (streams_in self.now.rows) }
+    {
+        let _numbered = self.table.len();
+        find_after(&self.table, self.files.of(file), upcase, file, units)
     }
 
     /// The clusters of all streams of a file. It looks at these alone. Those of all streams have to fit 64 bits.
@@ -200,7 +205,7 @@ impl StreamTable {
 
 // Whether the stream of this number is there, and has this name in this file.
 fn is_named_at(
-    table: &RowList<StreamRow>,
+    table: &Table<StreamRow>,
     id: u64,
     upcase: &UpcaseTable,
     file: u64,
@@ -216,7 +221,7 @@ fn is_named_at(
 
 // The first of these streams that has this name in this file.
 fn find_named(
-    table: &RowList<StreamRow>,
+    table: &Table<StreamRow>,
     entries: &[(u64, u64)],
     upcase: &UpcaseTable,
     file: u64,
@@ -230,8 +235,103 @@ fn find_named(
         .map(|entry| entry.1)
 }
 
+// Whether a stream is one of this file whose name comes after this one.
+fn is_stream_after(upcase: &UpcaseTable, file: u64, units: &[u16], row: &StreamRow) -> bool
+    ensures { result ≡ is_stream_after upcase.now file units.now row.now.stream }
+{
+    row.info.file == file && upcase.cmp_name(units, row.info.name.units()).is_lt()
+}
+
+// Whether one stream's name comes before another's.
+fn is_stream_before(upcase: &UpcaseTable, one: &StreamRow, other: &StreamRow) -> bool
+    ensures { result ≡ is_lt (cmp_name upcase.now one.now.stream.name other.now.stream.name) }
+{
+    let (one, other) = (one.info.name.units(), other.info.name.units());
+    upcase.cmp_name(one, other).is_lt()
+}
+
+// The first of the streams of this file whose names come after this one, where `first` was the first of some of
+// them, and the stream of number `id` is one more.
+fn first_of<'a>(
+    upcase: &UpcaseTable,
+    file: u64,
+    units: &[u16],
+    id: u64,
+    row: &'a StreamRow,
+    first: Option<(u64, &'a StreamRow)>,
+) -> Option<(u64, &'a StreamRow)>
+    ensures { option_map (λ e. (e.0, e.1.now.stream)) result ≡ first_of (is_stream_before upcase.now) (λ e. is_stream_after upcase.now file units.now e.1) (id, row.now.stream) (option_map (λ e. (e.0, e.1.now.stream)) first.entry) }
+{
+    if !is_stream_after(upcase, file, units, row) {
+        return first;
+    }
+    match first {
+        None => Some((id, row)),
+        Some((number, other)) => {
+            if is_stream_before(upcase, row, other) {
+                Some((id, row))
+            } else {
+                Some((number, other))
+            }
+        }
+    }
+}
+
+// The same, where the stream of number `id` is one more if it is there.
+fn first_at<'a>(
+    table: &'a Table<StreamRow>,
+    id: u64,
+    upcase: &UpcaseTable,
+    file: u64,
+    units: &[u16],
+    first: Option<(u64, &'a StreamRow)>,
+) -> Option<(u64, &'a StreamRow)>
+    ensures { let was = option_map (λ e. (e.0, e.1.now.stream)) first.entry in
+        option_map (λ e. (e.0, e.1.now.stream)) result
+        ≡ option_map_or (λ row. first_of (is_stream_before upcase.now) (λ e. is_stream_after upcase.now file units.now e.1) (id, row) was) (row_of (streams_in table.now.rows) id) was }
+{
+    match table.get(id) {
+        None => first,
+        Some(row) => first_of(upcase, file, units, id, row, first),
+    }
+}
+
+// The first of these streams that is one of this file and whose name comes after this one, with its number.
+fn first_among<'a>(
+    table: &'a Table<StreamRow>,
+    entries: &[(u64, u64)],
+    upcase: &UpcaseTable,
+    file: u64,
+    units: &[u16],
+) -> Option<(u64, &'a StreamRow)>
+    ensures { option_map (λ e. (e.0, e.1.now.stream)) result ≡ slice_get (rows_after upcase.now file units.now (rows_at (streams_in table.now.rows) entries.now)) 0 }
+{
+    let mut first = None;
+    // A stream is put before the first that its name comes before, so that the last of them is looked at first.
+    for place in (0..entries.len()).rev() {
+        first = first_at(table, entries[place].1, upcase, file, units, first);
+    }
+    first
+}
+
+// The number of the first of these streams that is one of this file and whose name comes after this one.
+fn find_after(
+    table: &Table<StreamRow>,
+    entries: &[(u64, u64)],
+    upcase: &UpcaseTable,
+    file: u64,
+    units: &[u16],
+) -> Option<u64>
+    ensures { result ≡ number_after upcase.now file units.now (rows_at (streams_in table.now.rows) entries.now) }
+{
+    match first_among(table, entries, upcase, file, units) {
+        None => None,
+        Some((id, _)) => Some(id),
+    }
+}
+
 // The clusters of the stream of this number; 0 where there is none.
-fn clusters_at(table: &RowList<StreamRow>, id: u64) -> u64
+fn clusters_at(table: &Table<StreamRow>, id: u64) -> u64
     ensures { result ≡ option_map_or (λ row. clusters_for (length row.bytes)) (row_of (streams_in table.now.rows) id) 0 }
 {
     match table.get(id) {
@@ -241,7 +341,7 @@ fn clusters_at(table: &RowList<StreamRow>, id: u64) -> u64
 }
 
 // The clusters of these streams.
-fn clusters_among(table: &RowList<StreamRow>, entries: &[(u64, u64)]) -> u64
+fn clusters_among(table: &Table<StreamRow>, entries: &[(u64, u64)]) -> u64
     requires { sum_by (λ entry. option_map_or (λ row. clusters_for (length row.bytes)) (row_of (streams_in table.now.rows) entry.1) 0) entries.now < 2 ^ 64 }
     ensures { result ≡ sum_by (λ entry. option_map_or (λ row. clusters_for (length row.bytes)) (row_of (streams_in table.now.rows) entry.1) 0) entries.now }
 {
@@ -252,7 +352,7 @@ fn clusters_among(table: &RowList<StreamRow>, entries: &[(u64, u64)]) -> u64
 }
 
 // Marks a stream for deletion, or clears its mark.
-fn mark(streams: &mut RowList<StreamRow>, stream: u64, deleted: bool)
+fn mark(streams: &mut Table<StreamRow>, stream: u64, deleted: bool)
     ensures rows { streams.new.rows ≡ with_row_changed (λ row. record row { stream = record row.stream { deleted = deleted } }) streams.old.rows stream }
     ensures last { streams.new.last ≡ streams.old.last }
     ensures room { streams.new.room ≡ streams.old.room }
@@ -264,7 +364,7 @@ fn mark(streams: &mut RowList<StreamRow>, stream: u64, deleted: bool)
 
 // Takes room for `count` bytes of a stream from `at` on.
 fn reserve_in(
-    streams: &mut RowList<StreamRow>,
+    streams: &mut Table<StreamRow>,
     stream: u64,
     at: u64,
     count: u64,
@@ -284,7 +384,7 @@ fn reserve_in(
 }
 
 // Puts the piece into a stream.
-fn put_in(streams: &mut RowList<StreamRow>, stream: u64, at: u64, piece: &[u8])
+fn put_in(streams: &mut Table<StreamRow>, stream: u64, at: u64, piece: &[u8])
     requires room { IfSome (row_of streams.old.rows stream) (λ row. (row.room.from ≤ at) × (at + length piece.now ≤ row.room.to)) }
     requires fits { at + length piece.now ≤ 2 ^ 26 }
     ensures rows { ChangesStream streams.old.rows streams.new.rows stream (λ row. record row { bytes = put row.bytes at piece.now }) }
@@ -298,7 +398,7 @@ fn put_in(streams: &mut RowList<StreamRow>, stream: u64, at: u64, piece: &[u8])
 }
 
 // Makes a stream so many bytes long.
-fn set_length_in(streams: &mut RowList<StreamRow>, stream: u64, bytes: u64)
+fn set_length_in(streams: &mut Table<StreamRow>, stream: u64, bytes: u64)
     requires { bytes ≤ 2 ^ 26 }
     ensures rows { ChangesStream streams.old.rows streams.new.rows stream (λ row. record row { bytes = cut row.bytes bytes }) }
     ensures others { (other : ℕ) → (other == stream) ≡ false → row_of streams.new.rows other ≡ row_of streams.old.rows other }
@@ -311,7 +411,7 @@ fn set_length_in(streams: &mut RowList<StreamRow>, stream: u64, bytes: u64)
 }
 
 // Takes a stream out, and its number.
-fn remove(table: &mut RowList<StreamRow>, files: &mut KeyIndex, id: u64)
+fn remove(table: &mut Table<StreamRow>, files: &mut KeyIndex, id: u64)
     ensures rows { table.new.rows ≡ without_row table.old.rows id }
     ensures last { table.new.last ≡ table.old.last }
     ensures room { table.old.room ≤ table.new.room }
@@ -328,7 +428,7 @@ fn remove(table: &mut RowList<StreamRow>, files: &mut KeyIndex, id: u64)
 }
 
 // Takes these streams out.
-fn take_all(streams: &mut RowList<StreamRow>, entries: &[(u64, u64)])
+fn take_all(streams: &mut Table<StreamRow>, entries: &[(u64, u64)])
     ensures rows { streams.new.rows ≡ fold (λ rows entry. without_row rows entry.1) streams.old.rows entries.now }
     ensures numbered { IsNumbered streams.old.rows streams.old.last }
     ensures last { streams.new.last ≡ streams.old.last }

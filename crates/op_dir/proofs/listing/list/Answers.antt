@@ -1,11 +1,14 @@
-use Rattle.std.proofs.Common.{◌≡◌, List, map, take, ap, subst, ◌∙◌, arith}
+use Rattle.std.proofs.Common.{List, map, subst, sym}
 use Rattle.std.proofs.lemmas.Result.{IfOk-weaker}
+use Rattle.fsa_types.specs.PackedRows.{pack_kind}
 use Rattle.fsa_model.specs.QueryDir.{Entry, left_to_list}
 use Rattle.fsa_model.specs.Volume.{Cursor}
+use Rattle.op_dir.specs.Filling.{Fills}
 use Rattle.op_dir.specs.Listing.{Lists}
 use Rattle.op_dir.specs.Places.{entry_at}
 use Rattle.op_dir.specs.declared.listing.Listing.{Listing}
-use Rattle.op_dir.proofs.FitLaws.{Lists-taken}
+use Rattle.op_dir.specs.declared.places.Place.{Place}
+use Rattle.op_dir.proofs.FitLaws.{Lists-filled}
 use Rattle.volume_rows.specs.Cursors.{cursor_of}
 use Rattle.op_dir.proofs.listing.list.Goals as goal
 
@@ -14,11 +17,10 @@ returns c =
     let v = c.args.volume.now.content in
     let cursor : Cursor = cursor_of c.args.cursor.now in
     let all : List Entry = left_to_list v c.args.dir c.args.expression.now cursor in
-    let looked : map (entry_at v c.args.dir) c.deref.result.now ≡ take c.most_entries-most.result all = ap (map (entry_at v c.args.dir)) c.deref.ensures.value ∙ c.in_ok-places.ensures in
+    let first : List Entry = map (entry_at v c.args.dir) c.deref.result.now in
+    let fills : Fills (pack_kind c.args.kind) c.args.room first all = subst (λ (places : List Place). Fills (pack_kind c.args.kind) c.args.room (map (entry_at v c.args.dir) places) all) (sym c.deref.ensures.value) c.in_ok-places.ensures.fills in
     IfOk-weaker c.pack_places.result
-    (λ listing. (cursor : Cursor) → Lists v c.args.kind cursor (map (entry_at v c.args.dir) c.deref.result.now) c.args.room listing)
+    (λ listing. (cursor : Cursor) → Lists v c.args.kind cursor first c.args.room listing)
     (λ listing. Lists v c.args.kind cursor all c.args.room listing)
-    (λ (listing : Listing). λ (lists : (cursor : Cursor) → Lists v c.args.kind cursor (map (entry_at v c.args.dir) c.deref.result.now) c.args.room listing).
-    Lists-taken v c.args.kind cursor c.most_entries-most.result all c.args.room listing (omega arith) c.most_entries-most.ensures.enough
-    (subst (λ (entries : List Entry). Lists v c.args.kind cursor entries c.args.room listing) looked (lists cursor)))
+    (λ (listing : Listing). λ (lists : (cursor : Cursor) → Lists v c.args.kind cursor first c.args.room listing). Lists-filled v c.args.kind cursor first all c.args.room listing c.requires.room fills (lists cursor))
     c.pack_places.ensures

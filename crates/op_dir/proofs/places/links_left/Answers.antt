@@ -1,4 +1,3 @@
-use Rattle.std.proofs.Common.{rules}
 use Rattle.op_dir.proofs.PlaceLaws.{left-beginning, left-first}
 use Rattle.volume_rows.specs.Cursors.{cursor_of}
 use Rattle.volume_rows.specs.declared.cursors.Cursor.TheVariants.{After}

@@ -11,20 +11,20 @@ pub returns-clause-lives : goal.returns-clause-lives
 returns-clause-lives c =
     let rows = c.self.inside.handles.rows in
     let is_next : Handle → Bool = λ handle. is_after c.args.client c.args.after handle && not (has_row (λ other. is_after c.args.client c.args.after other && nat_lt other.number handle.number) rows) in
-    rw (← c.self.view_is, c.find_next.ensures, c.as_slice.ensures.rows) (number-lives is_next rows)
+    rw (← c.self.view_is, c.next_of.ensures) (number-lives is_next rows)
 
 pub returns-clause-after : goal.returns-clause-after
 returns-clause-after c =
     let rows = c.self.inside.handles.rows in
     let is_next : Handle → Bool = λ handle. is_after c.args.client c.args.after handle && not (has_row (λ other. is_after c.args.client c.args.after other && nat_lt other.number handle.number) rows) in
-    rw (← c.self.view_is, c.find_next.ensures, c.as_slice.ensures.rows)
+    rw (← c.self.view_is, c.next_of.ensures)
     (number-passes is_next (is_after c.args.client c.args.after) rows c.self.inside.handles.last c.self.invariant.0.handles_numbered (λ row passes. (and_parts _ _ passes).0))
 
 pub returns-clause-none : goal.returns-clause-none
 returns-clause-none c =
     let rows = c.self.inside.handles.rows in
     let is_next : Handle → Bool = λ handle. is_after c.args.client c.args.after handle && not (has_row (λ other. is_after c.args.client c.args.after other && nat_lt other.number handle.number) rows) in
-    rw (← c.self.view_is, c.find_next.ensures, c.as_slice.ensures.rows) (number-unfound is_next rows _ (λ none. no-least (λ (entry : ℕ × Handle). is_after c.args.client c.args.after entry.1) (λ entry. entry.1.number) rows none))
+    rw (← c.self.view_is, c.next_of.ensures) (number-unfound is_next rows _ (λ none. no-least (λ (entry : ℕ × Handle). is_after c.args.client c.args.after entry.1) (λ entry. entry.1.number) rows none))
 
 pub returns-clause-numbers : goal.returns-clause-numbers
 returns-clause-numbers c = rw (← c.self.view_is) c.self.invariant.0.handles_numbered
