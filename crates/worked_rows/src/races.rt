@@ -9,6 +9,7 @@ use fsa_machine::VolumeMachine;
 use fsa_top::fsa_main;
 use script_read::{Script, read_script};
 use std::alloc::{AllocError, Global};
+use std::rt::Clock;
 use std::sync::Wait;
 use std::sync::atomic::{AtomicU64, Ordering};
 use std::test::Fail;
@@ -64,7 +65,7 @@ impl Gate for Holding {
 }
 
 // The status and the text of a race.
-fn race<R: Threads + Wait + Sync>(
+fn race<R: Threads + Wait + Clock + Sync>(
     rt: &R,
     alloc: Global,
     script: &[u8],
@@ -161,7 +162,7 @@ fn script_within(alloc: Global, bytes: &[u8]) -> Option<Script>
 }
 
 // The history that `race_history` gives for a script, once its volume is closed.
-fn closed_history<R: Threads + Wait + Sync>(
+fn closed_history<R: Threads + Wait + Clock + Sync>(
     rt: &R,
     alloc: Global,
     bytes: &[u8],
