@@ -44,7 +44,7 @@ const YIELDS: u32 = 2;
 // For how long it sleeps then, in microseconds.
 const PAUSE: u64 = 100;
 
-// Lets others go on: a client that has tried in vain this often in a row gives its processor up, and later sleeps.
+// Lets others go on: a client that has given way this often in a row gives its processor up, and later sleeps.
 fn give_way<R: Clock>(rt: &R, in_vain: u32) {
     if in_vain < YIELDS {
         thread::yield_now();

@@ -28,9 +28,9 @@
 //!   where the stream may grow so, for what a read gives by a copy of its bytes, and for what a lock waits
 //!   for by a list of the locks in the way; no break changes these. A refusal leaves the volume as it was,
 //!   but for the breaks that were begun.
-//! - It costs a break, and time linear in the locks of the stream and in the bytes that are read or written; an
-//!   unlock goes over all locks. What a write or a new length adds is asked of a tally, and its note looks up a link
-//!   for each directory above.
+//! - It costs a break, and time linear in the bytes that are read or written and in the locks near them; an unlock
+//!   finds its lock by place and number, and moves those behind. What a write or a new length adds is asked of a
+//!   tally, and its note looks up a link for each directory above.
 #![tactic(auto)]
 
 mod bytes;

@@ -22,8 +22,8 @@
 //!   volume's.
 //! - All room is taken after the checks and before the first change. A refusal leaves the volume as it was,
 //!   and a query always does.
-//! - A list of streams goes over all streams of the volume once for each stream of the file, and what a new owner is
-//!   charged over all of them once; a note looks up a link for each ancestor.
+//! - A list of streams goes over the streams of the file once for each of them, and what a new owner is charged over
+//!   those of the file once; a note looks up a link for each ancestor.
 #![tactic(auto)]
 
 mod asked;
