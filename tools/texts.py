@@ -1,11 +1,12 @@
 #!/usr/bin/env python3
 """texts.py PROGRAM | --try: runs every script of examples/, of checks/rows/ and of the documents, and compares what is printed with its text.
 
-A script is NAME.fsa in one of the two folders with its text NAME.txt, or in a document a block fenced as `fsa` with the next block,
-fenced as `text`, where a line `..` stands for any lines; a file that the fence names has the same. A block fenced as `why` behind these is what ./fsa says of a
-faulty line. A block fenced as `words` has the words with which the program prints the text behind it, and reads nothing. One
-fenced as `python` is run with FSA set to the program, and prints the text behind it. Every link to a file has to lead to
-one. With --try the program is not built but run by the unproved run of the toolchain, and `python` is left out.
+A script is NAME.fsa in one of the two folders with its text NAME.txt, or in a document a block fenced as `fsa` with the
+next block, fenced as `text`, where a line `..` stands for any lines; a file that the fence names has the same. A block
+fenced as `why` behind these is what ./fsa says of a faulty line. A block fenced as `words` has the words with which the
+program prints the text behind it, and reads nothing. One fenced as `python` is run with FSA set to the program, and prints
+the text behind it. Every link to a file has to lead to one. With --try the program is not built but run by the unproved
+run of the toolchain, and `python` is left out.
 """
 import os
 import re
@@ -157,4 +158,7 @@ def main(program):
 
 
 if __name__ == "__main__":
-    sys.exit(main(*sys.argv[1:]))
+    if len(sys.argv) != 2:
+        print(__doc__, file=sys.stderr)
+        sys.exit(1)
+    sys.exit(main(sys.argv[1]))

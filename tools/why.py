@@ -228,4 +228,7 @@ def main(script, line):
 
 
 if __name__ == "__main__":
+    if len(sys.argv) != 3:
+        print(__doc__, file=sys.stderr)
+        sys.exit(1)
     main(*sys.argv[1:])
