@@ -42,18 +42,18 @@ stalled_fewer test v = elim (cases_Bool (all_wait v)) [
 settled_fewer : (test : Call → Bool) (v : Volume) (starved : List CallId) → MayTakeUp v → pending_that test (settled v starved).volume ≤ pending_that test v
 settled_fewer test v starved may = (let last = stalled_fewer test (taken_up_all v starved).volume in let loop = go.1.1 in omega arith)
   where
-    Goes : Settling → Type 0
-    Goes s = GoesOn v s × (pending_that test s.volume ≤ pending_that test v)
+    KeepsCount : Settling → Type 0
+    KeepsCount s = GoesOn v s × (pending_that test s.volume ≤ pending_that test v)
 
-    step : (s t : Settling) → Goes s → settle_step s ≡ Some t → Goes t × (how_many_free t.volume < how_many_free s.volume)
+    step : (s t : Settling) → KeepsCount s → settle_step s ≡ Some t → KeepsCount t × (how_many_free t.volume < how_many_free s.volume)
     step s t on stepped =
         let next = GoesOn-settle_step v s t on.0 stepped in
         let fewer = (Steps-settle_step s t on.0.may stepped).pending (λ turn call. test call) in
         let before = on.1 in
         ((next.0, omega arith), next.1)
 
-    go : (settle_step (taken_up_all v starved) ≡ None) × Goes (taken_up_all v starved)
-    go = repeated-ends settle_step Goes (λ s. how_many_free s.volume) step (length v.pending) (record { volume = v; starved = starved; taken = [] })
+    go : (settle_step (taken_up_all v starved) ≡ None) × KeepsCount (taken_up_all v starved)
+    go = repeated-ends settle_step KeepsCount (λ s. how_many_free s.volume) step (length v.pending) (record { volume = v; starved = starved; taken = [] })
         (GoesOn-begins v starved may, omega arith) (how_many-length (is_free v) v.pending)
 
 -- ---- the turn's own call

@@ -17,7 +17,7 @@
 //! of itself is one record (`DeskView`): the setup, the client, its calls made, the history that was seen, and two
 //! counts. What each call makes of that is said in the words of `Desks`: `Asks`, `OnlySees`, `SeesHistory`.
 //!
-//! A run and its desk go together (`Serves`): the calls made are the first of the run's calls, each stands in the
+//! A run and its desk go together (`FitsDesk`): the calls made are the first of the run's calls, each stands in the
 //! history seen where no wait of the client was pending, and none is pending but the one for which the run waits.
 //! Each step keeps that, and what it answers has its cause (`Steps`). So a run whose step has ended shows a history in
 //! which the client made its calls, each once, in order, none of them while it waited.

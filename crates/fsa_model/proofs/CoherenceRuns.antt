@@ -68,7 +68,7 @@ record Holds (v : Volume) : Type 0 where
   alone : WritersAlone v
 
 -- it is kept, and each of them is coherent
-record Goes (tries : List Tried) (v w : Volume) : Type 0 where
+record LeadsTo (tries : List Tried) (v w : Volume) : Type 0 where
   keeps : Holds v → Holds w
   all : Holds v → All IsCoherentTry tries
   stretch : Stretch tries v w
@@ -76,25 +76,25 @@ record Goes (tries : List Tried) (v w : Volume) : Type 0 where
 Holds-untouched : (v w : Volume) → IsUntouched v w → Holds v → Holds w
 Holds-untouched v w untouched holds = record { tied = IsTied-alike v w untouched holds.tied; alone = alone-falls v w (Falls-untouched v w untouched) holds.alone }
 
-Goes-none : (v w : Volume) → IsUntouched v w → Goes [] v w
-Goes-none v w untouched = record { keeps = Holds-untouched v w untouched; all = λ holds. All-nil IsCoherentTry; stretch = alike v w untouched }
+LeadsTo-none : (v w : Volume) → IsUntouched v w → LeadsTo [] v w
+LeadsTo-none v w untouched = record { keeps = Holds-untouched v w untouched; all = λ holds. All-nil IsCoherentTry; stretch = alike v w untouched }
 
-Goes-try : (v : Volume) (call : Call) (turn : ℕ) → Goes (record { before = v; call = call; turn = turn } ∷ []) v (volume_after (try v call turn))
-Goes-try v call turn = record {
+LeadsTo-try : (v : Volume) (call : Call) (turn : ℕ) → LeadsTo (record { before = v; call = call; turn = turn } ∷ []) v (volume_after (try v call turn))
+LeadsTo-try v call turn = record {
   keeps = λ holds. record { tied = (IsCoherent-try v call turn holds.tied).tied; alone = (IsCoherent-try v call turn holds.tied).alone holds.alone };
   all = λ holds. All-cons IsCoherentTry (record { before = v; call = call; turn = turn }) [] (record { tied = holds.tied; alone = holds.alone; coherent = IsCoherent-try v call turn holds.tied }) (All-nil IsCoherentTry);
   stretch = (alike-same v, alike-same (volume_after (try v call turn)));
 }
 
-Goes-next : (first second : List Tried) (u v w : Volume) → Goes first u v → Goes second v w → Goes (first ++ second) u w
-Goes-next first second u v w one two = record {
+LeadsTo-next : (first second : List Tried) (u v w : Volume) → LeadsTo first u v → LeadsTo second v w → LeadsTo (first ++ second) u w
+LeadsTo-next first second u v w one two = record {
   keeps = λ holds. two.keeps (one.keeps holds);
   all = λ holds. All-append IsCoherentTry first second (one.all holds) (two.all (one.keeps holds));
   stretch = Stretch-next first second u v w one.stretch two.stretch;
 }
 
-Goes-then : (tries : List Tried) (u v w : Volume) → Goes tries u v → IsUntouched v w → Goes tries u w
-Goes-then tries u v w one untouched = record {
+LeadsTo-then : (tries : List Tried) (u v w : Volume) → LeadsTo tries u v → IsUntouched v w → LeadsTo tries u w
+LeadsTo-then tries u v w one untouched = record {
   keeps = λ holds. Holds-untouched v w untouched (one.keeps holds);
   all = one.all;
   stretch = Stretch-then tries u v w one.stretch (alike v w untouched);
@@ -142,32 +142,32 @@ untouched-stalled v = elim (cases_Bool (all_wait v)) [
 
 -- ---- the tries of a turn
 
-Goes-taken_up : (s : Settling) (entry : ℕ × Pending) → Goes (tried_in s entry) s.volume (taken_up s entry).volume
-Goes-taken_up s entry = elim (cases_Bool (is_held entry.1)) [
-  | inr waits ↦ rw waits (Goes-none s.volume _ (untouched-come s entry.1 entry.1.call.what))
+LeadsTo-taken_up : (s : Settling) (entry : ℕ × Pending) → LeadsTo (tried_in s entry) s.volume (taken_up s entry).volume
+LeadsTo-taken_up s entry = elim (cases_Bool (is_held entry.1)) [
+  | inr waits ↦ rw waits (LeadsTo-none s.volume _ (untouched-come s entry.1 entry.1.call.what))
   | inl held ↦ rw held (elim (cases_Bool (starves s.starved entry.1)) [
-    | inl starving ↦ rw starving (Goes-none s.volume _ (IsUntouched-with_end s.volume _ _ _))
-    | inr plenty ↦ rw plenty (Goes-then (record { before = s.volume; call = entry.1.call; turn = entry.0 } ∷ []) s.volume (volume_after (try s.volume entry.1.call entry.0))
-        (with_tried entry.0 entry.1 (try s.volume entry.1.call entry.0)) (Goes-try s.volume entry.1.call entry.0) (untouched-tried entry.0 entry.1 (try s.volume entry.1.call entry.0)))
+    | inl starving ↦ rw starving (LeadsTo-none s.volume _ (IsUntouched-with_end s.volume _ _ _))
+    | inr plenty ↦ rw plenty (LeadsTo-then (record { before = s.volume; call = entry.1.call; turn = entry.0 } ∷ []) s.volume (volume_after (try s.volume entry.1.call entry.0))
+        (with_tried entry.0 entry.1 (try s.volume entry.1.call entry.0)) (LeadsTo-try s.volume entry.1.call entry.0) (untouched-tried entry.0 entry.1 (try s.volume entry.1.call entry.0)))
   ])
 ]
 
-Goes-steps : (most : ℕ) (s : Settling) → Goes (tries_of_steps most s) s.volume (repeated settle_step most s).volume
-Goes-steps zero s = Goes-none s.volume s.volume (IsUntouched-same s.volume)
-Goes-steps (suc more) s = elim (option_cases (next_ready s.volume)) [
-  | inl none ↦ rw none (Goes-none s.volume s.volume (IsUntouched-same s.volume))
-  | inr some ↦ rw some.1 (Goes-next (tried_in s some.0) (tries_of_steps more (taken_up s some.0)) s.volume (taken_up s some.0).volume _ (Goes-taken_up s some.0) (Goes-steps more (taken_up s some.0)))
+LeadsTo-steps : (most : ℕ) (s : Settling) → LeadsTo (tries_of_steps most s) s.volume (repeated settle_step most s).volume
+LeadsTo-steps zero s = LeadsTo-none s.volume s.volume (IsUntouched-same s.volume)
+LeadsTo-steps (suc more) s = elim (option_cases (next_ready s.volume)) [
+  | inl none ↦ rw none (LeadsTo-none s.volume s.volume (IsUntouched-same s.volume))
+  | inr some ↦ rw some.1 (LeadsTo-next (tried_in s some.0) (tries_of_steps more (taken_up s some.0)) s.volume (taken_up s some.0).volume _ (LeadsTo-taken_up s some.0) (LeadsTo-steps more (taken_up s some.0)))
 ]
 
-Goes-turn : (v : Volume) (call : Call) (starved : List CallId) → Goes (tries_of_turn v call starved) v (settlement v call starved).volume
-Goes-turn v call starved =
+LeadsTo-turn : (v : Volume) (call : Call) (starved : List CallId) → LeadsTo (tries_of_turn v call starved) v (settlement v call starved).volume
+LeadsTo-turn v call starved =
     let own : Volume = own_tried v call in
     let start : Settling = record { volume = own; starved = starved; taken = [] } in
     let taken : Volume = (taken_up_all own starved).volume in
-    Goes-next (record { before = v; call = call; turn = turn_number v } ∷ []) (tries_of_steps (length own.pending) start) v own (settlement v call starved).volume
-    (Goes-then (record { before = v; call = call; turn = turn_number v } ∷ []) v (volume_after (try v call (turn_number v))) own (Goes-try v call (turn_number v))
+    LeadsTo-next (record { before = v; call = call; turn = turn_number v } ∷ []) (tries_of_steps (length own.pending) start) v own (settlement v call starved).volume
+    (LeadsTo-then (record { before = v; call = call; turn = turn_number v } ∷ []) v (volume_after (try v call (turn_number v))) own (LeadsTo-try v call (turn_number v))
     (untouched-answered call (turn_number v) (try v call (turn_number v))))
-    (Goes-then (tries_of_steps (length own.pending) start) own taken (with_stalled taken) (Goes-steps (length own.pending) start) (untouched-stalled taken))
+    (LeadsTo-then (tries_of_steps (length own.pending) start) own taken (with_stalled taken) (LeadsTo-steps (length own.pending) start) (untouched-stalled taken))
 
 -- ---- the tries of a run
 
@@ -178,20 +178,20 @@ turn_on-settled r entry next is = elim (option_cases (turn r.volume entry.call e
       ap (λ (x : Run). x.volume) (sym (some_equal (with_turn r some.0) next so)) ∙ ap (λ (t : Turned). t.volume) (sym (turn-turned r.volume entry.call entry.starved some.0 some.1)))
 ]
 
-Goes-from : (history : List HistoryEntry) (r after : Run) → steps turn_on r history ≡ Some after → Goes (tries_from r history) r.volume after.volume
-Goes-from [] r after is = subst (λ (x : Run). Goes [] r.volume x.volume) (some_equal r after is) (Goes-none r.volume r.volume (IsUntouched-same r.volume))
-Goes-from (entry ∷ more) r after is = elim (option_cases (turn_on r entry)) [
+LeadsTo-from : (history : List HistoryEntry) (r after : Run) → steps turn_on r history ≡ Some after → LeadsTo (tries_from r history) r.volume after.volume
+LeadsTo-from [] r after is = subst (λ (x : Run). LeadsTo [] r.volume x.volume) (some_equal r after is) (LeadsTo-none r.volume r.volume (IsUntouched-same r.volume))
+LeadsTo-from (entry ∷ more) r after is = elim (option_cases (turn_on r entry)) [
   | inl none ↦ (let impossible : None ≡ Some after = rw none at is in cc)
-  | inr some ↦ rw some.1 (Goes-next (tries_of_turn r.volume entry.call entry.starved) (tries_from some.0 more) r.volume some.0.volume after.volume
-      (subst (λ (w : Volume). Goes (tries_of_turn r.volume entry.call entry.starved) r.volume w) (sym (turn_on-settled r entry some.0 some.1)) (Goes-turn r.volume entry.call entry.starved))
-      (Goes-from more some.0 after (rw some.1 at is)))
+  | inr some ↦ rw some.1 (LeadsTo-next (tries_of_turn r.volume entry.call entry.starved) (tries_from some.0 more) r.volume some.0.volume after.volume
+      (subst (λ (w : Volume). LeadsTo (tries_of_turn r.volume entry.call entry.starved) r.volume w) (sym (turn_on-settled r entry some.0 some.1)) (LeadsTo-turn r.volume entry.call entry.starved))
+      (LeadsTo-from more some.0 after (rw some.1 at is)))
 ]
 
 -- all tries of these turns are coherent, also where there is no such turn
 all-from : (history : List HistoryEntry) (r : Run) → Holds r.volume → All IsCoherentTry (tries_from r history)
 all-from [] r holds = All-nil IsCoherentTry
 all-from (entry ∷ more) r holds =
-    let here : Goes (tries_of_turn r.volume entry.call entry.starved) r.volume (settlement r.volume entry.call entry.starved).volume = Goes-turn r.volume entry.call entry.starved in
+    let here : LeadsTo (tries_of_turn r.volume entry.call entry.starved) r.volume (settlement r.volume entry.call entry.starved).volume = LeadsTo-turn r.volume entry.call entry.starved in
     All-append IsCoherentTry (tries_of_turn r.volume entry.call entry.starved) _ (here.all holds) (elim (option_cases (turn_on r entry)) [
       | inl none ↦ rw none (All-nil IsCoherentTry)
       | inr some ↦ rw some.1 (all-from more some.0 (subst (λ (w : Volume). Holds w) (sym (turn_on-settled r entry some.0 some.1)) (here.keeps holds)))
@@ -233,7 +233,7 @@ run-coherent setup history =
     let all : All IsCoherentTry (tries_of setup history) = all-from history (begun setup) (record { tied = IsTied-fresh setup; alone = WritersAlone-fresh setup }) in
     record {
       tries = all;
-      between = λ r is. Goes.stretch (Goes-from history (begun setup) r is);
+      between = λ r is. LeadsTo.stretch (LeadsTo-from history (begun setup) r is);
       stretches = λ handle first part last v w parts stretch counts.
           leads handle part v w (All-part IsCoherentTry first part last (subst (λ (tries : List Tried). All IsCoherentTry tries) parts all)) stretch counts;
     }

@@ -205,7 +205,7 @@ let_go-holds turn at v blockers one some live =
 -- ---- one step
 
 -- what one step does to the volume, where the held call under a turn is taken up, or none is
-record Goes (turns : List ℕ) (v w : Volume) : Type 0 where
+record LeadsTo (turns : List ℕ) (v w : Volume) : Type 0 where
   none_held : GrantsNoneHeld w
   given : HasGiven w
   times : (client number : ℕ) → times client number w ≡ times client number v
@@ -218,7 +218,7 @@ record Goes (turns : List ℕ) (v w : Volume) : Type 0 where
   breaks : w.last_break + unbroken w ≤ v.last_break + unbroken v
   taken : (turn : ℕ) → how_many (λ t. t == turn) turns + let_go turn w ≡ let_go turn v
 
-GoesOn-step : (v : Volume) (s t : Settling) (turns : List ℕ) → GoesOn v s → Steps s.volume t.volume → t.taken ≡ s.taken ++ turns → Goes turns s.volume t.volume
+GoesOn-step : (v : Volume) (s t : Settling) (turns : List ℕ) → GoesOn v s → Steps s.volume t.volume → t.taken ≡ s.taken ++ turns → LeadsTo turns s.volume t.volume
     → AllPairs (λ a b. a < b) t.taken → ((turn : ℕ) → 1 ≤ let_go turn t.volume → All (λ a. a < turn) t.taken) → GoesOn v t
 GoesOn-step v s t turns on steps taken goes in_order below = record {
   in_order = in_order;
@@ -252,9 +252,9 @@ HasGiven-ends v client number reply given = record {
 }
 
 -- a call that isn't held ends
-Goes-unheld : (v : Volume) (entry : ℕ × Pending) (reply : Reply) → IsOnce v → GrantsNoneHeld v → HasGiven v → ((test : ℕ × Pending → Bool) → test entry ≡ true → 1 ≤ how_many test v.pending) → is_held entry.1 ≡ false
-    → Goes [] v (with_end v entry.1.call.client entry.1.call.number reply)
-Goes-unheld v entry reply once none given there waits =
+LeadsTo-unheld : (v : Volume) (entry : ℕ × Pending) (reply : Reply) → IsOnce v → GrantsNoneHeld v → HasGiven v → ((test : ℕ × Pending → Bool) → test entry ≡ true → 1 ≤ how_many test v.pending) → is_held entry.1 ≡ false
+    → LeadsTo [] v (with_end v entry.1.call.client entry.1.call.number reply)
+LeadsTo-unheld v entry reply once none given there waits =
     let self = is_same-refl entry.1.call.client entry.1.call.number in
     let keeps : Keeps v (with_end v entry.1.call.client entry.1.call.number reply) = Keeps-ends v entry.1.call.client entry.1.call.number reply (there (is_call_of entry.1.call.client entry.1.call.number) self) in
     let other : list_any (λ e. is_call_of entry.1.call.client entry.1.call.number e && not (is_held e.1)) v.pending ≡ true
@@ -283,12 +283,12 @@ Goes-unheld v entry reply once none given there waits =
     turned_round false false c = refl
 
 -- also where no more than watches have been seen to
-Goes-waits : (v w : Volume) (entry : ℕ × Pending) (reply : Reply) → Untouched v w → IsOnce v → GrantsNoneHeld v → HasGiven v → IsNext v entry → is_held entry.1 ≡ false
-    → Goes [] v (with_end w entry.1.call.client entry.1.call.number reply)
-Goes-waits v w entry reply un once none given next waits =
+LeadsTo-waits : (v w : Volume) (entry : ℕ × Pending) (reply : Reply) → Untouched v w → IsOnce v → GrantsNoneHeld v → HasGiven v → IsNext v entry → is_held entry.1 ≡ false
+    → LeadsTo [] v (with_end w entry.1.call.client entry.1.call.number reply)
+LeadsTo-waits v w entry reply un once none given next waits =
     let leaves : Leaves v w = Leaves-untouched v w un in
-    let goes : Goes [] w (with_end w entry.1.call.client entry.1.call.number reply)
-    = Goes-unheld w entry reply (IsOnce-kept v w (leaves.keeps.times once) once) (GrantsNoneHeld-kept v w leaves.keeps none) (HasGiven-kept v w leaves given)
+    let goes : LeadsTo [] w (with_end w entry.1.call.client entry.1.call.number reply)
+    = LeadsTo-unheld w entry reply (IsOnce-kept v w (leaves.keeps.times once) once) (GrantsNoneHeld-kept v w leaves.keeps none) (HasGiven-kept v w leaves given)
     (λ test passes. rw un.pending (next.is_there test passes)) waits in
     record {
       none_held = goes.none_held;
@@ -324,9 +324,9 @@ still-let_go v w entry test leaves once none given next held passes =
     reordered false b false d = refl
 
 -- a held call ends
-Goes-ends : (v w : Volume) (entry : ℕ × Pending) (reply : Reply) → Leaves v w → FewNumbers v w → IsOnce v → GrantsNoneHeld v → HasGiven v → IsNext v entry → is_held entry.1 ≡ true
-    → Goes (entry.0 ∷ []) v (with_end w entry.1.call.client entry.1.call.number reply)
-Goes-ends v w entry reply leaves few once none given next held =
+LeadsTo-ends : (v w : Volume) (entry : ℕ × Pending) (reply : Reply) → Leaves v w → FewNumbers v w → IsOnce v → GrantsNoneHeld v → HasGiven v → IsNext v entry → is_held entry.1 ≡ true
+    → LeadsTo (entry.0 ∷ []) v (with_end w entry.1.call.client entry.1.call.number reply)
+LeadsTo-ends v w entry reply leaves few once none given next held =
     let client = entry.1.call.client in
     let number = entry.1.call.number in
     let once_after : IsOnce w = IsOnce-kept v w (leaves.keeps.times once) once in
@@ -350,9 +350,9 @@ Goes-ends v w entry reply leaves few once none given next held =
     }
 
 -- a held call is held anew
-Goes-holds : (v w : Volume) (entry : ℕ × Pending) (blockers : List Blocker) → Leaves v w → SameNumbers v w → AreLiving w blockers → MaySettle v → IsOnce v → GrantsNoneHeld v → HasGiven v → IsNext v entry → is_held entry.1 ≡ true
-    → Goes (entry.0 ∷ []) v (with_blockers w entry.0 blockers)
-Goes-holds v w entry blockers leaves numbers living may once none given next held = record {
+LeadsTo-holds : (v w : Volume) (entry : ℕ × Pending) (blockers : List Blocker) → Leaves v w → SameNumbers v w → AreLiving w blockers → MaySettle v → IsOnce v → GrantsNoneHeld v → HasGiven v → IsNext v entry → is_held entry.1 ≡ true
+    → LeadsTo (entry.0 ∷ []) v (with_blockers w entry.0 blockers)
+LeadsTo-holds v w entry blockers leaves numbers living may once none given next held = record {
   none_held = none_held;
   given = record {
     living = given_after.living;
@@ -426,15 +426,15 @@ Goes-holds v w entry blockers leaves numbers living may once none given next hel
           | inr isnt ↦ rw isnt refl
         ]
 
-Goes-tried : (v : Volume) (entry : ℕ × Pending) (outcome : Outcome) → MaySettle v → IsOnce v → GrantsNoneHeld v → HasGiven v → IsNext v entry → is_held entry.1 ≡ true → TriesTo Leaves v outcome
-    → Goes (entry.0 ∷ []) v (with_tried entry.0 entry.1 outcome)
-Goes-tried v entry (Done w reply) may once none given next held tries = Goes-ends v w entry reply tries.0 tries.1 once none given next held
-Goes-tried v entry (Stay w interim) may once none given next held tries = absurd tries
-Goes-tried v entry (Hold w blockers interim) may once none given next held tries = Goes-holds v w entry blockers tries.0 tries.1.0 tries.1.1 may once none given next held
+LeadsTo-tried : (v : Volume) (entry : ℕ × Pending) (outcome : Outcome) → MaySettle v → IsOnce v → GrantsNoneHeld v → HasGiven v → IsNext v entry → is_held entry.1 ≡ true → TriesTo Leaves v outcome
+    → LeadsTo (entry.0 ∷ []) v (with_tried entry.0 entry.1 outcome)
+LeadsTo-tried v entry (Done w reply) may once none given next held tries = LeadsTo-ends v w entry reply tries.0 tries.1 once none given next held
+LeadsTo-tried v entry (Stay w interim) may once none given next held tries = absurd tries
+LeadsTo-tried v entry (Hold w blockers interim) may once none given next held tries = LeadsTo-holds v w entry blockers tries.0 tries.1.0 tries.1.1 may once none given next held
 
 -- a held call is taken up, after all that were taken up before and before all that will be
 GoesOn-takes : (v : Volume) (s t : Settling) (entry : ℕ × Pending) → GoesOn v s → IsNext s.volume entry → is_held entry.1 ≡ true → Steps s.volume t.volume → t.taken ≡ s.taken ++ entry.0 ∷ []
-    → Goes (entry.0 ∷ []) s.volume t.volume → GoesOn v t
+    → LeadsTo (entry.0 ∷ []) s.volume t.volume → GoesOn v t
 GoesOn-takes v s t entry on next held steps taken goes = GoesOn-step v s t (entry.0 ∷ []) on steps taken goes in_order below
   where
     before : All (λ a. a < entry.0) s.taken
@@ -474,7 +474,7 @@ GoesOn-takes v s t entry on next held steps taken goes = GoesOn-step v s t (entr
     below turn some = subst (λ (turns : List ℕ). All (λ a. a < turn) turns) (sym taken) (All-push (λ a. a < turn) s.taken entry.0 (λ k d within. (let lower : get_or s.taken k d < entry.0 = before k d within in let above = is_above turn some in omega arith)) (is_above turn some))
 
 -- a wait ends
-GoesOn-waits : (v : Volume) (s t : Settling) → GoesOn v s → Steps s.volume t.volume → t.taken ≡ s.taken → Goes [] s.volume t.volume → GoesOn v t
+GoesOn-waits : (v : Volume) (s t : Settling) → GoesOn v s → Steps s.volume t.volume → t.taken ≡ s.taken → LeadsTo [] s.volume t.volume → GoesOn v t
 GoesOn-waits v s t on steps taken goes = GoesOn-step v s t [] on steps (taken ∙ sym (append-nil s.taken)) goes
     (subst (λ (turns : List ℕ). AllPairs (λ a b. a < b) turns) (sym taken) on.in_order)
     (λ turn some. subst (λ (turns : List ℕ). All (λ a. a < turn) turns) (sym taken) (on.below turn (let one = goes.taken turn in omega arith)))
@@ -483,9 +483,9 @@ GoesOn-held : (v : Volume) (s : Settling) (entry : ℕ × Pending) → GoesOn v 
     → GoesOn v (held_taken_up s entry.0 entry.1)
 GoesOn-held v s entry on next held steps = elim (cases_Bool (starves s.starved entry.1)) [
   | inl starving ↦ rw starving (GoesOn-takes v s _ entry on next held (rw starving at steps) refl
-      (Goes-ends s.volume s.volume entry _ (Leaves-same s.volume) (FewNumbers-same (SameNumbers-same s.volume)) on.once on.none_held on.given next held))
+      (LeadsTo-ends s.volume s.volume entry _ (Leaves-same s.volume) (FewNumbers-same (SameNumbers-same s.volume)) on.once on.none_held on.given next held))
   | inr plenty ↦ rw plenty (GoesOn-takes v s _ entry on next held (rw plenty at steps) refl
-      (Goes-tried s.volume entry (try s.volume entry.1.call entry.0) on.may on.once on.none_held on.given next held
+      (LeadsTo-tried s.volume entry (try s.volume entry.1.call entry.0) on.may on.once on.none_held on.given next held
       (Tries.so (try-tries s.volume entry.1.call entry.0 on.may.oplocks (next-may_be_held s.volume entry on.may next held)))))
 ]
 
@@ -493,7 +493,7 @@ GoesOn-taken_up : (v : Volume) (s : Settling) (entry : ℕ × Pending) → GoesO
 GoesOn-taken_up v s entry on next steps = elim (cases_Bool (is_held entry.1)) [
   | inl held ↦ rw held (GoesOn-held v s entry on next held (rw held at steps))
   | inr waits ↦ rw waits (let comes = comes_over s entry.1 waits next.ready in
-      GoesOn-waits v s _ on (rw waits at steps) comes.taken (subst (λ (w : Volume). Goes [] s.volume w) (sym comes.is) (Goes-waits s.volume comes.seen entry comes.reply comes.untouched on.once on.none_held on.given next waits)))
+      GoesOn-waits v s _ on (rw waits at steps) comes.taken (subst (λ (w : Volume). LeadsTo [] s.volume w) (sym comes.is) (LeadsTo-waits s.volume comes.seen entry comes.reply comes.untouched on.once on.none_held on.given next waits)))
 ]
 
 pub GoesOn-settle_step : (v : Volume) (s t : Settling) → GoesOn v s → settle_step s ≡ Some t → GoesOn v t × (how_many_free t.volume < how_many_free s.volume)

@@ -9,7 +9,7 @@ use Rattle.fsa_model.proofs.ScriptLaws.{script_of-few, script_of-named}
 use Rattle.history_laws.specs.Named.{IsReadScript}
 use Rattle.history_laws.proofs.ReadNames.{script_of-read}
 use Rattle.wire_io.specs.Source.{HasMoreThan, ReadsWhole}
-use Rattle.fsa_top.specs.Limits.{PassesLimit, client_lines, limit_of, line_feeds, most_bytes, most_client_lines, most_line_feeds}
+use Rattle.fsa_top.specs.Limits.{PassesLimit, client_lines, limit_of, line_feeds, most_script_bytes, most_client_lines, most_line_feeds}
 use Rattle.fsa_top.specs.Order.{IsWithinLimits}
 use Rattle.fsa_top.specs.declared.limits.Limit.{Limit}
 use Rattle.fsa_top.specs.declared.limits.Limit.TheVariants.{Bytes, Lines, Clients}
@@ -20,21 +20,21 @@ PassesLimit-read None left_now bytes limit read passes = tt
 PassesLimit-read (Some all) left_now bytes limit read passes = ap limit_of read.0 ∙ passes
 
 -- a source that has more bytes than a script may have passes the limit on bytes
-pub PassesLimit-more : (left : Option (List ℕ)) → HasMoreThan most_bytes left → PassesLimit Bytes left
+pub PassesLimit-more : (left : Option (List ℕ)) → HasMoreThan most_script_bytes left → PassesLimit Bytes left
 unfolding limit_of
 PassesLimit-more None more = tt
 PassesLimit-more (Some bytes) more = grind (arith, nat_tests)
 
 -- bytes that pass no limit
-pub limits_none : (bytes : List ℕ) → limit_of bytes ≡ None → (length bytes ≤ most_bytes) × (line_feeds bytes ≤ most_line_feeds) × (client_lines bytes ≤ most_client_lines)
+pub limits_none : (bytes : List ℕ) → limit_of bytes ≡ None → (length bytes ≤ most_script_bytes) × (line_feeds bytes ≤ most_line_feeds) × (client_lines bytes ≤ most_client_lines)
 unfolding limit_of
-limits_none bytes none = elim (cases_Bool (nat_lt most_bytes (length bytes))) [
+limits_none bytes none = elim (cases_Bool (nat_lt most_script_bytes (length bytes))) [
   | inl over ↦ absurd (let impossible : Some Bytes ≡ None = rw over at none in cc)
   | inr bytes_few ↦ elim (cases_Bool (nat_lt most_line_feeds (line_feeds bytes))) [
     | inl over ↦ absurd (let impossible : Some Lines ≡ None = rw (bytes_few, over) at none in cc)
     | inr lines_few ↦ elim (cases_Bool (nat_lt most_client_lines (client_lines bytes))) [
       | inl over ↦ absurd (let impossible : Some Clients ≡ None = rw (bytes_few, lines_few, over) at none in cc)
-      | inr clients_few ↦ (ltb-false most_bytes (length bytes) bytes_few, ltb-false most_line_feeds (line_feeds bytes) lines_few, ltb-false most_client_lines (client_lines bytes) clients_few)
+      | inr clients_few ↦ (ltb-false most_script_bytes (length bytes) bytes_few, ltb-false most_line_feeds (line_feeds bytes) lines_few, ltb-false most_client_lines (client_lines bytes) clients_few)
     ]
   ]
 ]

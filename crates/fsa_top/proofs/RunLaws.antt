@@ -23,7 +23,7 @@ use Rattle.fsa_model.proofs.ScriptLaws.{all_calls-numbered}
 use Rattle.fsa_model.proofs.SettleLaws.{some_equal}
 use Rattle.history_laws.specs.Cursors.{StandAt, first_from, first_of}
 use Rattle.history_laws.specs.Named.{IsReadScript}
-use Rattle.history_laws.specs.Whole.{GoesOnTo, how_many_left}
+use Rattle.history_laws.specs.GoesOn.{GoesOnTo, how_many_left}
 use Rattle.history_laws.proofs.CursorLaws.{first_from-is}
 use Rattle.history_laws.proofs.NextLaws.{AreLineCalls-all, AreLineCalls-at}
 use Rattle.history_laws.proofs.OrderLaws.{call_within, calls-begun, calls-go, next-all, next-least, next-none, next_at_cursor}

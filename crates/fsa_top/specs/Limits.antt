@@ -5,8 +5,8 @@ use Rattle.fsa_model.specs.Script.{pieces}
 use Rattle.fsa_top.specs.declared.limits.Limit.{Limit}
 use Rattle.fsa_top.specs.declared.limits.Limit.TheVariants.{Bytes, Lines, Clients}
 
-abbrev pub most_bytes : ℕ
-most_bytes = 16777216
+abbrev pub most_script_bytes : ℕ
+most_script_bytes = 16777216
 
 abbrev pub most_line_feeds : ℕ
 most_line_feeds = 40000
@@ -29,7 +29,7 @@ client_lines bytes = count_by is_client_line (pieces bytes)
 -- the first limit that these bytes pass
 unfoldable pub limit_of : List ℕ → Option Limit
 limit_of bytes =
-    if nat_lt most_bytes (length bytes) then Some Bytes
+    if nat_lt most_script_bytes (length bytes) then Some Bytes
     else if nat_lt most_line_feeds (line_feeds bytes) then Some Lines
     else if nat_lt most_client_lines (client_lines bytes) then Some Clients
     else None

@@ -8,7 +8,7 @@ use Rattle.fsa_model.specs.Setup.{Script}
 use Rattle.fsa_model.specs.Text.{shown_turns, turn_text}
 use Rattle.history_laws.specs.Cursors.{StandAt}
 use Rattle.history_laws.specs.Named.{IsReadScript}
-use Rattle.history_laws.specs.Whole.{how_many_left}
+use Rattle.history_laws.specs.GoesOn.{how_many_left}
 use Rattle.fsa_machine.specs.MachineView.{GaveOut, MachineView}
 use Rattle.wire_io.specs.Sink.{Written, Appends, AppendsPart}
 use Rattle.fsa_top.specs.Order.{AreNextPlaces, IsWithinLimits}

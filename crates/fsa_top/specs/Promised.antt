@@ -6,7 +6,7 @@ use Rattle.wire_io.specs.Faults.{FailsLast, Rose, StopsAtFault}
 use Rattle.wire_io.specs.Sink.{Written}
 use Rattle.wire_io.specs.Source.{HasReadAtMost, Taken, TakesLittle}
 use Rattle.fsa_top.specs.declared.limits.Limit.{Limit}
-use Rattle.fsa_top.specs.Limits.{limit_of, most_bytes}
+use Rattle.fsa_top.specs.Limits.{limit_of, most_script_bytes}
 use Rattle.fsa_model.specs.Setup.{Script}
 use Rattle.fsa_top.specs.Runs.{FoundBad, FoundLimit, IsNoScript, IsScript, Ran}
 use Rattle.fsa_top.specs.Summaries.{WritesSummary, WritesSummaryPart}
@@ -47,9 +47,9 @@ pub record Promised {S K : Type 0} (of : SourceView S) (on : SinkView K) (is_lis
   pub limit_passed : status ≡ 6 → FoundLimit (of.left source) (on.written sink) (on.written sink_now) (on.faults sink) (on.faults sink_now)
   pub known : status ≤ 6
   -- how the source and the sink are asked
-  pub reads_in_few_turns : of.takes source_now ≤ of.takes source + (most_bytes + 1)
-  pub reads_at_most_one_byte_above_the_limit : status ≢ 1 → HasReadAtMost (most_bytes + 1) (of.left source) (of.left source_now)
-  pub takes_nothing_after_the_end_or_a_fault : status ≢ 1 → TakesLittle (most_bytes + 1) (of.taken source) (of.taken source_now)
+  pub reads_in_few_turns : of.takes source_now ≤ of.takes source + (most_script_bytes + 1)
+  pub reads_at_most_one_byte_above_the_limit : status ≢ 1 → HasReadAtMost (most_script_bytes + 1) (of.left source) (of.left source_now)
+  pub takes_nothing_after_the_end_or_a_fault : status ≢ 1 → TakesLittle (most_script_bytes + 1) (of.taken source) (of.taken source_now)
   pub the_last_take_met_the_end : (status ≡ 0) ⊎ (status ≡ 2) → (of.taken source_now).since ≡ 0
   pub puts_nothing_after_a_fault : StopsAtFault (on.faults sink) (on.faults sink_now) (on.written sink_now).since_fault
   pub faults_never_fall : (of.faults source ≤ of.faults source_now) × (on.faults sink ≤ on.faults sink_now)

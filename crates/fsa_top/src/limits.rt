@@ -1,7 +1,7 @@
 //! The limits of a script.
 
 ghost use Rattle.std.specs.Prelude.{◌≡◌, ◌≤◌, length};
-ghost use Rattle.fsa_top.specs.Limits.{client_lines, is_client_line, limit_of, line_feeds, most_bytes};
+ghost use Rattle.fsa_top.specs.Limits.{client_lines, is_client_line, limit_of, line_feeds, most_script_bytes};
 
 /// The most bytes of a script.
 pub const MOST_SCRIPT_BYTES: usize = 16_777_216;
@@ -51,7 +51,7 @@ fn client_lines(bytes: &[u8]) -> usize
 /// bytes, and no memory.
 #[tactic(auto, unfolding(crate::specs::Limits::limit_of))]
 pub fn limit_of(bytes: &[u8]) -> Option<Limit>
-    requires within { length bytes.now ≤ most_bytes }
+    requires within { length bytes.now ≤ most_script_bytes }
     ensures { result ≡ limit_of bytes.now }
 {
     if line_feeds(bytes) > MOST_LINE_FEEDS {

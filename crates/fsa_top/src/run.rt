@@ -8,7 +8,7 @@ ghost use Rattle.fsa_model.specs.Schedule.{HasAllCalls, all_calls, calls_of, lea
 ghost use Rattle.fsa_model.specs.Setup.{client_of};
 ghost use Rattle.fsa_model.specs.Text.{last_line};
 ghost use Rattle.history_laws.specs.Named.{IsReadScript};
-ghost use Rattle.history_laws.specs.Whole.{how_many_left};
+ghost use Rattle.history_laws.specs.GoesOn.{how_many_left};
 ghost use Rattle.wire_io.specs.Faults.{FailsLast};
 ghost use Rattle.wire_io.specs.Sink.{Appends, AppendsPart, Written};
 ghost use Rattle.script_read.specs.ScriptView.{contents};

@@ -5,7 +5,7 @@ ghost use Rattle.fsa_model.specs.Script.{script_of};
 ghost use Rattle.script_read.specs.ScriptView.{contents};
 ghost use Rattle.wire_io.specs.Faults.{FailsLast, StopsAtFault};
 ghost use Rattle.wire_io.specs.Source.{HasReadAtMost, TakesLittle};
-ghost use Rattle.fsa_top.specs.Limits.{limit_of, most_bytes};
+ghost use Rattle.fsa_top.specs.Limits.{limit_of, most_script_bytes};
 ghost use Rattle.fsa_top.specs.Promised.{Promised, PromisedSummary};
 ghost use Rattle.fsa_top.specs.Runs.{FoundBad, FoundLimit, IsOfBytes, NamesFault, NamesLimit, Ran, ReadsScript, WritesBegun, WritesPart, WritesText, WritesWhole, WritesWholePart};
 ghost use Rattle.fsa_top.specs.Words.{is_race, is_run, seed_of};
@@ -45,7 +45,7 @@ fn read_within<K: Sink>(alloc: Global, bytes: &[u8], sink: &mut K) -> Result<Scr
 
 // The script that these bytes are; else the status, whose line is written.
 fn read_bytes<K: Sink>(alloc: Global, bytes: &[u8], sink: &mut K) -> Result<Script, u8>
-    requires few { length bytes.now ≤ most_bytes }
+    requires few { length bytes.now ≤ most_script_bytes }
     ensures script { IfOk result (λ script. (limit_of bytes.now ≡ None) × (script_of bytes.now ≡ Ok (contents script)) × (sink.new ≡ sink.old)) }
     ensures bad { IfErr result (λ status. status ≡ 2 → (limit_of bytes.now ≡ None) × NamesFault bytes.now (K.written sink.old) (K.written sink.new) (K.faults sink.old) (K.faults sink.new)) }
     ensures memory { IfErr result (λ status. status ≡ 5 → sink.new ≡ sink.old) }
@@ -76,9 +76,9 @@ fn read_source<S: Source, K: Sink>(
     ensures limit { IfErr result (λ status. status ≡ 6 → FoundLimit (S.left source.old) (K.written sink.old) (K.written sink.new) (K.faults sink.old) (K.faults sink.new)) }
     ensures known { IfErr result (λ status. (status ≡ 2) ⊎ ((status ≡ 3) ⊎ ((status ≡ 5) ⊎ (status ≡ 6)))) }
     ensures unfailed { OnOk result (S.faults source.new ≡ S.faults source.old) }
-    ensures turns { S.takes source.new ≤ S.takes source.old + (most_bytes + 1) }
-    ensures bytes { HasReadAtMost (most_bytes + 1) (S.left source.old) (S.left source.new) }
-    ensures little { TakesLittle (most_bytes + 1) (S.taken source.old) (S.taken source.new) }
+    ensures turns { S.takes source.new ≤ S.takes source.old + (most_script_bytes + 1) }
+    ensures bytes { HasReadAtMost (most_script_bytes + 1) (S.left source.old) (S.left source.new) }
+    ensures little { TakesLittle (most_script_bytes + 1) (S.taken source.old) (S.taken source.new) }
     ensures ended { OnOk result ((S.taken source.new).since ≡ 0) }
     ensures ended_bad { IfErr result (λ status. status ≡ 2 → (S.taken source.new).since ≡ 0) }
     ensures stops { StopsAtFault (K.faults sink.old) (K.faults sink.new) (K.written sink.new).since_fault }
@@ -86,12 +86,12 @@ fn read_source<S: Source, K: Sink>(
 {
     match read_all(alloc, source, MOST_SCRIPT_BYTES) {
         Ok(bytes) => read_bytes(alloc, &bytes, sink),
-        Err(wire_io::ReadFault::Failed) => Err(3),
-        Err(wire_io::ReadFault::TooMany) => {
+        Err(wire_io::InputFault::Failed) => Err(3),
+        Err(wire_io::InputFault::TooMany) => {
             say_limit(sink, Limit::Bytes);
             Err(6)
         }
-        Err(wire_io::ReadFault::NoMemory) => Err(5),
+        Err(wire_io::InputFault::NoMemory) => Err(5),
     }
 }
 
@@ -148,9 +148,9 @@ fn run_source<S: Source, K: Sink>(alloc: Global, source: &mut S, sink: &mut K) -
     ensures limit { result ≡ 6 → FoundLimit (S.left source.old) (K.written sink.old) (K.written sink.new) (K.faults sink.old) (K.faults sink.new) }
     ensures known { (result ≢ 1) × (result ≤ 6) }
     ensures unfailed { result ≡ 5 → (S.faults source.new ≡ S.faults source.old) × (K.faults sink.new ≡ K.faults sink.old) }
-    ensures turns { S.takes source.new ≤ S.takes source.old + (most_bytes + 1) }
-    ensures bytes { HasReadAtMost (most_bytes + 1) (S.left source.old) (S.left source.new) }
-    ensures little { TakesLittle (most_bytes + 1) (S.taken source.old) (S.taken source.new) }
+    ensures turns { S.takes source.new ≤ S.takes source.old + (most_script_bytes + 1) }
+    ensures bytes { HasReadAtMost (most_script_bytes + 1) (S.left source.old) (S.left source.new) }
+    ensures little { TakesLittle (most_script_bytes + 1) (S.taken source.old) (S.taken source.new) }
     ensures ended { (result ≡ 0) ⊎ (result ≡ 2) → (S.taken source.new).since ≡ 0 }
     ensures stops { StopsAtFault (K.faults sink.old) (K.faults sink.new) (K.written sink.new).since_fault }
     ensures later { (S.faults source.old ≤ S.faults source.new) × (K.faults sink.old ≤ K.faults sink.new) }
@@ -178,9 +178,9 @@ fn race_source<R: Threads + Wait + Clock + Sync, S: Source, K: Sink, G: Gate + S
     ensures limit { result ≡ 6 → FoundLimit (S.left source.old) (K.written sink.old) (K.written sink.new) (K.faults sink.old) (K.faults sink.new) }
     ensures known { (result ≢ 1) × (result ≤ 6) }
     ensures unfailed { result ≡ 5 → (S.faults source.new ≡ S.faults source.old) × (K.faults sink.new ≡ K.faults sink.old) }
-    ensures turns { S.takes source.new ≤ S.takes source.old + (most_bytes + 1) }
-    ensures bytes { HasReadAtMost (most_bytes + 1) (S.left source.old) (S.left source.new) }
-    ensures little { TakesLittle (most_bytes + 1) (S.taken source.old) (S.taken source.new) }
+    ensures turns { S.takes source.new ≤ S.takes source.old + (most_script_bytes + 1) }
+    ensures bytes { HasReadAtMost (most_script_bytes + 1) (S.left source.old) (S.left source.new) }
+    ensures little { TakesLittle (most_script_bytes + 1) (S.taken source.old) (S.taken source.new) }
     ensures ended { (result ≡ 0) ⊎ (result ≡ 2) → (S.taken source.new).since ≡ 0 }
     ensures stops { StopsAtFault (K.faults sink.old) (K.faults sink.new) (K.written sink.new).since_fault }
     ensures later { (S.faults source.old ≤ S.faults source.new) × (K.faults sink.old ≤ K.faults sink.new) }

@@ -86,9 +86,9 @@ matches table [] name = is_empty name
 matches table (unit ∷ rest) name = first_matches table unit (sign_of unit) (matches table rest) name
 
 -- a unit that no expression has: below 0x20, or one of `\ / : |`
-abbrev pub is_bad_unit : ℕ → Bool
-is_bad_unit unit = nat_lt unit 0x20 || unit == 92 || unit == 47 || unit == 58 || unit == 124
+abbrev pub is_bad_expression_unit : ℕ → Bool
+is_bad_expression_unit unit = nat_lt unit 0x20 || unit == 92 || unit == 47 || unit == 58 || unit == 124
 
 -- an expression is refused: more than 255 units, or a bad one
 abbrev pub is_refused : List ℕ → Bool
-is_refused units = nat_lt 255 (length units) || list_any is_bad_unit units
+is_refused units = nat_lt 255 (length units) || list_any is_bad_expression_unit units

@@ -1,4 +1,12 @@
-//! The types of the store: requests, replies, statuses, masks and lists.
+//! The types of the store: requests, replies, statuses, masks and lists, and in `specs` the rules over plain lists that
+//! the definitions of `fsa_model` and the code stand on both.
+//!
+//! - A call is a request, a wait, a tick or a leaving, with its client and its number among that client's calls. Its
+//!   reply is a status and a body; `Out` is all that one turn gives out.
+//! - Names and numbers of statuses, masks, actions and filters are those of [MS-ERREF], [MS-FSCC] and [MS-FSA].
+//! - A name is a list of 16-bit units, and `UpcaseTable` says which of two names are the same.
+//! - What takes memory answers a `Result`, with `NoMemory` where there is none; a `BoundedList` takes its room once, and
+//!   a `ReplyRoom` is what a reply is copied into.
 #![tactic(auto)]
 
 mod case;
@@ -35,7 +43,7 @@ pub use reply::{
 };
 pub use request::{
     Ace, Call, CallId, CallIdList, CallList, Dacl, DaclChange, DirKind, Disposition, InfoKind,
-    Level, MOST_BYTES, MOST_ENTRIES, Request, What,
+    Level, MOST_ACES, MOST_BYTES, Request, What,
 };
 pub use setup::{Client, ClientList, Setup, SidList};
 pub use status::Status;

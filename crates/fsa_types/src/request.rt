@@ -13,7 +13,7 @@ use std::alloc::Global;
 pub const MOST_BYTES: u32 = 16384;
 
 /// The most entries of an access list.
-pub const MOST_ENTRIES: usize = 32;
+pub const MOST_ACES: usize = 32;
 
 /// An entry of an access list, after [MS-DTYP] 'ACE'.
 #[derive(Clone, Copy, Debug, PartialEq, Eq)]
@@ -355,7 +355,7 @@ impl DaclChange {
         ensures { result ≡ dacl_fits self.now }
     {
         match self {
-            DaclChange::Put(dacl) => dacl.len() <= MOST_ENTRIES,
+            DaclChange::Put(dacl) => dacl.len() <= MOST_ACES,
             _ => true,
         }
     }

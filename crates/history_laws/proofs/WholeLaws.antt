@@ -26,7 +26,7 @@ use Rattle.fsa_model.proofs.ScheduleLaws.{Scheduled-push}
 use Rattle.fsa_model.proofs.ScriptLaws.{all_calls-numbered}
 use Rattle.fsa_model.proofs.WaitLaws.{find-passes}
 use Rattle.history_laws.specs.Named.{IsReadScript}
-use Rattle.history_laws.specs.Whole.{GoesOnTo, how_many_left}
+use Rattle.history_laws.specs.GoesOn.{GoesOnTo, how_many_left}
 use Rattle.history_laws.proofs.NextLaws.{none_next-all, found_at}
 use Rattle.history_laws.proofs.PlaceLaws.{is_made-push, is_same-self}
 

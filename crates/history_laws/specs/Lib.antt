@@ -3,4 +3,4 @@ pub mod Cursors
 pub mod Named
 pub mod Races
 pub mod WaitEnds
-pub mod Whole
+pub mod GoesOn

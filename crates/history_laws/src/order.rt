@@ -9,7 +9,7 @@ ghost use Rattle.fsa_model.specs.Volume.{Volume};
 ghost use Rattle.fsa_model.specs.Waiting.{waits};
 ghost use Rattle.history_laws.specs.Cursors.{StandAt, first_from, first_of};
 ghost use Rattle.history_laws.specs.Named.{IsReadScript};
-ghost use Rattle.history_laws.specs.Whole.{GoesOnTo};
+ghost use Rattle.history_laws.specs.GoesOn.{GoesOnTo};
 
 /// Each client's calls are made in its own order: those that a schedule has are its first ones, and so a cursor
 /// for each client tells which were made. With a turn of the call at its client's cursor this goes on to the

@@ -5,7 +5,7 @@ use std::io;
 use std::io::{Error, Read, Write};
 use std::test::Fail;
 use wire_io::{
-    Failed, Gate, MemorySink, MemorySource, OpenGate, ReadFault, Sink, Source, StdSink, StdSource,
+    Failed, Gate, InputFault, MemorySink, MemorySource, OpenGate, Sink, Source, StdSink, StdSource,
     put_all, read_all,
 };
 
@@ -16,9 +16,9 @@ fn reads_up_to_a_limit(rt: HostRuntime) -> Result<(), Fail> {
     let cases = [
         (1, 5, 9, Ok(5)),
         (9, 9, 9, Ok(5)),
-        (2, 4, 9, Err(ReadFault::TooMany)),
-        (2, 5, 1, Err(ReadFault::Failed)),
-        (2, 5, 4, Err(ReadFault::Failed)),
+        (2, 4, 9, Err(InputFault::TooMany)),
+        (2, 5, 1, Err(InputFault::Failed)),
+        (2, 5, 4, Err(InputFault::Failed)),
         (2, 5, 5, Ok(5)),
     ];
     for (piece, limit, failing, expected) in cases {

@@ -3,7 +3,7 @@
 ghost use Rattle.std.specs.Prelude.{ℕ, ◌≡◌, ◌↔◌, IfOk, IsErrOf, IsTrue, List, nat_eq, true};
 ghost use Rattle.std.specs.List.{list_any, starts_with, take_while};
 ghost use Rattle.fsa_types.specs.CaseTable.{upcased};
-ghost use Rattle.fsa_types.specs.Match.{is_bad_unit, is_refused, matches};
+ghost use Rattle.fsa_types.specs.Match.{is_bad_expression_unit, is_refused, matches};
 ghost use Rattle.name_match.specs.Plan.{is_literal};
 
 use crate::ends::matches_by_ends;
@@ -110,7 +110,7 @@ fn is_refused(units: &[u16]) -> bool
 
 // Whether one of these units is in no expression.
 fn has_bad(units: &[u16]) -> bool
-    ensures { result ≡ list_any is_bad_unit units.now }
+    ensures { result ≡ list_any is_bad_expression_unit units.now }
 {
     units.iter().any(|unit| is_bad(*unit))
 }

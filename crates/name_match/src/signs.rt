@@ -2,7 +2,7 @@
 
 ghost use Rattle.std.specs.Prelude.{◌≡◌};
 ghost use Rattle.name_match.specs.Plan.{is_literal};
-ghost use Rattle.fsa_types.specs.Match.{is_bad_unit};
+ghost use Rattle.fsa_types.specs.Match.{is_bad_expression_unit};
 
 /// `*`.
 pub(crate) const STAR: u16 = 42;
@@ -26,7 +26,7 @@ pub(crate) fn is_literal(unit: u16) -> bool
 
 // Whether no expression has this unit: it is below a space, or one of `\ / : |`.
 pub(crate) fn is_bad(unit: u16) -> bool
-    ensures { result ≡ is_bad_unit unit }
+    ensures { result ≡ is_bad_expression_unit unit }
 {
     matches!(unit, 0..0x20 | 92 | 47 | 58 | 124)
 }

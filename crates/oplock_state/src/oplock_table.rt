@@ -31,7 +31,7 @@ use volume_tables::HandleTable;
 ///
 /// A table stands, and room is promised, under a key of the stream, the home of its oplocks: 2 times the stream's
 /// number, which has to be below 2^63. An odd key, 2 times a directory's file number and 1, is kept for a directory;
-/// no directory has an oplock so far.
+/// no directory has an oplock yet.
 #[derive(Drop)]
 pub struct OplockTable {
     list: Oplocks,

@@ -107,6 +107,7 @@ impl StreamOplocks {
         ensures left { self.old.room ≤ self.new.room + 1 }
         ensures last { self.new.last ≡ self.old.last }
         ensures marked { self.old.marked ≡ [] → self.new.marked ≡ [] }
+        ensures unmarked { result ≡ Granted → self.new.marked ≡ [] }
     {
         if is_refused(handle, key, level, others, locked, self.list.as_slice()) {
             return Grant::Refused;

@@ -8,7 +8,7 @@ ghost use Rattle.script_read.specs.ReadsAs.{ReadsAs, Fails};
 use crate::fault::{LineFault, SYNTAX};
 use crate::number::written_number;
 use crate::word::{after_first, end_before, field_at, mask_of};
-use fsa_types::{Ace, Dacl, DaclChange, MOST_ENTRIES};
+use fsa_types::{Ace, Dacl, DaclChange, MOST_ACES};
 use std::alloc::Global;
 
 // The SID that a word writes.
@@ -96,7 +96,7 @@ fn comma_count(bytes: &[u8]) -> usize
 fn room_for(bytes: &[u8]) -> u32
     ensures { result ≡ min (count_by (λ byte. byte == 44) bytes.now) 32 }
 {
-    comma_count(bytes).min(MOST_ENTRIES) as u32
+    comma_count(bytes).min(MOST_ACES) as u32
 }
 
 // Entries up to the end of the word, each behind a comma, 32 at most; the list has no more room.
@@ -107,7 +107,7 @@ fn aces_of(alloc: Global, bytes: &[u8]) -> Result<Dacl, LineFault>
     let mut dacl = Dacl::with_room(alloc, room_for(bytes))?;
     let mut rest = bytes;
     'aces: while !rest.is_empty() {
-        if dacl.len() == MOST_ENTRIES {
+        if dacl.len() == MOST_ACES {
             return Err(SYNTAX);
         }
         let (ace, after) = next_ace(rest)?;

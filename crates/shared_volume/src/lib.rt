@@ -20,7 +20,7 @@
 //! What each call says is said of what its pass has seen of the history: the definitions' run of these
 //! entries gave out this answer, or has ended this call so, or has it pending (`Shared`). What a pass has
 //! seen can at all times be run, has each client's calls numbered from 1, and has no more than 1,000,000
-//! entries (`IsHistory`). The rest is as the turn lock says it, in the first page of `history_lock`, whose
+//! entries (`IsMachineHistory`). The rest is as the turn lock says it, in the first page of `history_lock`, whose
 //! caveats are this crate's too.
 //!
 //! A look goes over the ends of calls, and takes the turn for that time; a wait sleeps until the history

@@ -214,7 +214,7 @@ impl Oplocks {
         self.told.as_slice()
     }
 
-    // Nobody is told so far.
+    // Nobody is told yet.
     pub(crate) fn tell_nobody(&mut self)
         ensures { self.new ≡ record self.old { told = [] } }
     {

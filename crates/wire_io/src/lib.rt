@@ -48,4 +48,4 @@ pub use memory_source::MemorySource;
 pub use sinks::{Sink, put_all};
 pub use sources::Source;
 pub use std_streams::{StdSink, StdSource};
-pub use whole_input::{ReadFault, read_all};
+pub use whole_input::{InputFault, read_all};

@@ -2,7 +2,7 @@
 ghost use Rattle.std.specs.Prelude.{◌≡◌, ◌≤◌, ◌<◌, ◌+◌, length, vec_len, IfOk, OnOk, IsErrOf};
 ghost use Rattle.wire_io.specs.Faults.{FailsLast};
 ghost use Rattle.wire_io.specs.Source.{ReadsWhole, HasMoreThan, HasReadAtMost, TakesLittle};
-ghost use Rattle.wire_io.specs.declared.whole_input.ReadFault.TheVariants.{Failed, NoMemory};
+ghost use Rattle.wire_io.specs.declared.whole_input.InputFault.TheVariants.{Failed, NoMemory};
 
 use super::faults::Failed;
 use super::sources::Source;
@@ -10,7 +10,7 @@ use std::alloc::{AllocError, Global};
 
 /// Why the bytes of a source aren't all there.
 #[derive(Clone, Copy, Debug, PartialEq, Eq)]
-pub enum ReadFault {
+pub enum InputFault {
     /// A take failed.
     Failed,
     /// The source has more bytes than the limit.
@@ -19,19 +19,19 @@ pub enum ReadFault {
     NoMemory,
 }
 
-impl From<Failed> for ReadFault {
+impl From<Failed> for InputFault {
     ghost from_gives = { λ _ fault. fault ≡ Failed };
 
-    fn from(_error: Failed) -> ReadFault {
-        ReadFault::Failed
+    fn from(_error: Failed) -> InputFault {
+        InputFault::Failed
     }
 }
 
-impl From<AllocError> for ReadFault {
+impl From<AllocError> for InputFault {
     ghost from_gives = { λ _ fault. fault ≡ NoMemory };
 
-    fn from(_error: AllocError) -> ReadFault {
-        ReadFault::NoMemory
+    fn from(_error: AllocError) -> InputFault {
+        InputFault::NoMemory
     }
 }
 
@@ -44,11 +44,11 @@ pub fn read_all<S: Source>(
     alloc: Global,
     source: &mut S,
     limit: usize,
-) -> Result<Vec<u8>, ReadFault>
+) -> Result<Vec<u8>, InputFault>
     ensures whole { IfOk result (λ bytes. ReadsWhole (S.left source.old) (S.left source.new) bytes.items) }
     ensures few { IfOk result (λ bytes. vec_len bytes ≤ limit) }
-    ensures failed { IsErrOf result ReadFault.Failed → FailsLast (S.faults source.old) (S.faults source.new) (S.taken source.new).since }
-    ensures too_many { IsErrOf result ReadFault.TooMany → HasMoreThan limit (S.left source.old) }
+    ensures failed { IsErrOf result InputFault.Failed → FailsLast (S.faults source.old) (S.faults source.new) (S.taken source.new).since }
+    ensures too_many { IsErrOf result InputFault.TooMany → HasMoreThan limit (S.left source.old) }
 
     // Each take gave a byte at least, but for the last.
     ensures moves { IfOk result (λ bytes. S.takes source.new ≤ S.takes source.old + (vec_len bytes + 1)) }
@@ -62,8 +62,8 @@ pub fn read_all<S: Source>(
     // Where all was read the last take met the end, and no take failed unless the answer says so.
     ensures ended { OnOk result ((S.taken source.new).since ≡ 0) }
     ensures unfailed { OnOk result (S.faults source.new ≡ S.faults source.old) }
-    ensures unfailed_at_limit { IsErrOf result ReadFault.TooMany → S.faults source.new ≡ S.faults source.old }
-    ensures unfailed_without_memory { IsErrOf result ReadFault.NoMemory → S.faults source.new ≡ S.faults source.old }
+    ensures unfailed_at_limit { IsErrOf result InputFault.TooMany → S.faults source.new ≡ S.faults source.old }
+    ensures unfailed_without_memory { IsErrOf result InputFault.NoMemory → S.faults source.new ≡ S.faults source.old }
 {
     let mut buffer = vec![in alloc; 0u8; PIECE]?;
     read_pieces(alloc, source, limit, &mut buffer)
@@ -75,12 +75,12 @@ fn read_pieces<S: Source>(
     source: &mut S,
     limit: usize,
     buffer: &mut [u8],
-) -> Result<Vec<u8>, ReadFault>
+) -> Result<Vec<u8>, InputFault>
     requires { 0 < length buffer.old }
     ensures whole { IfOk result (λ bytes. ReadsWhole (S.left source.old) (S.left source.new) bytes.items) }
     ensures few { IfOk result (λ bytes. vec_len bytes ≤ limit) }
-    ensures failed { IsErrOf result ReadFault.Failed → FailsLast (S.faults source.old) (S.faults source.new) (S.taken source.new).since }
-    ensures too_many { IsErrOf result ReadFault.TooMany → HasMoreThan limit (S.left source.old) }
+    ensures failed { IsErrOf result InputFault.Failed → FailsLast (S.faults source.old) (S.faults source.new) (S.taken source.new).since }
+    ensures too_many { IsErrOf result InputFault.TooMany → HasMoreThan limit (S.left source.old) }
     ensures moves { IfOk result (λ bytes. S.takes source.new ≤ S.takes source.old + (vec_len bytes + 1)) }
     ensures turns { S.takes source.new ≤ S.takes source.old + (limit + 1) }
     ensures read { HasReadAtMost (limit + 1) (S.left source.old) (S.left source.new) }
@@ -90,8 +90,8 @@ fn read_pieces<S: Source>(
     // Where all was read the last take met the end, and no take failed unless the answer says so.
     ensures ended { OnOk result ((S.taken source.new).since ≡ 0) }
     ensures unfailed { OnOk result (S.faults source.new ≡ S.faults source.old) }
-    ensures unfailed_at_limit { IsErrOf result ReadFault.TooMany → S.faults source.new ≡ S.faults source.old }
-    ensures unfailed_without_memory { IsErrOf result ReadFault.NoMemory → S.faults source.new ≡ S.faults source.old }
+    ensures unfailed_at_limit { IsErrOf result InputFault.TooMany → S.faults source.new ≡ S.faults source.old }
+    ensures unfailed_without_memory { IsErrOf result InputFault.NoMemory → S.faults source.new ≡ S.faults source.old }
 {
     let mut bytes = Vec::new(alloc);
     'takes: for _take in 0..=limit {
@@ -102,7 +102,7 @@ fn read_pieces<S: Source>(
             return Ok(bytes);
         }
         if count > left {
-            return Err(ReadFault::TooMany);
+            return Err(InputFault::TooMany);
         }
         bytes.extend_from_slice(&buffer[..count])?;
     }

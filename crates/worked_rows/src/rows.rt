@@ -6,7 +6,7 @@ use std::test::Fail;
 use wire_io::{MemorySink, MemorySource};
 
 // Scripts and their texts.
-const ROWS: [(&str, &str); 31] = [
+const ROWS: [(&str, &str); 32] = [
     // A listing goes on after the last name given; small rooms, no match, and an expression with
     // `<`.
     (
@@ -513,6 +513,22 @@ const ROWS: [(&str, &str); 31] = [
          b 3 SUCCESS\na 4 SUCCESS\n\
          a 3 SUCCESS x100000000400000002000000640000000000000005000000020000006500 RENAMED_OLD_NAME=d RENAMED_NEW_NAME=e\n\
          > a 5 leave\na 5 SUCCESS\n> b 4 leave\nb 4 SUCCESS\nend 9\n",
+    ),
+    // A held open is cancelled; at the end waits of all clients end as stalled.
+    (
+        "fsa 1\nclient a 7\nclient b 9\na 1 create =\\o 0x1 0x0 create 0x0 0x0 0\n\
+         a 2 oplock 1 rh\nb 1 create =\\o 0x1 0x7 open 0x0 0x0 0\nb 2 cancel 1\n\
+         b 3 cancel 1\nb 4 cancel 9\nb 5 create =\\o 0x1 0x7 open 0x0 0x0 0\n\
+         b 6 wait 5\na 3 create =\\ 0x1 0x7 open 0x1 0x0 0\n\
+         a 4 notify 3 0x1 flat 100\na 5 wait 4\n",
+        "> a 1 create\na 1 SUCCESS created\n> a 2 oplock\na 2 PENDING granted rh\n\
+         > b 1 create\nb 1 PENDING held\na 2 SUCCESS broken r ack\n> b 2 cancel\n\
+         b 2 SUCCESS\nb 1 CANCELLED\n> b 3 cancel\nb 3 INVALID_PARAMETER\n\
+         > b 4 cancel\nb 4 INVALID_PARAMETER\n> b 5 create\nb 5 PENDING held\n\
+         > b 6 wait\nb 6 PENDING waiting\n> a 3 create\na 3 SUCCESS opened\n\
+         > a 4 notify\na 4 PENDING watch\n> a 5 wait\na 5 PENDING waiting\n\
+         a 5 STALLED\nb 6 STALLED\n> a 6 leave\na 6 SUCCESS\na 4 NOTIFY_CLEANUP\n\
+         b 5 SUCCESS opened\n> b 7 leave\nb 7 SUCCESS\nend 13\n",
     ),
 ];
 

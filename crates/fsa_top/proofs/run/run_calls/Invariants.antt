@@ -1,6 +1,6 @@
 use Rattle.std.proofs.Common.{◌≡◌}
 use Rattle.script_read.specs.ScriptView.{contents}
-use Rattle.history_laws.specs.Whole.{how_many_left}
+use Rattle.history_laws.specs.GoesOn.{how_many_left}
 use Rattle.fsa_top.specs.Progress.{WroteTurns, Progress}
 use Rattle.fsa_top.proofs.run.run_calls.Given as goal
 

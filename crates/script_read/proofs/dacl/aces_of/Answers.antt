@@ -7,8 +7,8 @@ use Rattle.script_read.proofs.AceLemmas.{aces-step, aces-over, aces-end, aces-fa
 use Rattle.script_read.proofs.ReadLemmas.{ahead-end}
 use Rattle.script_read.proofs.dacl.aces_of.Goals as goal
 
-pub returns-then-len-eq-MOST_ENTRIES-clause-aces : goal.returns-then-len-eq-MOST_ENTRIES-clause-aces
-returns-then-len-eq-MOST_ENTRIES-clause-aces c =
+pub returns-then-len-eq-MOST_ACES-clause-aces : goal.returns-then-len-eq-MOST_ACES-clause-aces
+returns-then-len-eq-MOST_ACES-clause-aces c =
     let some : (length c.aces.rest.now == 0) ≡ false = search rules in
     let full : length c.aces.dacl.items ≡ 32 = grind (arith, common_steps) in
     aces-over c.aces.dacl.items c.aces.rest.now _ full some c.aces.invariant.read
