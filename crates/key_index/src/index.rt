@@ -1,13 +1,13 @@
 //! Numbers under keys.
 
-ghost use Rattle.std.specs.Prelude.{◌≡◌, ◌≤◌, ◌+◌, ◌++◌, ◌∷◌, [], ◌-◌, not, OnOk, filter, find, slice_get};
-ghost use Rattle.std.specs.Vec.{vec_capacity, vec_len};
+ghost use Rattle.std.specs.Prelude.{◌≡◌, ◌≤◌, ◌+◌, ◌++◌, ◌∷◌, [], not, OnOk, filter, find, slice_get};
 ghost use Rattle.std.specs.List.Sorted.{IsNonDecreasingBy};
 ghost use Rattle.key_index.specs.Index.{IsSameByKey, entries_of, has_key, is_after, is_entry};
 ghost use Rattle.fsa_types.specs.Ranges.{without_first};
 
 use crate::search::{end_of, part_of, place_of, stays_rising};
 use fsa_types::NoMemory;
+use object_tables::ShiftList;
 use std::alloc::Global;
 use std::marker::Model;
 
@@ -15,7 +15,7 @@ use std::marker::Model;
 #[derive(Debug, Drop)]
 pub struct KeyIndex {
     // Each a key and a number, in the order of keys.
-    entries: Vec<(u64, u64)>,
+    entries: ShiftList<(u64, u64)>,
     // No number was added behind a greater one of its key, so that a number is found by halves.
     rising: bool,
 }
@@ -23,12 +23,11 @@ pub struct KeyIndex {
 impl Model for KeyIndex {
     ghost use Rattle.key_index.specs.Index.{AreNumbersRising, Entries};
     ghost use Rattle.std.specs.List.Sorted.{IsNonDecreasingBy};
-    ghost use Rattle.std.specs.Prelude.{◌≡◌, ◌-◌, true};
-    ghost use Rattle.std.specs.Vec.{vec_capacity, vec_len};
+    ghost use Rattle.std.specs.Prelude.{◌≡◌, true};
 
     ghost Value = { Entries };
 
-    ghost view = { λ i. record { entries = i.entries.items; room = vec_capacity i.entries - vec_len i.entries } };
+    ghost view = { λ i. record { entries = i.entries.items; room = i.entries.room } };
 
     ghost invariant = { λ i. IsNonDecreasingBy (λ e. e.0) i.entries.items × (i.rising ≡ true → AreNumbersRising i.entries.items) };
 }
@@ -39,7 +38,7 @@ impl KeyIndex {
         ensures { result.entries ≡ [] }
     {
         KeyIndex {
-            entries: Vec::new(alloc),
+            entries: ShiftList::new(alloc),
             rising: true,
         }
     }
@@ -58,7 +57,7 @@ impl KeyIndex {
     pub fn of(&self, key: u64) -> &[(u64, u64)]
         ensures { result.now ≡ entries_of self.now.entries key }
     {
-        part_of(&self.entries, key)
+        part_of(self.entries.as_slice(), key)
     }
 
     /// The first entry of a greater key; `None` exactly where no key is greater. This key need not be there.
@@ -66,8 +65,8 @@ impl KeyIndex {
         ensures entry { result ≡ find (is_after key) self.now.entries }
         ensures rising { IsNonDecreasingBy (λ e. e.0) self.now.entries }
     {
-        let place = end_of(&self.entries, key);
-        entry_at(&self.entries, place)
+        let entries = self.entries.as_slice();
+        entry_at(entries, end_of(entries, key))
     }
 
     /// Puts a number behind those of its key. There has to be room for it. It takes no memory.
@@ -76,11 +75,9 @@ impl KeyIndex {
         ensures added { IsSameByKey self.new.entries (self.old.entries ++ (key, number) ∷ []) }
         ensures left { self.old.room ≤ self.new.room + 1 }
     {
-        self.rising = stays_rising(part_of(&self.entries, key), number, self.rising);
-        let place = end_of(&self.entries, key);
-        let Ok(()) = self.entries.insert(place, (key, number)) else {
-            unreachable!()
-        };
+        self.rising = stays_rising(part_of(self.entries.as_slice(), key), number, self.rising);
+        let place = end_of(self.entries.as_slice(), key);
+        self.entries.insert(place, (key, number));
     }
 
     /// Takes a number of a key out, the first where it stands there more than once; where the key doesn't
@@ -90,7 +87,7 @@ impl KeyIndex {
         ensures entries { self.new.entries ≡ without_first (is_entry key number) self.old.entries }
         ensures room { self.old.room ≤ self.new.room }
     {
-        match place_of(&self.entries, key, number, self.rising) {
+        match place_of(self.entries.as_slice(), key, number, self.rising) {
             Some(place) => {
                 let _ = self.entries.remove(place);
             }
@@ -108,9 +105,9 @@ impl KeyIndex {
 }
 
 // Takes all entries of a key out.
-fn remove_all(entries: &mut Vec<(u64, u64)>, key: u64)
+fn remove_all(entries: &mut ShiftList<(u64, u64)>, key: u64)
     ensures entries { entries.new.items ≡ filter (λ e. not (has_key key e)) entries.old.items }
-    ensures room { vec_capacity entries.old - vec_len entries.old ≤ vec_capacity entries.new - vec_len entries.new }
+    ensures room { entries.old.room ≤ entries.new.room }
 {
     entries.retain(|entry| entry.0 != key);
 }

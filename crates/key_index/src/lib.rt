@@ -13,9 +13,10 @@
 //! after `add`: `IsSameByKey` is what a caller keeps. `index_of_rows` has the laws for a table whose rows are
 //! added with rising numbers and keep their key: the entries of a key are then those of its rows, in order.
 //!
-//! `of` and `after` take time logarithmic in the entries. `add` and `remove` move the entries behind, of 16 bytes
-//! each, and `remove_all` goes over all of them. `remove` finds the number by halves as long as none was added
-//! behind a greater one of its key, and else looks through those of the key.
+//! `of` and `after` take time logarithmic in the entries. `add` and `remove` move the entries before the place or those
+//! behind it, of 16 bytes each, whichever are fewer; `add` those behind it where none was taken out before it. Where
+//! there is no room behind the entries, all move, and `remove_all` goes over all. `remove` finds the number by halves as
+//! long as none was added behind a greater one of its key, and else looks through those of the key.
 #![tactic(auto)]
 
 mod index;

@@ -7,6 +7,7 @@ ghost use Rattle.fsa_types.specs.Rows.{row_of, without_row, with_row_changed, Is
 ghost use Rattle.object_tables.specs.Next.{IsNext, number_after};
 
 use crate::search::{end_of, number_at, place_of};
+use crate::shift_list::ShiftList;
 use fsa_types::NoMemory;
 use slab::Slab;
 use std::alloc::Global;
@@ -17,7 +18,7 @@ use std::marker::Model;
 #[derive(Debug, Drop)]
 pub struct Table<T> {
     // The number of each row with its key in `rows`, by rising number.
-    places: Vec<(u64, usize)>,
+    places: ShiftList<(u64, usize)>,
     rows: Slab<T>,
     last: u64,
 }
@@ -27,13 +28,12 @@ impl<T> Model for Table<T> {
     ghost use Rattle.object_tables.specs.Table.{Rows, rows_code};
     ghost use Rattle.slab.specs.Slab.{get, slab_len};
     ghost use Rattle.std.specs.Prelude.{◌-◌, min};
-    ghost use Rattle.std.specs.Vec.{vec_capacity, vec_len};
 
     ghost Value = { Rows T };
 
     ghost coded = { rows_code T.code };
 
-    ghost view = { λ t. record { rows = rows_in t.rows t.places.items; last = t.last; room = min (vec_capacity t.places - vec_len t.places) (t.rows.capacity - slab_len t.rows) } };
+    ghost view = { λ t. record { rows = rows_in t.rows t.places.items; last = t.last; room = min t.places.room (t.rows.capacity - slab_len t.rows) } };
 
     ghost invariant = { λ t. ArePlaced (get t.rows) t.places.items t.last };
 }
@@ -47,7 +47,7 @@ impl<T: Drop> Table<T> {
         ensures last { result.last ≡ 0 }
     {
         Table {
-            places: Vec::new(alloc),
+            places: ShiftList::new(alloc),
             rows: Slab::new(alloc),
             last: 0,
         }
@@ -65,7 +65,7 @@ impl<T: Drop> Table<T> {
         Ok(())
     }
 
-    /// Adds a row and gives its number, one more than the last one given. It takes memory only
+    /// Adds a row and gives its number, one more than the last one given. It needs memory only
     /// where there is no spare room. `NoMemory` hands the row back, and nothing has changed.
     /// Fewer than 2^64 - 1 numbers have to be given so far.
     pub fn add(&mut self, row: T) -> Result<u64, (T, NoMemory)>
@@ -86,7 +86,7 @@ impl<T: Drop> Table<T> {
         }
         let id = self.last + 1;
         let key = self.rows.insert_reserved(row);
-        self.places.push_reserved((id, key));
+        self.places.push((id, key));
         self.last = id;
         Ok(id)
     }
@@ -97,7 +97,7 @@ impl<T: Drop> Table<T> {
         ensures few { length self.now.rows + 1 < 2 ^ 64 }
         ensures numbered { IsNumbered self.now.rows self.now.last }
     {
-        self.places.len()
+        count_of(self.places.as_slice())
     }
 
     /// The last number that was given, 0 where there is none.
@@ -112,16 +112,18 @@ impl<T: Drop> Table<T> {
         ensures found { result ≡ number_after self.now.rows after }
         ensures next { IsNext self.now.rows after result }
     {
-        number_at(&self.places, end_of(&self.places, after))
+        let places = self.places.as_slice();
+        number_at(places, end_of(places, after))
     }
 
     /// The row of this number; `None` exactly where there is none.
     pub fn get(&self, id: u64) -> Option<&T>
         ensures { option_copied result ≡ row_of self.now.rows id }
     {
-        match place_of(&self.places, id) {
+        let places = self.places.as_slice();
+        match place_of(places, id) {
             None => None,
-            Some(place) => self.rows.get(self.places[place].1),
+            Some(place) => self.rows.get(self.places.at(place).1),
         }
     }
 
@@ -133,7 +135,7 @@ impl<T: Drop> Table<T> {
         // A change of the row that was found is a change of the row of this number.
         ensures one { (change : T → T) → option_map_or (λ row. with_row_changed (λ _. change row) self.old.rows id) (row_of self.old.rows id) self.old.rows ≡ with_row_changed change self.old.rows id }
     {
-        match place_of(&self.places, id) {
+        match place_of(self.places.as_slice(), id) {
             None => None,
             Some(place) => Some(self.row_mut(id, place)),
         }
@@ -145,7 +147,7 @@ impl<T: Drop> Table<T> {
         ensures* writes_back { sem 𝓛 (LendsRowAt T.row self.entry id result) }
         ensures row { row_of self.old.rows id ≡ Some result.now }
     {
-        let key = self.places[place].1;
+        let key = self.places.at(place).1;
         &mut self.rows[key]
     }
 
@@ -157,7 +159,7 @@ impl<T: Drop> Table<T> {
         ensures last { self.new.last ≡ self.old.last }
         ensures room { self.old.room ≤ self.new.room }
     {
-        match place_of(&self.places, id) {
+        match place_of(self.places.as_slice(), id) {
             None => None,
             Some(place) => {
                 let key = self.places.remove(place).1;
@@ -165,4 +167,12 @@ impl<T: Drop> Table<T> {
             }
         }
     }
+}
+
+// How many rows have a place.
+fn count_of(places: &[(u64, usize)]) -> usize
+    ensures count { result ≡ length places.now }
+    ensures few { length places.now + 1 < 2 ^ 64 }
+{
+    places.len()
 }

@@ -7,17 +7,17 @@ use Rattle.key_index.proofs.index.KeyIndex.add.Goals as goal
 
 pub returns-clause-added : goal.returns-clause-added
 returns-clause-added c key =
-    let point : IsPartitionPoint (λ e. e.0 ≤ c.args.key) (λ e. c.args.key < e.0) c.self.inside.entries.items c.end_of-place.result = rw c.deref-2.ensures.value at c.end_of-place.ensures.point in
-    rw (c.insert.ensures.items, c.in-Ok.is, ← c.self.view_is) (insert-same c.self.inside.entries.items c.end_of-place.result (c.args.key, c.args.number) point key)
+    let point : IsPartitionPoint (λ e. e.0 ≤ c.args.key) (λ e. c.args.key < e.0) c.self.inside.entries.items c.end_of-place.result = rw c.as_slice-2.ensures at c.end_of-place.ensures.point in
+    rw (c.insert.ensures.items, ← c.self.view_is) (insert-same c.self.inside.entries.items c.end_of-place.result (c.args.key, c.args.number) point key)
 
 pub invariant_of-self : goal.invariant_of-self
 invariant_of-self c =
     let xs = c.self.inside.entries.items in
-    let point : IsPartitionPoint (λ e. e.0 ≤ c.args.key) (λ e. c.args.key < e.0) xs c.end_of-place.result = rw c.deref-2.ensures.value at c.end_of-place.ensures.point in
-    let bound : c.end_of-place.result ≤ length xs = rw c.deref-2.ensures.value at c.end_of-place.ensures.bound in (
-      rw (c.insert.ensures.items, c.in-Ok.is) (IsNonDecreasingBy-insert (λ (e : ℕ × ℕ). e.0) xs c.end_of-place.result (c.args.key, c.args.number) c.self.invariant.0 bound
+    let point : IsPartitionPoint (λ e. e.0 ≤ c.args.key) (λ e. c.args.key < e.0) xs c.end_of-place.result = rw c.as_slice-2.ensures at c.end_of-place.ensures.point in
+    let bound : c.end_of-place.result ≤ length xs = rw c.as_slice-2.ensures at c.end_of-place.ensures.bound in (
+      rw (c.insert.ensures.items) (IsNonDecreasingBy-insert (λ (e : ℕ × ℕ). e.0) xs c.end_of-place.result (c.args.key, c.args.number) c.self.invariant.0 bound
           (λ k d below. point.0 k d (omega arith) below) (λ k d from within. let more = point.1 k d from within in omega arith)),
       (λ rising.
-          let behind = rw (c.part_of.ensures, c.deref.ensures.value) at c.stays_rising-self-inside.ensures.behind in
+          let behind = rw (c.part_of.ensures, c.as_slice.ensures) at c.stays_rising-self-inside.ensures.behind in
           numbers-added xs c.insert.new.self.items c.args.key c.args.number (rw (← c.self.view_is) at (returns-clause-added c)) (c.self.invariant.1 (c.stays_rising-self-inside.ensures.before rising)) (behind rising)),
     )

@@ -11,7 +11,7 @@ invariant_of-self-2 g c =
     let slots : c.reserve-2.new.self.slots ≡ i.rows.slots = ap (λ (s : Slab g.row.T.Denot). s.slots) c.reserve-2.ensures.rest_kept in
     let vacant : get i.rows key ≡ None = rw slots at c.insert_reserved-key.ensures.was_vacant in
     let others : (other : ℕ) → other ≢ key → get new other ≡ get i.rows other = rw slots at c.insert_reserved-key.ensures.updates.others in
-    rw (c.push_reserved.ensures.items, c.reserve.ensures.items)
+    rw (c.push.ensures.items, c.reserve.ensures.items)
     (placed-added (get i.rows) (get new) i.places.items i.last key c.args.row c.self.invariant vacant c.insert_reserved-key.ensures.updates.changed others)
 
 pub returns-clause-rows : goal.returns-clause-rows
@@ -22,5 +22,5 @@ returns-clause-rows g c =
     let slots : c.reserve-2.new.self.slots ≡ i.rows.slots = ap (λ (s : Slab g.row.T.Denot). s.slots) c.reserve-2.ensures.rest_kept in
     let vacant : get i.rows key ≡ None = rw slots at c.insert_reserved-key.ensures.was_vacant in
     let others : (other : ℕ) → other ≢ key → get new other ≡ get i.rows other = rw slots at c.insert_reserved-key.ensures.updates.others in
-    rw (← c.self.view_is, c.push_reserved.ensures.items, c.reserve.ensures.items)
+    rw (← c.self.view_is, c.push.ensures.items, c.reserve.ensures.items)
     (rows-added (get i.rows) (get new) i.places.items i.last key c.args.row c.self.invariant vacant c.insert_reserved-key.ensures.updates.changed others)

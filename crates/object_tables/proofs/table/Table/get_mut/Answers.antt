@@ -9,7 +9,7 @@ use Rattle.object_tables.proofs.table.Table.get_mut.Goals as goal
 pub row_mut-requires : goal.row_mut-requires
 row_mut-requires g c =
     let i = c.self.inside in
-    let found : position (λ e. e.0 == c.args.id) i.places.items ≡ Some c.in-Some.place = sym (rw c.deref.ensures.value at c.in-Some.ensures) in
+    let found : position (λ e. e.0 == c.args.id) i.places.items ≡ Some c.in-Some.place = sym (rw c.as_slice.ensures at c.in-Some.ensures) in
     rw (← c.self.view_is) (place-same (get i.rows) i.places.items c.self.invariant.there c.args.id ∙ found)
 
 pub returns-in-None : goal.returns-in-None
@@ -18,7 +18,7 @@ returns-in-None g c =
       refl,
       record {
         writes_back = tt;
-        row = rw (← c.self.view_is) (sym (row-missing (get i.rows) i.places.items i.last c.args.id c.self.invariant (sym (rw c.deref.ensures.value at c.in-None.ensures))));
+        row = rw (← c.self.view_is) (sym (row-missing (get i.rows) i.places.items i.last c.args.id c.self.invariant (sym (rw c.as_slice.ensures at c.in-None.ensures))));
         one = λ change. rw (← c.self.view_is) (changes_one (rows_in i.rows i.places.items) c.args.id change (rows-numbered (get i.rows) i.places.items i.last c.self.invariant).rising);
       },
     )

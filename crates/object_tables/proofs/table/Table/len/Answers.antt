@@ -6,12 +6,14 @@ use Rattle.object_tables.proofs.table.Table.len.Goals as goal
 pub returns-clause-count : goal.returns-clause-count
 returns-clause-count g c =
     let i = c.self.inside in
-    rw (← c.self.view_is) (omega (arith, rows-length (get i.rows) i.places.items c.self.invariant.there))
+    let long = rw c.as_slice.ensures at c.count_of.ensures.count in
+    rw (← c.self.view_is) (omega (arith, long, rows-length (get i.rows) i.places.items c.self.invariant.there))
 
 pub returns-clause-few : goal.returns-clause-few
 returns-clause-few g c =
     let i = c.self.inside in
-    rw (← c.self.view_is) (omega (arith, rows-length (get i.rows) i.places.items c.self.invariant.there))
+    let few = rw c.as_slice.ensures at c.count_of.ensures.few in
+    rw (← c.self.view_is) (omega (arith, few, rows-length (get i.rows) i.places.items c.self.invariant.there))
 
 pub returns-clause-numbered : goal.returns-clause-numbered
 returns-clause-numbered g c =

@@ -11,9 +11,9 @@ pub returns-clause-found : goal.returns-clause-found
 returns-clause-found g c =
     let i = c.self.inside in
     let xs = i.places.items in
-    let point : IsPartitionPoint (λ e. e.0 ≤ c.args.after) (λ e. c.args.after < e.0) xs c.end_of.result = rw c.deref-2.ensures.value at c.end_of.ensures.point in
-    let bound : c.end_of.result ≤ length xs = rw c.deref-2.ensures.value at c.end_of.ensures.bound in
-    rw (← c.self.view_is) ((rw c.deref.ensures.value at c.number_at.ensures) ∙ ap (option_map (λ row. row.0)) (next-here xs c.end_of.result c.args.after bound point)
+    let point : IsPartitionPoint (λ e. e.0 ≤ c.args.after) (λ e. c.args.after < e.0) xs c.end_of.result = rw c.as_slice-places.ensures at c.end_of.ensures.point in
+    let bound : c.end_of.result ≤ length xs = rw c.as_slice-places.ensures at c.end_of.ensures.bound in
+    rw (← c.self.view_is) ((rw c.as_slice-places.ensures at c.number_at.ensures) ∙ ap (option_map (λ row. row.0)) (next-here xs c.end_of.result c.args.after bound point)
     ∙ sym (after-same (get i.rows) xs c.self.invariant.there c.args.after))
 
 pub returns-clause-next : goal.returns-clause-next

@@ -1,0 +1,47 @@
+-- Items that begin at a slot: what an edit of the slots is to them.
+use Rattle.std.proofs.Common.{ℕ, List, ◌≡◌, ◌<◌, ◌≤◌, ◌+◌, ◌++◌, ◌∷◌, ◌∙◌, suc, ap, arith, drop, length, length-drop, set, sym, take}
+use Rattle.std.proofs.lemmas.List.{append_assoc, drop-append-le, drop-drop, drop-set-add, drop-take, drop_at, drop_more, length-take-le, set_at}
+use Rattle.std.specs.List.{insert, remove}
+use lib.Seq.{paste}
+
+module _ {T : Type 0} (xs : List T) where
+  -- a copy of the first items of the list from `from` on, over those from `to` on
+  pasted : (to from count : ℕ) → to ≤ length xs → drop to (paste xs to (drop from xs) count) ≡ take count (drop from xs) ++ drop (to + count) xs
+  pasted to from count within =
+      ap (drop to) (append_assoc (take to xs) (take count (drop from xs)) (drop (to + count) xs))
+      ∙ drop_at (take to xs) (take count (drop from xs) ++ drop (to + count) xs) to (length-take-le to xs within)
+
+  -- those before a place go down by one, and one is put behind them
+  pub put-before : (start place : ℕ) (item : T) → suc start + place ≤ length xs
+      → drop start (set (paste xs start (drop (suc start) xs) place) (start + place) item) ≡ insert (drop (suc start) xs) place item
+  put-before start place item within =
+      let front = take place (drop (suc start) xs) in
+      let all : start + place + 1 ≡ suc start + place = omega arith in
+      let long : length front ≡ place = length-take-le place (drop (suc start) xs) (omega (arith, length-drop (suc start) xs)) in
+      drop-set-add start (paste xs start (drop (suc start) xs) place) place item
+      ∙ ap (λ (ys : List T). set ys place item) (pasted start (suc start) place (omega arith) ∙ ap (λ (ys : List T). front ++ ys) (drop_more xs (start + place) item (omega arith)))
+      ∙ set_at front _ (drop (start + place + 1) xs) item place long
+      ∙ ap (λ (ys : List T). front ++ item ∷ ys) (ap (λ k. drop k xs) all ∙ sym (drop-drop place (suc start) xs))
+
+  -- the part of an edit that lies from `start` on
+  behind : (start place : ℕ) (ys : List T) → start + place ≤ length xs → drop start (take (start + place) xs ++ ys) ≡ take place (drop start xs) ++ ys
+  behind start place ys within =
+      drop-append-le start (take (start + place) xs) ys (omega (arith, length-take-le (start + place) xs within)) ∙ ap (λ (zs : List T). zs ++ ys) (drop-take start place xs)
+
+  -- one is put at a place, and those behind it go up by one
+  pub put-behind : (start place : ℕ) (item : T) → start + place ≤ length xs → drop start (insert xs (start + place) item) ≡ insert (drop start xs) place item
+  put-behind start place item within =
+      behind start place (item ∷ drop (start + place) xs) within ∙ ap (λ (ys : List T). take place (drop start xs) ++ item ∷ ys) (sym (drop-drop place start xs))
+
+  -- those before a place go up by one, over the one that stands there
+  pub take-before : (start place : ℕ) → start + place < length xs → drop (start + 1) (paste xs (start + 1) (drop start xs) place) ≡ remove (drop start xs) place
+  take-before start place within =
+      let all : start + 1 + place ≡ start + suc place = omega arith in
+      pasted (start + 1) start place (omega arith) ∙ ap (λ (ys : List T). take place (drop start xs) ++ ys) (ap (λ k. drop k xs) all ∙ sym (drop-drop (suc place) start xs))
+
+  -- those behind a place go down by one, over the one that stands there
+  pub take-behind : (start place : ℕ) → start + place < length xs → drop start (remove xs (start + place)) ≡ remove (drop start xs) place
+  take-behind start place within =
+      let all : suc (start + place) ≡ start + suc place = omega arith in
+      behind start place (drop (suc (start + place)) xs) (omega arith)
+      ∙ ap (λ (ys : List T). take place (drop start xs) ++ ys) (ap (λ k. drop k xs) all ∙ sym (drop-drop (suc place) start xs))
