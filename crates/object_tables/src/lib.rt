@@ -28,6 +28,7 @@ mod spare_list;
 mod table;
 
 pub use row_list::RowList;
+pub use search::place_of;
 pub use series::Series;
 pub use shift_list::ShiftList;
 pub use spare_list::SpareList;

@@ -4,7 +4,7 @@ use Rattle.std.specs.List.{list_any, position, All, AllPairs}
 use Rattle.std.specs.Option.{option_map_or}
 use Rattle.std.specs.Prelude.{◌==◌, ◌||◌, filter, remove, IfNone}
 use Rattle.std.proofs.Math.ListN.{set}
-use Rattle.std.proofs.lemmas.Bool.{cases_Bool, ne_eqb, eqb-true, eqb-false, false≢true, lt-ltb}
+use Rattle.std.proofs.lemmas.Bool.{cases_Bool, cases_lt, ne_eqb, eqb-true, eqb-false, false≢true, lt-ltb}
 use Rattle.std.proofs.lemmas.List.{map-append, length-append, length-map, get_or-map}
 use Rattle.std.proofs.lemmas.List.Sums.{position_or_len_is}
 use Rattle.std.proofs.lemmas.List.Kept.{AllPairs-filter}
@@ -13,7 +13,7 @@ use Rattle.std.proofs.lemmas.List.Folds.{list_any_at, list_any-append}
 use Rattle.fsa_types.specs.Rows.{lives, row_of, with_row_changed, without_row}
 use Rattle.fsa_types.specs.declared.reply.Blocker.{Blocker}
 use Rattle.fsa_types.proofs.RowLemmas.{IsAt-position, fails-none, row_of-none}
-use Rattle.pending_queue.specs.Lists.{AreCounted, NoneBeside, counted, discounted, is_at, least, ready_turns, turns_of, with_count, with_turn}
+use Rattle.pending_queue.specs.Lists.{AreCounted, AreInOrder, IsBehind, NoneBeside, counted, discounted, is_at, least, ready_turns, turns_of, with_count, with_turn}
 use Rattle.pending_queue.specs.PendingQueue.{blockers_of, calls_added, held_of, is_same, with_ended, with_held}
 use Rattle.pending_queue.proofs.QueueLemmas.{blockers-append, blockers-ended, blockers-gone, blockers-kept, held-ended, held-held, held-lives, held-removed, put, put-own, put-others}
 
@@ -158,9 +158,9 @@ turns-removed (c ∷ cs) turn =
       | inr other ↦ rw other (ap (λ rest. c.0 ∷ rest) (turns-removed cs turn))
     ]
 
--- they differ where the turns are the same as those of calls that do
-pub differ-turns : (calls other : List (ℕ × ℕ)) → turns_of other ≡ turns_of calls → AllDiffer calls → AllDiffer other
-differ-turns calls other same differ i j d below within =
+-- what holds of each two turns holds where the turns are the same
+pairs-turns : (P : ℕ → ℕ → Type 0) (calls other : List (ℕ × ℕ)) → turns_of other ≡ turns_of calls → AllPairs (λ a b. P a.0 b.0) calls → AllPairs (λ a b. P a.0 b.0) other
+pairs-turns P calls other same each i j d below within =
     let turn : ℕ × ℕ → ℕ = λ call. call.0 in
     let here = length-map other turn in
     let there = length-map calls turn in
@@ -168,7 +168,11 @@ differ-turns calls other same differ i j d below within =
     let few : j < length calls = omega arith in
     let first : (get_or other i d).0 ≡ (get_or calls i d).0 = sym (get_or-map turn other i d 0 (omega arith)) ∙ ap (λ its. get_or its i 0) same ∙ get_or-map turn calls i d 0 (omega arith) in
     let second : (get_or other j d).0 ≡ (get_or calls j d).0 = sym (get_or-map turn other j d 0 within) ∙ ap (λ its. get_or its j 0) same ∙ get_or-map turn calls j d 0 few in
-    rw (first, second) (differ i j d below few)
+    rw (first, second) (each i j d below few)
+
+-- they differ where the turns are the same as those of calls that do
+pub differ-turns : (calls other : List (ℕ × ℕ)) → turns_of other ≡ turns_of calls → AllDiffer calls → AllDiffer other
+differ-turns calls other same differ = pairs-turns (λ a b. (a == b) ≡ false) calls other same differ
 
 pub differ-put : (calls : List (ℕ × ℕ)) (turn count : ℕ) → AllDiffer calls → AllDiffer (with_count calls turn count)
 differ-put calls turn count differ =
@@ -179,6 +183,28 @@ differ-put calls turn count differ =
 
 pub differ-removed : (calls : List (ℕ × ℕ)) (turn : ℕ) → AllDiffer calls → AllDiffer (without_row calls turn)
 differ-removed calls turn differ = AllPairs-filter (λ a b. (a.0 == b.0) ≡ false) (λ e. not (e.0 == turn)) calls differ
+
+-- ---- turns that rise
+
+all-behind : (calls : List (ℕ × ℕ)) (turn : ℕ) → AllPairs (λ a b. a.0 < b.0) calls → IsBehind calls turn → All (λ e. e.0 < turn) calls
+all-behind calls turn rise behind k d within =
+    elim (cases_lt (suc k) (length calls)) [
+      | inl more ↦ (
+          let below : (get_or calls k d).0 < (get_or calls (length calls - 1) d).0 = rise k (length calls - 1) d (omega arith) (omega arith) in
+          let last : (get_or calls (length calls - 1) d).0 < turn = behind (length calls - 1) d (omega arith) in
+          omega arith)
+      | inr past ↦ behind k d (omega arith)
+    ]
+
+pub rise-put : (calls : List (ℕ × ℕ)) (turn count : ℕ) → AllPairs (λ a b. a.0 < b.0) calls → (lives calls turn ≡ false → IsBehind calls turn) → AllPairs (λ a b. a.0 < b.0) (with_count calls turn count)
+rise-put calls turn count rise behind =
+    elim (cases_Bool (lives calls turn)) [
+      | inl there ↦ rw there (pairs-turns (λ a b. a < b) calls (with_row_changed (λ _. count) calls turn) (turns-changed (λ _. count) calls turn) rise)
+      | inr none ↦ rw none (all_pairs_push (λ a b. a.0 < b.0) calls (turn, count) rise (all-behind calls turn rise (behind none)))
+    ]
+
+pub in-order-removed : (rising : Bool) (calls : List (ℕ × ℕ)) (turn : ℕ) → AreInOrder rising calls → AreInOrder rising (without_row calls turn)
+in-order-removed rising calls turn are is = AllPairs-filter (λ a b. a.0 < b.0) (λ e. not (e.0 == turn)) calls (are is)
 
 -- how many calls there are with one put in
 length-changed : (calls : List (ℕ × ℕ)) (turn count : ℕ) → length (with_row_changed (λ _. count) calls turn) ≡ length calls
@@ -317,6 +343,9 @@ turns-discounted blocker (e ∷ es) calls =
       | inl gone ↦ rw gone (turns-discounted blocker es (with_row_changed (λ count. count - 1) calls e.0) ∙ turns-changed (λ count. count - 1) calls e.0)
       | inr kept ↦ rw kept (turns-discounted blocker es calls)
     ]
+
+pub in-order-ended : (rising : Bool) (blocker : Blocker) (waited : List (ℕ × Blocker)) (calls : List (ℕ × ℕ)) → AreInOrder rising calls → AreInOrder rising (discounted blocker waited calls)
+in-order-ended rising blocker waited calls are is = pairs-turns (λ a b. a < b) calls (discounted blocker waited calls) (turns-discounted blocker waited calls) (are is)
 
 -- no blocker stands beside the calls
 beside-ended : (calls : List (ℕ × ℕ)) (waited : List (ℕ × Blocker)) (blocker : Blocker) → NoneBeside calls waited → NoneBeside (discounted blocker waited calls) (filter (λ e. not (is_same blocker e.1)) waited)

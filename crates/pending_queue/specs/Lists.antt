@@ -1,5 +1,5 @@
 -- Calls with how many of their blockers live, and blockers with the turns that wait for them.
-use Rattle.std.specs.Prelude.{ℕ, Bool, false, ◌≡◌, List, [], ◌∷◌, ◌++◌, ◌==◌, ◌-◌, min, map, filter, length, slice_get, Option, Some, None, AllPairs, if◌then◌else◌}
+use Rattle.std.specs.Prelude.{ℕ, suc, Bool, true, false, ◌≡◌, ◌<◌, get_or, List, [], ◌∷◌, ◌++◌, ◌==◌, ◌-◌, min, map, filter, length, slice_get, Option, Some, None, AllPairs, if◌then◌else◌}
 use Rattle.std.specs.List.{list_any}
 use Rattle.std.specs.Option.{option_map_or}
 use Rattle.fsa_types.specs.Rows.{lives, with_row_changed}
@@ -58,6 +58,14 @@ counted turns waited = map (λ turn. (turn, length (blockers_of waited turn))) t
 -- no blocker stands under a turn that is no call's
 abbrev pub NoneBeside : List (ℕ × ℕ) → List (ℕ × Blocker) → Type 0
 NoneBeside calls waited = (turn : ℕ) → lives calls turn ≡ false → blockers_of waited turn ≡ []
+
+-- the turns rise, where that is known
+abbrev pub AreInOrder : Bool → List (ℕ × ℕ) → Type 0
+AreInOrder rising calls = rising ≡ true → AllPairs (λ a b. a.0 < b.0) calls
+
+-- the last of these calls has a lower turn, where there is one
+abbrev pub IsBehind : List (ℕ × ℕ) → ℕ → Type 0
+IsBehind calls turn = (k : ℕ) (d : ℕ × ℕ) → suc k ≡ length calls → (get_or calls k d).0 < turn
 
 -- no two calls have one turn; their counts are those of the blockers that stand under their turns; and the first that
 -- may be taken up

@@ -1,10 +1,10 @@
 //! What is done to the list of calls, each its turn and how many of its blockers live.
 
-ghost use Rattle.std.specs.Prelude.{◌≡◌, ◌≤◌, ◌-◌, ◌==◌, false, Some, IfNone, IsOk, OnOk, OnErr, AllPairs, length, position, if◌then◌else◌};
+ghost use Rattle.std.specs.Prelude.{ℕ, ◌≡◌, ◌≤◌, ◌-◌, ◌==◌, true, false, Some, IfNone, IsOk, OnOk, OnErr, AllPairs, length, position, if◌then◌else◌};
 ghost use Rattle.std.specs.Option.{option_map_or};
 ghost use Rattle.std.specs.Vec.{vec_capacity, vec_len};
 ghost use Rattle.fsa_types.specs.Rows.{lives, row_of, with_row_changed, without_row};
-ghost use Rattle.pending_queue.specs.Lists.{StaysLeast, is_at, is_least, least, least_of, ready_turns, turns_of, with_count};
+ghost use Rattle.pending_queue.specs.Lists.{AreInOrder, IsBehind, StaysLeast, is_at, is_least, least, least_of, ready_turns, turns_of, with_count};
 
 use fsa_types::NoMemory;
 
@@ -18,8 +18,22 @@ fn is_at(calls: &[(u64, usize)], place: usize, turn: u64) -> bool
     }
 }
 
-// The place of the call of this turn. It is found by halves where the turns rise, as they do where no call is held
-// again after it was let go; else by a look at each.
+// The place of the call of this turn. Where the turns are known to rise, as they do where no call is held again after it
+// was let go, it is found by halves, and so is that it isn't there.
+fn find_call(calls: &[(u64, usize)], turn: u64, rising: bool) -> Option<usize>
+    requires differ { AllPairs (λ a b. (a.0 == b.0) ≡ false) calls.now }
+    requires rising { AreInOrder rising calls.now }
+    ensures place { result ≡ position (λ call. call.0 == turn) calls.now }
+    ensures none { IfNone result (lives calls.now turn ≡ false) }
+{
+    if rising {
+        object_tables::place_of(calls, turn)
+    } else {
+        place_of(calls, turn)
+    }
+}
+
+// The same where nothing is known of the order: by halves where it is found so, else by a look at each.
 fn place_of(calls: &[(u64, usize)], turn: u64) -> Option<usize>
     requires differ { AllPairs (λ a b. (a.0 == b.0) ≡ false) calls.now }
     ensures place { result ≡ position (λ call. call.0 == turn) calls.now }
@@ -39,10 +53,44 @@ fn look_for(calls: &[(u64, usize)], turn: u64) -> Option<usize>
     calls.iter().position(|call| call.0 == turn)
 }
 
+/// Whether the turns are known to rise with the call of this turn put in, where `rising` says whether they are before.
+pub fn stays_rising(calls: &[(u64, usize)], turn: u64, rising: bool) -> bool
+    requires differ { AllPairs (λ a b. (a.0 == b.0) ≡ false) calls.now }
+    requires rising { AreInOrder rising calls.now }
+    ensures { (count : ℕ) → AreInOrder result (with_count calls.now turn count) }
+{
+    if !rising {
+        return false;
+    }
+    if is_behind(calls, turn) {
+        return true;
+    }
+    match find_call(calls, turn, true) {
+        None => false,
+        Some(_) => true,
+    }
+}
+
+// Whether the last of these calls has a lower turn, where there is one.
+fn is_behind(calls: &[(u64, usize)], turn: u64) -> bool
+    ensures { result ≡ true → IsBehind calls.now turn }
+{
+    match calls.last() {
+        None => true,
+        Some(call) => call.0 < turn,
+    }
+}
+
 /// So many blockers of the call of this turn live. It takes memory only where the turn is new and there is no spare
 /// room.
-pub fn put_count(calls: &mut Vec<(u64, usize)>, turn: u64, count: usize) -> Result<(), NoMemory>
+pub fn put_count(
+    calls: &mut Vec<(u64, usize)>,
+    turn: u64,
+    count: usize,
+    rising: bool,
+) -> Result<(), NoMemory>
     requires differ { AllPairs (λ a b. (a.0 == b.0) ≡ false) calls.old.items }
+    requires rising { AreInOrder rising calls.old.items }
     ensures ok { OnOk result (calls.new.items ≡ with_count calls.old.items turn count) }
     ensures err { OnErr result (calls.new.items ≡ calls.old.items) }
     ensures len { OnOk result (vec_len calls.new ≡ length (with_count calls.old.items turn count)) }
@@ -51,7 +99,7 @@ pub fn put_count(calls: &mut Vec<(u64, usize)>, turn: u64, count: usize) -> Resu
     ensures freed { OnOk result (count ≡ 0 → least (ready_turns calls.new.items) ≡ Some (least_of (least (ready_turns calls.old.items)) turn)) }
     ensures blocked { OnOk result ((count == 0) ≡ false → StaysLeast turn calls.old.items calls.new.items) }
 {
-    match place_of(calls, turn) {
+    match find_call(calls, turn, rising) {
         Some(place) => calls[place] = (turn, count),
         None => calls.push((turn, count))?,
     }
@@ -59,11 +107,12 @@ pub fn put_count(calls: &mut Vec<(u64, usize)>, turn: u64, count: usize) -> Resu
 }
 
 /// How many blockers of the call of this turn live; 0 where it isn't there.
-pub fn count_of(calls: &[(u64, usize)], turn: u64) -> usize
+pub fn count_of(calls: &[(u64, usize)], turn: u64, rising: bool) -> usize
     requires differ { AllPairs (λ a b. (a.0 == b.0) ≡ false) calls.now }
+    requires rising { AreInOrder rising calls.now }
     ensures { result ≡ option_map_or (λ count. count) (row_of calls.now turn) 0 }
 {
-    match place_of(calls, turn) {
+    match find_call(calls, turn, rising) {
         None => 0,
         Some(place) => calls[place].1,
     }
@@ -94,15 +143,16 @@ fn lower(call: &mut (u64, usize)) -> bool
 }
 
 /// Takes the call of this turn out, and gives how many of its blockers live; `None` exactly where it isn't there.
-pub fn take_call(calls: &mut Vec<(u64, usize)>, turn: u64) -> Option<usize>
+pub fn take_call(calls: &mut Vec<(u64, usize)>, turn: u64, rising: bool) -> Option<usize>
     requires differ { AllPairs (λ a b. (a.0 == b.0) ≡ false) calls.old.items }
+    requires rising { AreInOrder rising calls.old.items }
     ensures count { result ≡ row_of calls.old.items turn }
     ensures items { calls.new.items ≡ without_row calls.old.items turn }
     ensures few { vec_len calls.new ≤ vec_len calls.old }
     ensures room { vec_capacity calls.new ≡ vec_capacity calls.old }
     ensures stays { StaysLeast turn calls.old.items calls.new.items }
 {
-    match place_of(calls, turn) {
+    match find_call(calls, turn, rising) {
         None => None,
         Some(place) => {
             let call = calls.remove(place);

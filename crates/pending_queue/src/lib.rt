@@ -14,8 +14,9 @@
 //!
 //! **Cost.** `next_ready` looks at one number. `ended` goes over the calls that wait for what ended, and `remove` and
 //! `hold` over the blockers that the call was held by and that live, each beside what shares a slot with them: blockers
-//! are found by their numbers and by their turns, each in half as many slots as there was room when room was taken. A call
-//! is found by halves as long as turns rise; where one is taken out, those behind it move. Where the call that is held or
+//! are found by their numbers and by their turns, each in half as many slots as there was room when room was taken. As
+//! long as each call was put in behind lower turns, a call is found by halves, and so is that a turn has none; else all
+//! are looked at for a turn that has none. Where a call is taken out, those behind it move. Where the call that is held or
 //! removed was the first that is ready, all calls are looked at for the next. `hold` takes memory only where there is
 //! no spare room for what it puts in; nothing else but `reserve` takes any. Where room is taken for blockers, those that
 //! live move to new room, in time linear in all.

@@ -4,7 +4,7 @@ ghost use Rattle.std.specs.Prelude.{◌≡◌, ◌≤◌, ◌+◌, ◌==◌, [],
 ghost use Rattle.fsa_types.specs.Rows.{lives, without_row};
 ghost use Rattle.pending_queue.specs.PendingQueue.{with_held, with_ended, next_ready, calls_added};
 
-use crate::calls::{count_of, first_put, first_without, put_count, take_call};
+use crate::calls::{count_of, first_put, first_without, put_count, stays_rising, take_call};
 use crate::waits::Waits;
 use fsa_types::{Blocker, BlockerList, NoMemory};
 use std::alloc::Global;
@@ -16,6 +16,8 @@ use std::marker::Model;
 pub struct PendingQueue {
     // The calls, each its turn and how many of its blockers live.
     calls: Vec<(u64, usize)>,
+    // Each call was put in behind lower turns, so that one is found by halves, and so is that there is none.
+    rising: bool,
     // The blockers that live, each with the turn of the call that waits for it.
     waits: Waits,
     // The least turn of a call none of whose blockers lives.
@@ -23,7 +25,7 @@ pub struct PendingQueue {
 }
 
 impl Model for PendingQueue {
-    ghost use Rattle.pending_queue.specs.Lists.{AreCounted, turns_of};
+    ghost use Rattle.pending_queue.specs.Lists.{AreCounted, AreInOrder, turns_of};
     ghost use Rattle.pending_queue.specs.PendingQueue.{Queue, held_of};
     ghost use Rattle.std.specs.Prelude.{◌-◌};
     ghost use Rattle.std.specs.Vec.{vec_capacity, vec_len};
@@ -36,7 +38,7 @@ impl Model for PendingQueue {
       room_for_blockers = q.waits.room;
     } };
 
-    ghost invariant = { λ q. AreCounted q.calls.items q.waits.entries q.first };
+    ghost invariant = { λ q. AreCounted q.calls.items q.waits.entries q.first × AreInOrder q.rising q.calls.items };
 }
 
 impl PendingQueue {
@@ -46,6 +48,7 @@ impl PendingQueue {
     {
         PendingQueue {
             calls: Vec::new(alloc),
+            rising: true,
             waits: Waits::new(alloc),
             first: None,
         }
@@ -87,8 +90,10 @@ impl PendingQueue {
         ensures blockers_left { self.old.room_for_blockers ≤ self.new.room_for_blockers + length blockers.now }
     {
         self.waits.reserve(blockers.len())?;
-        let count = count_of(&self.calls, turn);
-        put_count(&mut self.calls, turn, blockers.len())?;
+        let count = count_of(&self.calls, turn, self.rising);
+        let rising = stays_rising(&self.calls, turn, self.rising);
+        put_count(&mut self.calls, turn, blockers.len(), self.rising)?;
+        self.rising = rising;
         self.waits.put(turn, count, blockers);
         self.first = first_put(&self.calls, self.first, turn, blockers.len());
         Ok(())
@@ -120,7 +125,7 @@ impl PendingQueue {
         ensures calls_kept { self.old.room_for_calls ≤ self.new.room_for_calls }
         ensures blockers_kept { self.old.room_for_blockers ≤ self.new.room_for_blockers }
     {
-        let Some(count) = take_call(&mut self.calls, turn) else {
+        let Some(count) = take_call(&mut self.calls, turn, self.rising) else {
             return false;
         };
         self.waits.drop_of(turn, count);

@@ -11,7 +11,7 @@ use Rattle.pending_queue.proofs.calls.put_count.Goals as goal
 pub returns-in-Some-clause-ok : goal.returns-in-Some-clause-ok
 returns-in-Some-clause-ok c =
     let rows = c.args.calls.now.items in
-    let found : position (λ e. e.0 == c.args.turn) rows ≡ Some c.in-Some.place = rw c.deref.ensures.value at (sym c.place_of.ensures.place ∙ c.in-Some.is) in
+    let found : position (λ e. e.0 == c.args.turn) rows ≡ Some c.in-Some.place = rw c.deref.ensures.value at (sym c.find_call.ensures.place ∙ c.in-Some.is) in
     let at = IsAt-position rows c.args.turn c.in-Some.place (0, 0) found in
     let there : lives rows c.args.turn ≡ true = lives-at rows c.args.turn c.in-Some.place (0, 0) at.within (at.here (0, 0)) in
     rw there (changed-at (λ _. c.args.count) rows c.args.turn c.in-Some.place (0, 0) c.requires.differ at.within (at.here (0, 0)))
@@ -19,7 +19,7 @@ returns-in-Some-clause-ok c =
 pub returns-in-Some-clause-len : goal.returns-in-Some-clause-len
 returns-in-Some-clause-len c =
     let rows = c.args.calls.now.items in
-    let found : position (λ e. e.0 == c.args.turn) rows ≡ Some c.in-Some.place = rw c.deref.ensures.value at (sym c.place_of.ensures.place ∙ c.in-Some.is) in
+    let found : position (λ e. e.0 == c.args.turn) rows ≡ Some c.in-Some.place = rw c.deref.ensures.value at (sym c.find_call.ensures.place ∙ c.in-Some.is) in
     let at = IsAt-position rows c.args.turn c.in-Some.place (0, 0) found in
     let there : lives rows c.args.turn ≡ true = lives-at rows c.args.turn c.in-Some.place (0, 0) at.within (at.here (0, 0)) in
     let long : length rows ≡ vec_len c.args.calls.now = rw c.deref.ensures.value at c.deref.ensures.len in
@@ -31,13 +31,13 @@ returns-in_ok-push-in-None-clause-freed c none = rw (c.in_ok-push-in-None.ensure
 pub returns-in-Some-clause-freed : goal.returns-in-Some-clause-freed
 returns-in-Some-clause-freed c none =
     let rows = c.args.calls.now.items in
-    let found : position (λ e. e.0 == c.args.turn) rows ≡ Some c.in-Some.place = rw c.deref.ensures.value at (sym c.place_of.ensures.place ∙ c.in-Some.is) in
+    let found : position (λ e. e.0 == c.args.turn) rows ≡ Some c.in-Some.place = rw c.deref.ensures.value at (sym c.find_call.ensures.place ∙ c.in-Some.is) in
     let at = IsAt-position rows c.args.turn c.in-Some.place (0, 0) found in
     rw none (least-freed rows c.in-Some.place c.args.turn (0, 0) at.within (at.here (0, 0)))
 
 pub returns-in-Some-clause-blocked : goal.returns-in-Some-clause-blocked
 returns-in-Some-clause-blocked c some =
     let rows = c.args.calls.now.items in
-    let found : position (λ e. e.0 == c.args.turn) rows ≡ Some c.in-Some.place = rw c.deref.ensures.value at (sym c.place_of.ensures.place ∙ c.in-Some.is) in
+    let found : position (λ e. e.0 == c.args.turn) rows ≡ Some c.in-Some.place = rw c.deref.ensures.value at (sym c.find_call.ensures.place ∙ c.in-Some.is) in
     let at = IsAt-position rows c.args.turn c.in-Some.place (0, 0) found in
     stays-blocked rows c.in-Some.place c.args.turn c.args.count (0, 0) at.within (at.here (0, 0)) some

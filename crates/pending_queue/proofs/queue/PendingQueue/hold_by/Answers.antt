@@ -19,9 +19,9 @@ returns-clause-calls_left c = rw (← c.self.view_is) (
 
 pub invariant_of-self-2 : goal.invariant_of-self-2
 invariant_of-self-2 c =
-    rw (c.first_put-self-inside.ensures, c.deref-2.ensures.value, c.put.ensures.entries, c.in_ok-put_count.ensures.ok, c.reserve.ensures.entries)
-    (AreCounted-put c.self.inside.calls.items c.self.inside.waits.entries c.self.inside.first c.args.turn c.args.blockers.now c.self.invariant)
+    rw (c.first_put-self-inside.ensures, c.deref-3.ensures.value, c.put.ensures.entries, c.in_ok-put_count.ensures.ok, c.reserve.ensures.entries)
+    (AreCounted-put c.self.inside.calls.items c.self.inside.waits.entries c.self.inside.first c.args.turn c.args.blockers.now c.self.invariant.0, rw c.deref-2.ensures.value at (c.stays_rising-rising.ensures (length c.args.blockers.now)))
 
 pub put-requires-clause-count : goal.put-requires-clause-count
 put-requires-clause-count c =
-    rw c.reserve.ensures.entries (counts-all c.self.inside.calls.items c.self.inside.waits.entries c.self.inside.first c.args.turn c.count_of-count.result c.self.invariant (rw c.deref.ensures.value at c.count_of-count.ensures))
+    rw c.reserve.ensures.entries (counts-all c.self.inside.calls.items c.self.inside.waits.entries c.self.inside.first c.args.turn c.count_of-count.result c.self.invariant.0 (rw c.deref.ensures.value at c.count_of-count.ensures))

@@ -3,7 +3,7 @@ use Rattle.pending_queue.proofs.QueueLemmas.{next_ready-first, differ-held_of}
 use Rattle.pending_queue.proofs.queue.PendingQueue.next_ready.Goals as goal
 
 pub returns-clause-turn : goal.returns-clause-turn
-returns-clause-turn c = rw (← c.self.view_is) (sym (next_ready-first c.self.inside.calls.items c.self.inside.waits.entries c.self.inside.first c.self.invariant))
+returns-clause-turn c = rw (← c.self.view_is) (sym (next_ready-first c.self.inside.calls.items c.self.inside.waits.entries c.self.inside.first c.self.invariant.0))
 
 pub returns-clause-differ : goal.returns-clause-differ
-returns-clause-differ c = rw (← c.self.view_is) (differ-held_of c.self.inside.calls.items c.self.inside.waits.entries c.self.invariant.differ)
+returns-clause-differ c = rw (← c.self.view_is) (differ-held_of c.self.inside.calls.items c.self.inside.waits.entries c.self.invariant.0.differ)
