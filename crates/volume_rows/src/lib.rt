@@ -7,16 +7,16 @@
 //! links.reserve(1)?;                      // may be refused
 //! links.add(row);                         // takes no memory
 //! links.first_of(dir)                     // the link of a directory, which leads up
-//! count_on(handles, &links, HandleSet::Below(dir))
-//! some_clashes(handles, &links, on, access, share)
+//! is_one_of(&links, HandleSet::Below(dir), handle)
+//! is_clashing(&links, on, access, share, handle)
 //!
 //! changes.reserve(1, units, dirs)?;       // may be refused
 //! changes.note(&links, 1, name, None, action, bits);  // takes no memory
 //! ```
 //!
 //! The calls group so: links (`LinksByFile`, `is_at_or_below`); files (`FileRow::set_basic`,
-//! `set_owner`, `set_dacl`, `set_point`); handles (`is_opened_by`, `count_on`,
-//! `is_one_of`, `is_clashing`, `some_clashes`) and their enumerations (`Enumeration`, `Cursor`); streams
+//! `set_owner`, `set_dacl`, `set_point`); handles (`is_opened_by`, `is_one_of`,
+//! `is_clashing`) and their enumerations (`Enumeration`, `Cursor`); streams
 //! (`is_stream_named`, and `StreamRow` with its bytes in the pages of `stream_pages`); the space that streams
 //! take (`clusters_of`) and what an owner may be charged (`find_limit`); oplocks (`effect`, `is_awaited`,
 //! `in_both`, `is_within`, `is_same_key`, `is_oplock_of`, `find_break`, `find_target`); pending calls
@@ -31,7 +31,7 @@
 //! - Room for links, bytes and changes has to be reserved.
 //! - A scan takes time linear in the rows; one for the next pending call takes that for each row. The links of a
 //!   file are found in time logarithmic in all links, and `is_at_or_below` and a note take that for each directory
-//!   above; handles below a directory take the way up for each handle.
+//!   above; so does whether a handle is below a directory.
 #![tactic(auto)]
 
 mod cursors;
@@ -53,7 +53,7 @@ pub use growth::clusters_of;
 pub use handles::is_opened_by;
 pub use links::LinksByFile;
 pub use noting::Changes;
-pub use opens::{count_on, is_at_or_below, is_clashing, is_one_of, some_clashes};
+pub use opens::{is_at_or_below, is_clashing, is_one_of};
 pub use rows::{FileRow, HandleRow, LinkRow, Need, StreamInfo, StreamRow};
 pub use streams::is_stream_named;
 pub use waiting::{

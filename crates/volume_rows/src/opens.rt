@@ -1,10 +1,9 @@
 //! Handles of a stream, of a link, or below a directory.
 
-ghost use Rattle.std.specs.Prelude.{◌≡◌, ◌==◌, ◌&&◌, length, filter, Some};
-ghost use Rattle.std.specs.List.{list_any};
+ghost use Rattle.std.specs.Prelude.{◌≡◌, ◌==◌, ◌&&◌, Some};
 ghost use Rattle.fsa_types.specs.Oplocks.{is_same_key};
 ghost use Rattle.fsa_types.specs.Sharing.{clash};
-ghost use Rattle.fsa_model.specs.Lookups.{has_row, is_at_or_below, is_below, is_one_of, is_open_on, leads_to};
+ghost use Rattle.fsa_model.specs.Lookups.{is_at_or_below, is_below, is_one_of, is_open_on, leads_to};
 
 use crate::effects::is_same_key;
 use crate::links::LinksByFile;
@@ -54,16 +53,6 @@ pub fn is_one_of(links: &LinksByFile, on: HandleSet, handle: &HandleRow) -> bool
     }
 }
 
-/// How many handles are of the set.
-pub fn count_on(handles: &[(u64, HandleRow)], links: &LinksByFile, on: HandleSet) -> usize
-    ensures { result ≡ length (filter (λ entry. is_one_of links.now.rows on entry.1) handles.now) }
-{
-    handles
-        .iter()
-        .filter(|entry| is_one_of(links, on, &entry.1))
-        .count()
-}
-
 /// Whether a handle is of the set and clashes with these access and share masks.
 pub fn is_clashing(
     links: &LinksByFile,
@@ -75,19 +64,4 @@ pub fn is_clashing(
     ensures { result ≡ (is_one_of links.now.rows on handle.now && clash access share handle.now.access handle.now.share) }
 {
     is_one_of(links, on, handle) && clash(access, share, handle.access, handle.share)
-}
-
-/// Whether some handle is of the set and clashes.
-pub fn some_clashes(
-    handles: &[(u64, HandleRow)],
-    links: &LinksByFile,
-    on: HandleSet,
-    access: u32,
-    share: u32,
-) -> bool
-    ensures { result ≡ has_row (λ handle. is_one_of links.now.rows on handle && clash access share handle.access handle.share) handles.now }
-{
-    handles
-        .iter()
-        .any(|entry| is_clashing(links, on, access, share, &entry.1))
 }

@@ -1,3 +1,4 @@
+pub mod AboveLemmas
 pub mod BeginningLemmas
 pub mod ChildLemmas
 pub mod IndexLaws

@@ -1,5 +1,5 @@
 -- The numbers of links in the order of their directories and names.
-use Rattle.std.specs.Prelude.{◌≡◌, ℕ, ◌≤◌, false, ◌==◌, List, [], ◌∷◌, Option, None, Some, AllPairs, length, map, if◌then◌else◌}
+use Rattle.std.specs.Prelude.{◌≡◌, ℕ, ◌≤◌, false, ◌==◌, List, [], ◌∷◌, Option, AllPairs, length, map}
 use Rattle.std.specs.List.{AllWithin}
 use Rattle.std.specs.Option.{option_map_or}
 use Rattle.fsa_types.specs.CaseTable.{upcased}

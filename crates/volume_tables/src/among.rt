@@ -1,20 +1,20 @@
-//! What is asked of the handles that an index names.
+//! What is asked of handles: of those that an index names, or of all.
 
-ghost use Rattle.std.specs.Prelude.{◌≡◌, ◌==◌, ◌&&◌, Some, false, filter, find, length, not, option_map};
+ghost use Rattle.std.specs.Prelude.{◌≡◌, ◌==◌, ◌&&◌, Some, false, filter, find, if◌then◌else◌, length, not, option_map};
 ghost use Rattle.std.specs.List.{list_any};
 ghost use Rattle.std.specs.Option.{option_map_or};
 ghost use Rattle.fsa_types.specs.Oplocks.{is_same_key};
 ghost use Rattle.fsa_types.specs.Rows.{row_of};
 ghost use Rattle.fsa_types.specs.Sharing.{clash};
-ghost use Rattle.fsa_model.specs.Lookups.{is_one_of, is_open_on, is_opened_by};
+ghost use Rattle.fsa_model.specs.Lookups.{has_row, is_one_of, is_open_on, is_opened_by};
 ghost use Rattle.key_index.specs.RowsByKey.{row_passes};
 
 use fsa_types::HandleSet;
-use object_tables::RowList;
+use object_tables::Table;
 use volume_rows::{HandleRow, LinksByFile, is_clashing, is_one_of, is_opened_by, is_same_key};
 
 // Whether the handle of this number is there, and this call of this client opened it.
-fn opened_at(table: &RowList<HandleRow>, id: u64, client: u32, number: u32) -> bool
+fn opened_at(table: &Table<HandleRow>, id: u64, client: u32, number: u32) -> bool
     ensures { result ≡ option_map_or (λ row. is_opened_by client number row) (row_of table.now.rows id) false }
 {
     match table.get(id) {
@@ -25,7 +25,7 @@ fn opened_at(table: &RowList<HandleRow>, id: u64, client: u32, number: u32) -> b
 
 /// The first of these handles that this call of this client opened.
 pub fn find_opened(
-    table: &RowList<HandleRow>,
+    table: &Table<HandleRow>,
     entries: &[(u64, u64)],
     client: u32,
     number: u32,
@@ -39,7 +39,7 @@ pub fn find_opened(
 }
 
 // Whether the handle of this number is there, and this client's.
-fn is_of_client_at(table: &RowList<HandleRow>, id: u64, client: u32) -> bool
+fn is_of_client_at(table: &Table<HandleRow>, id: u64, client: u32) -> bool
     ensures { result ≡ option_map_or (λ row. row.client == client) (row_of table.now.rows id) false }
 {
     match table.get(id) {
@@ -49,11 +49,7 @@ fn is_of_client_at(table: &RowList<HandleRow>, id: u64, client: u32) -> bool
 }
 
 /// The first of these handles that is this client's.
-pub fn find_of_client(
-    table: &RowList<HandleRow>,
-    entries: &[(u64, u64)],
-    client: u32,
-) -> Option<u64>
+pub fn find_of_client(table: &Table<HandleRow>, entries: &[(u64, u64)], client: u32) -> Option<u64>
     ensures { result ≡ option_map (λ entry. entry.1) (find (row_passes table.now.rows (λ entry. entry.1.client == client)) entries.now) }
 {
     entries
@@ -63,7 +59,7 @@ pub fn find_of_client(
 }
 
 // Whether the handle of this number is there, and of the set.
-fn is_one_at(table: &RowList<HandleRow>, id: u64, links: &LinksByFile, on: HandleSet) -> bool
+fn is_one_at(table: &Table<HandleRow>, id: u64, links: &LinksByFile, on: HandleSet) -> bool
     ensures { result ≡ option_map_or (λ row. is_one_of links.now.rows on row) (row_of table.now.rows id) false }
 {
     match table.get(id) {
@@ -72,9 +68,20 @@ fn is_one_at(table: &RowList<HandleRow>, id: u64, links: &LinksByFile, on: Handl
     }
 }
 
+// 1 where the handle of this number is there and of the set, and else 0.
+fn one_at(table: &Table<HandleRow>, id: u64, links: &LinksByFile, on: HandleSet) -> usize
+    ensures { result ≡ if option_map_or (λ row. is_one_of links.now.rows on row) (row_of table.now.rows id) false then 1 else 0 }
+{
+    if is_one_at(table, id, links, on) {
+        1
+    } else {
+        0
+    }
+}
+
 /// How many of these handles are of the set.
 pub fn count_among(
-    table: &RowList<HandleRow>,
+    table: &Table<HandleRow>,
     entries: &[(u64, u64)],
     links: &LinksByFile,
     on: HandleSet,
@@ -87,9 +94,24 @@ pub fn count_among(
         .count()
 }
 
+/// How many handles are of the set. It looks at all of them.
+pub fn count_all(table: &Table<HandleRow>, links: &LinksByFile, on: HandleSet) -> usize
+    ensures { result ≡ length (filter (λ entry. is_one_of links.now.rows on entry.1) table.now.rows) }
+{
+    let _numbered = table.len();
+    // The table doesn't tell that all numbers are above 0.
+    let mut count = one_at(table, 0, links, on);
+    let mut after = 0;
+    'handles: while let Some(id) = table.next(after) {
+        count += one_at(table, id, links, on);
+        after = id;
+    }
+    count
+}
+
 // Whether the handle of this number is there, of the set, and clashes.
 fn clashes_at(
-    table: &RowList<HandleRow>,
+    table: &Table<HandleRow>,
     id: u64,
     links: &LinksByFile,
     on: HandleSet,
@@ -106,7 +128,7 @@ fn clashes_at(
 
 /// Whether some of these handles is of the set and clashes.
 pub fn some_clash_among(
-    table: &RowList<HandleRow>,
+    table: &Table<HandleRow>,
     entries: &[(u64, u64)],
     links: &LinksByFile,
     on: HandleSet,
@@ -118,8 +140,33 @@ pub fn some_clash_among(
     entries.iter().any(|entry| clashes_at(table, entry.1, links, on, access, share))
 }
 
+/// Whether some handle is of the set and clashes. It looks at all of them.
+pub fn some_clash(
+    table: &Table<HandleRow>,
+    links: &LinksByFile,
+    on: HandleSet,
+    access: u32,
+    share: u32,
+) -> bool
+    ensures { result ≡ has_row (λ handle. is_one_of links.now.rows on handle && clash access share handle.access handle.share) table.now.rows }
+{
+    let _numbered = table.len();
+    // The table doesn't tell that all numbers are above 0.
+    if clashes_at(table, 0, links, on, access, share) {
+        return true;
+    }
+    let mut after = 0;
+    'handles: while let Some(id) = table.next(after) {
+        if clashes_at(table, id, links, on, access, share) {
+            return true;
+        }
+        after = id;
+    }
+    false
+}
+
 // Whether the handle of this number is there, open on the stream, and has another key than that handle.
-fn is_other_at(table: &RowList<HandleRow>, id: u64, handle: u64, key: u64, stream: u64) -> bool
+fn is_other_at(table: &Table<HandleRow>, id: u64, handle: u64, key: u64, stream: u64) -> bool
     ensures { result ≡ option_map_or (λ row. is_open_on stream row && not (is_same_key id row.key (Some handle) key)) (row_of table.now.rows id) false }
 {
     match table.get(id) {
@@ -130,7 +177,7 @@ fn is_other_at(table: &RowList<HandleRow>, id: u64, handle: u64, key: u64, strea
 
 /// Whether some of these handles is open on the stream, and has another key than that handle.
 pub fn some_other_among(
-    table: &RowList<HandleRow>,
+    table: &Table<HandleRow>,
     entries: &[(u64, u64)],
     handle: u64,
     key: u64,

@@ -17,24 +17,27 @@ ghost use Rattle.volume_tables.specs.HandleTable.{next_of, stream_of_handle, ran
 ghost use Rattle.volume_tables.specs.Ranges.{ranges_in, room_at, AreSetIn};
 ghost use Rattle.volume_tables.specs.Rooms.{room_in};
 
-use crate::among::{count_among, find_of_client, find_opened, some_clash_among, some_other_among};
+use crate::among::{
+    count_all, count_among, find_of_client, find_opened, some_clash, some_clash_among,
+    some_other_among,
+};
 use crate::handle_index::HandleIndex;
 use crate::lock_row::LockRow;
 use crate::ranges::StreamRanges;
 use crate::room_list::RoomList;
 use fsa_types::{HandleSet, NoMemory};
-use object_tables::RowList;
+use object_tables::{RowList, Table};
 use range_locks::{Range, RangeTable};
 use std::alloc::Global;
 use std::marker::Model;
-use volume_rows::{Enumeration, HandleRow, LinksByFile, count_on, some_clashes};
+use volume_rows::{Enumeration, HandleRow, LinksByFile};
 
 /// Handles under numbers that rise from 1, the byte-range locks that they hold, under numbers of their
 /// own, and for each stream how many more locks can be added on it without taking memory. A lock is on
 /// the stream of its handle.
 #[derive(Debug, Drop)]
 pub struct HandleTable {
-    table: RowList<HandleRow>,
+    table: Table<HandleRow>,
     // The handles by the calls that opened them, by streams and by links; what was promised is its room.
     index: HandleIndex,
     locks: RowList<LockRow>,
@@ -66,7 +69,7 @@ impl HandleTable {
         ensures rooms { result.rooms ≡ [] }
     {
         HandleTable {
-            table: RowList::new(alloc),
+            table: Table::new(alloc),
             index: HandleIndex::new(alloc),
             locks: RowList::new(alloc),
             ranges: StreamRanges::new(alloc),
@@ -104,14 +107,6 @@ impl HandleTable {
         self.locks.reserve(all)?;
         self.ranges.reserve(stream, locks)?;
         self.rooms.set(stream, locks)
-    }
-
-    /// All handles with their numbers, by rising number.
-    pub fn as_slice(&self) -> &[(u64, HandleRow)]
-        ensures rows { result.now ≡ self.now.rows }
-        ensures numbered { IsNumbered self.now.rows self.now.last }
-    {
-        self.table.as_slice()
     }
 
     /// The least number above `after` that a handle has; `None` exactly where there is none.
@@ -172,13 +167,13 @@ impl HandleTable {
         ensures count { result ≡ length (filter (λ entry. is_one_of links.now.rows on entry.1) self.now.rows) }
         ensures numbered { IsNumbered self.now.rows self.now.last }
     {
-        let rows = self.table.as_slice();
+        let _numbered = self.table.len();
         match on {
             HandleSet::Stream(stream) => {
                 count_among(&self.table, self.index.on_stream(stream), links, on)
             }
             HandleSet::Link(link) => count_among(&self.table, self.index.by_link(link), links, on),
-            HandleSet::Below(_) => count_on(rows, links, on),
+            HandleSet::Below(_) => count_all(&self.table, links, on),
         }
     }
 
@@ -187,7 +182,7 @@ impl HandleTable {
     pub fn some_clashes(&self, links: &LinksByFile, on: HandleSet, access: u32, share: u32) -> bool
         ensures { result ≡ has_row (λ handle. is_one_of links.now.rows on handle && clash access share handle.access handle.share) self.now.rows }
     {
-        let rows = self.table.as_slice();
+        let _numbered = self.table.len();
         match on {
             HandleSet::Stream(stream) => {
                 let entries = self.index.on_stream(stream);
@@ -197,7 +192,7 @@ impl HandleTable {
                 let entries = self.index.by_link(link);
                 some_clash_among(&self.table, entries, links, on, access, share)
             }
-            HandleSet::Below(_) => some_clashes(rows, links, on, access, share),
+            HandleSet::Below(_) => some_clash(&self.table, links, on, access, share),
         }
     }
 
@@ -307,7 +302,7 @@ impl HandleTable {
 }
 
 // The client's handle of the least number of a call above `after`, by the numbers of calls that opened handles.
-fn next_in(table: &RowList<HandleRow>, index: &HandleIndex, client: u32, after: u32) -> Option<u64>
+fn next_in(table: &Table<HandleRow>, index: &HandleIndex, client: u32, after: u32) -> Option<u64>
     requires { IsIndexOf call_key table.now.rows index.now.calls }
     ensures { result ≡ next_of table.now.rows client after }
 {
@@ -323,7 +318,7 @@ fn next_in(table: &RowList<HandleRow>, index: &HandleIndex, client: u32, after: 
 }
 
 // The stream of a handle, where it has one.
-fn stream_of(table: &RowList<HandleRow>, handle: u64) -> Option<u64>
+fn stream_of(table: &Table<HandleRow>, handle: u64) -> Option<u64>
     ensures { result ≡ stream_of_handle table.now.rows handle }
 {
     let row = table.get(handle)?;
@@ -331,7 +326,7 @@ fn stream_of(table: &RowList<HandleRow>, handle: u64) -> Option<u64>
 }
 
 // Takes a handle out of the table and of the index.
-fn remove_row(table: &mut RowList<HandleRow>, index: &mut HandleIndex, id: u64)
+fn remove_row(table: &mut Table<HandleRow>, index: &mut HandleIndex, id: u64)
     ensures rows { table.new.rows ≡ without_row table.old.rows id }
     ensures last { table.new.last ≡ table.old.last }
     ensures room { table.old.room ≤ table.new.room }
@@ -345,7 +340,7 @@ fn remove_row(table: &mut RowList<HandleRow>, index: &mut HandleIndex, id: u64)
 }
 
 // Sets the enumeration of a handle.
-fn set_enumeration(table: &mut RowList<HandleRow>, handle: u64, enumeration: Enumeration)
+fn set_enumeration(table: &mut Table<HandleRow>, handle: u64, enumeration: Enumeration)
     ensures rows { table.new.rows ≡ with_row_changed (λ row. record row { enumeration = Some enumeration }) table.old.rows handle }
     ensures last { table.new.last ≡ table.old.last }
     ensures room { table.new.room ≡ table.old.room }

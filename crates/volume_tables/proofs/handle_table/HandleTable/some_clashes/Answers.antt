@@ -12,11 +12,11 @@ returns-in-Stream c =
     let i = c.self.inside in
     rw (← c.self.view_is, c.in-Stream.is)
     ((rw c.on_stream-entries.ensures at c.some_clash_among.ensures) ∙ sym (any-by_key stream_key c.in-Stream.stream (λ handle. is_one_of c.args.links.now.rows (set.Stream c.in-Stream.stream) handle && clash c.args.access c.args.share handle.access handle.share)
-    (stream-clashing c.args.links.now.rows c.in-Stream.stream c.args.access c.args.share) i.table.rows i.table.last i.index.streams c.as_slice-rows.ensures.numbered c.self.invariant.2.streams))
+    (stream-clashing c.args.links.now.rows c.in-Stream.stream c.args.access c.args.share) i.table.rows i.table.last i.index.streams c.len-numbered.ensures.numbered c.self.invariant.2.streams))
 
 pub returns-in-Link : goal.returns-in-Link
 returns-in-Link c =
     let i = c.self.inside in
     rw (← c.self.view_is, c.in-Link.is)
     ((rw c.by_link-entries.ensures at c.some_clash_among-in-Link.ensures) ∙ sym (any-by_key link_key c.in-Link.link (λ handle. is_one_of c.args.links.now.rows (set.Link c.in-Link.link) handle && clash c.args.access c.args.share handle.access handle.share)
-    (link-clashing c.args.links.now.rows c.in-Link.link c.args.access c.args.share) i.table.rows i.table.last i.index.links c.as_slice-rows.ensures.numbered c.self.invariant.2.links))
+    (link-clashing c.args.links.now.rows c.in-Link.link c.args.access c.args.share) i.table.rows i.table.last i.index.links c.len-numbered.ensures.numbered c.self.invariant.2.links))
