@@ -340,7 +340,7 @@ AreLater-one v new client id number numbered differ first live counts handles = 
         (above-first client row (get_or v.handles k d).1
         (none-all (λ (entry : ℕ × Handle). entry.1.client == client && nat_lt entry.1.number row.number) v.handles is_first.least k d within)))))
 
--- where it has none of number 0 it is the next above
+-- where it has none of number 0, it has none up to 0
 AreLater-0 : (v : Volume) (client : ℕ) → handle_of v client 0 ≡ None → AreLater v client 0
 AreLater-0 v client none_0 = list_any_none (λ (entry : ℕ × Handle). entry.1.client == client && not (nat_lt 0 entry.1.number)) v.handles (λ k d within.
     one (get_or v.handles k d).1 (number_of-none (is_opened_by client 0) v.handles none_0 k d within))

@@ -26,7 +26,8 @@
 //!   as many ends as calls are pending, and two notes for each handle that is closed. What is noted later
 //!   takes no more room than it would have taken then.
 //! - A close costs a look at the pending calls that name the handle, and a few looks through the other tables;
-//!   a leaving costs that for each handle of the client, and a look through all pending calls.
+//!   a leaving costs that for each handle of the client, each of which is found in time logarithmic in all handles,
+//!   and a look through all pending calls.
 #![tactic(auto)]
 
 mod close;

@@ -12,7 +12,8 @@ use Rattle.fsa_model.specs.Close.{handle_named, names}
 use Rattle.fsa_model.specs.Edits.{is_call}
 use Rattle.fsa_model.specs.Volume.{Pending}
 use Rattle.fsa_model.proofs.RowLaws.{find-none, none-all, option_cases}
-use Rattle.volume_breaks.specs.CallIndex.{handle_in, is_naming, key_of, row_call_key, row_handle_key}
+use Rattle.volume_tables.specs.CallKey.{key_of}
+use Rattle.volume_breaks.specs.CallIndex.{handle_in, is_naming, row_call_key, row_handle_key}
 use Rattle.volume_breaks.proofs.OrderLemmas.{AllRise}
 
 -- ---- keys

@@ -1,5 +1,5 @@
 -- The turns of pending calls under clients and numbers, and under the handles that they name.
-use Rattle.std.specs.Prelude.{ℕ, Bool, List, Option, None, ◌==◌, ◌&&◌, ◌+◌, ◌*◌, ◌^◌, nat_lt, not}
+use Rattle.std.specs.Prelude.{ℕ, Bool, List, Option, None, ◌==◌, ◌&&◌, nat_lt, not}
 use Rattle.std.specs.List.{list_any}
 use Rattle.std.specs.Option.{option_map_or}
 use Rattle.fsa_types.specs.declared.request.Call.{Call}
@@ -7,16 +7,13 @@ use Rattle.fsa_types.specs.declared.request.What.{What}
 use Rattle.fsa_types.specs.declared.request.What.TheVariants.{Ask}
 use Rattle.fsa_model.specs.Close.{handle_named, names}
 use Rattle.fsa_model.specs.Volume.{Pending}
+use Rattle.volume_tables.specs.CallKey.{key_of}
 
 -- the entries by calls and by handles; and how many more calls can be added without taking memory
 pub record IndexedCalls : Type 0 where
   pub calls : List (ℕ × ℕ)
   pub handles : List (ℕ × ℕ)
   pub room : ℕ
-
--- one number for a client and one of its calls, which are below 2^32
-abbrev pub key_of : ℕ → ℕ → ℕ
-key_of client number = client * 2 ^ 32 + number
 
 -- the number of the handle that is named by what is asked
 abbrev pub handle_in : What → Option ℕ

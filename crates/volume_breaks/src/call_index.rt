@@ -7,12 +7,14 @@ ghost use Rattle.fsa_model.specs.Close.{handle_named, names};
 ghost use Rattle.fsa_model.specs.Volume.{Pending};
 ghost use Rattle.key_index.specs.Index.{entries_of};
 ghost use Rattle.key_index.specs.RowsByKey.{IsIndexOf};
-ghost use Rattle.volume_breaks.specs.CallIndex.{call_key, handle_in, handle_key, key_of, row_call_key, row_handle_key};
+ghost use Rattle.volume_breaks.specs.CallIndex.{call_key, handle_in, handle_key, row_call_key, row_handle_key};
+ghost use Rattle.volume_tables.specs.CallKey.{key_of};
 
 use fsa_types::{Call, NoMemory, Request, What};
 use key_index::KeyIndex;
 use std::alloc::Global;
 use std::marker::Model;
+use volume_tables::key_of;
 
 /// The turns of pending calls, each under the client and number of its call, and under the client and the handle
 /// that the call names, with room for more of them.
@@ -97,13 +99,6 @@ impl CallIndex {
     {
         self.handles.of(key_of(client, handle))
     }
-}
-
-// One number for a client and one of its calls.
-fn key_of(client: u32, number: u32) -> u64
-    ensures { result ≡ key_of client number }
-{
-    client as u64 * 4_294_967_296 + number as u64
 }
 
 // The key of a call by its client and number.

@@ -15,8 +15,7 @@
 //! ```
 //!
 //! The calls group so: links (`LinksByFile`, `is_at_or_below`); files (`FileRow::set_basic`,
-//! `set_owner`, `set_dacl`, `set_point`); handles (`is_opened_by`, `is_one_of`,
-//! `is_clashing`) and their enumerations (`Enumeration`, `Cursor`); streams
+//! `set_owner`, `set_dacl`, `set_point`); handles (`is_one_of`, `is_clashing`) and their enumerations (`Enumeration`, `Cursor`); streams
 //! (`is_stream_named`, and `StreamRow` with its bytes in the pages of `stream_pages`); the space that streams
 //! take (`clusters_of`) and what an owner may be charged (`find_limit`); oplocks (`effect`, `is_awaited`,
 //! `in_both`, `is_within`, `is_same_key`, `is_oplock_of`, `find_break`, `find_target`); pending calls
@@ -37,7 +36,6 @@
 mod cursors;
 mod effects;
 mod growth;
-mod handles;
 mod links;
 mod noting;
 mod opens;
@@ -50,7 +48,6 @@ pub use effects::{
     BreakEffect, effect, has_read, has_write, in_both, is_awaited, is_same_key, is_within,
 };
 pub use growth::clusters_of;
-pub use handles::is_opened_by;
 pub use links::LinksByFile;
 pub use noting::Changes;
 pub use opens::{is_at_or_below, is_clashing, is_one_of};

@@ -40,7 +40,8 @@
 //! call that finds or adds it, so that no caller needs a law of its own.
 //!
 //! A file, a link, a stream or a handle is found by its number in time logarithmic in the rows of its
-//! table, and so is the least number above another; an owner's charge in time logarithmic in the owners; the
+//! table, and so is the least number above another; the handle of a call, and a client's next handle, in time
+//! logarithmic in the handles; an owner's charge in time logarithmic in the owners; the
 //! clusters of all streams are kept. A link is found by its name in time logarithmic in all links, and so is where the
 //! links of a directory stand that are behind a name and begin with given units, which are lent in one piece. The links of a file, and its streams by
 //! name, are found in time logarithmic in all of them, and linear in the file's own; so a note and `is_at_or_below` cost that for each directory above.

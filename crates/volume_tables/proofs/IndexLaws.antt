@@ -1,19 +1,21 @@
 -- What is asked of all rows, where those that pass have one key, is asked of the rows of that key alone.
-use Rattle.std.proofs.Common.{◌≡◌, ℕ, true, false, Bool, List, Option, [], ◌∷◌, ◌∙◌, length, refl, ap, sym, inl, inr, Some, None}
+use Rattle.std.proofs.Common.{◌≡◌, ℕ, true, false, Bool, List, Option, [], ◌∷◌, ◌∙◌, get_or, length, refl, ap, sym, inl, inr, Some, None}
 use Rattle.std.specs.Prelude.{filter, find, not, option_map, ◌==◌, ◌&&◌, ◌||◌}
-use Rattle.std.specs.List.{list_any}
+use Rattle.std.specs.List.{All, list_any}
 use Rattle.std.specs.Option.{option_map_or}
 use Rattle.std.proofs.lemmas.Bool.{cases_Bool, and_parts, false≢true}
 use Rattle.fsa_types.specs.Oplocks.{is_same_key}
 use Rattle.fsa_types.specs.Rows.{IsNumbered, with_row_changed}
 use Rattle.fsa_types.specs.Sharing.{clash}
-use Rattle.fsa_model.specs.Lookups.{is_one_of, is_open_on, is_opened_by, number_of}
+use Rattle.fsa_model.specs.Lookups.{is_one_of, is_open_on, number_of}
 use Rattle.fsa_model.specs.Volume.{Handle, Link}
+use Rattle.fsa_model.proofs.RowLaws.{change_at, change_at-same}
+use Rattle.std.proofs.lemmas.List.Elements.{All-map}
 use Rattle.fsa_types.specs.declared.oplock.HandleSet.TheVariants as set
 use Rattle.key_index.specs.Index.{entries_of}
 use Rattle.key_index.specs.RowsByKey.{IsIndexOf, row_passes, rows_at}
 use Rattle.key_index.proofs.RowLaws.{index-any, index-changed, index-counted, index-found, index-listed}
-use Rattle.volume_tables.specs.HandleIndex.{AreIndexed, IndexedHandles, call_key, stream_key, link_key}
+use Rattle.volume_tables.specs.HandleIndex.{AreIndexed, FitsKey, IndexedHandles, call_key, stream_key, link_key}
 
 module _ {R : Type 0} (key : R → ℕ) (k : ℕ) (p : R → Bool) (only : (row : R) → p row ≡ true → (key row == k) ≡ true) where
   also : (row : R) → (key row == k && p row) ≡ p row
@@ -76,9 +78,6 @@ module _ {R : Type 0} (key : R → ℕ) (k : ℕ) (test : ℕ × R → Bool) (on
 
 -- ---- keys of handles
 
-pub call-only : (client number : ℕ) (row : Handle) → is_opened_by client number row ≡ true → (call_key row == number) ≡ true
-call-only client number row is = (and_parts (row.client == client) (row.number == number) is).1
-
 stream-at : (stream : ℕ) (own : Option ℕ) → option_map_or (λ s. s == stream) own false ≡ true → (option_map_or (λ (s : ℕ). s) own 0 == stream) ≡ true
 stream-at stream None is = absurd (false≢true is)
 stream-at stream (Some s) is = is
@@ -100,10 +99,22 @@ pub link-clashing : (links : List (ℕ × Link)) (link access share : ℕ) (row 
 link-clashing links link access share row is = link-only links link row (and_parts (is_one_of links (set.Link link) row) (clash access share row.access row.share) is).0
 
 -- a row changes but for its keys
-pub AreIndexed-changed : (change : Handle → Handle) (rows : List (ℕ × Handle)) (id : ℕ) (index : IndexedHandles) → ((row : Handle) → call_key (change row) ≡ call_key row)
-    → ((row : Handle) → stream_key (change row) ≡ stream_key row) → ((row : Handle) → link_key (change row) ≡ link_key row) → AreIndexed rows index → AreIndexed (with_row_changed change rows id) index
-AreIndexed-changed change rows id index calls streams links is = record {
-  calls = index-changed call_key change rows index.calls id calls is.calls;
+fit-changed : (change : Handle → Handle) (rows : List (ℕ × Handle)) (id : ℕ) → ((row : Handle) → (change row).client ≡ row.client) → ((row : Handle) → (change row).number ≡ row.number)
+    → All (λ entry. FitsKey entry.1) rows → All (λ entry. FitsKey entry.1) (with_row_changed change rows id)
+fit-changed change rows id client number fit =
+    All-map (λ (entry : ℕ × Handle). FitsKey entry.1) (change_at change id) rows (λ i d within.
+    let entry : ℕ × Handle = get_or rows i d in
+    let same_client : (change_at change id entry).1.client ≡ entry.1.client = change_at-same change id (λ row. row.client) client entry in
+    let same_number : (change_at change id entry).1.number ≡ entry.1.number = change_at-same change id (λ row. row.number) number entry in
+    let fits = fit i d within in
+    (rw same_client fits.0, rw same_number fits.1))
+
+pub AreIndexed-changed : (change : Handle → Handle) (rows : List (ℕ × Handle)) (id : ℕ) (index : IndexedHandles) → ((row : Handle) → (change row).client ≡ row.client)
+    → ((row : Handle) → (change row).number ≡ row.number) → ((row : Handle) → stream_key (change row) ≡ stream_key row) → ((row : Handle) → link_key (change row) ≡ link_key row)
+    → AreIndexed rows index → AreIndexed (with_row_changed change rows id) index
+AreIndexed-changed change rows id index client number streams links is = record {
+  fit = fit-changed change rows id client number is.fit;
+  calls = index-changed call_key change rows index.calls id (λ row. rw (client row, number row) refl) is.calls;
   streams = index-changed stream_key change rows index.streams id streams is.streams;
   links = index-changed link_key change rows index.links id links is.links;
 }

@@ -1,19 +1,19 @@
--- The next handle of a client, by the numbers of the calls that opened handles in order.
-use Rattle.std.proofs.Common.{◌≡◌, ℕ, zero, suc, ◌<◌, ◌≤◌, ◌⊎◌, Bool, true, false, not, List, [], ◌∷◌, length, get_or, refl, ap, sym, ◌∙◌, arith, inl, inr, Some, None, eq-eqb}
-use Rattle.std.specs.Prelude.{find, nat_lt, option_map, ◌==◌, ◌&&◌, ◌||◌}
+-- The handle of a call and the next handle of a client, by clients and numbers of the calls that opened handles in order.
+use Rattle.std.proofs.Common.{◌≡◌, ℕ, zero, suc, ◌-◌, ◌*◌, ◌^◌, ◌<◌, ◌≤◌, ◌⊎◌, Bool, true, false, not, List, [], ◌∷◌, length, get_or, refl, ap, sym, ◌∙◌, arith, inl, inr, Some, None, eq-eqb}
+use Rattle.std.specs.Prelude.{filter, find, nat_lt, option_map, slice_get, ◌==◌, ◌&&◌, ◌||◌}
 use Rattle.std.specs.List.{All, list_any}
 use Rattle.std.specs.List.Sorted.{IsNonDecreasingBy}
 use Rattle.std.proofs.lemmas.Bool.{cases_Bool, cases_lt, both_ways, and_parts, and_from, and_left, and_right, or_right, eqb-true, ne_eqb, lt-ltb, le-ltb, ltb-true, ltb-false}
 use Rattle.std.proofs.lemmas.List.Folds.{list_any_none}
-use Rattle.fsa_types.specs.Rows.{IsNumbered}
-use Rattle.fsa_model.specs.Lookups.{has_row, is_after, number_of}
+use Rattle.fsa_model.specs.Lookups.{has_row, is_after, is_opened_by, number_of}
 use Rattle.fsa_model.specs.Volume.{Handle}
-use Rattle.fsa_model.proofs.RowLaws.{any-filter, any-map, any-weaker, find-all, find-none, find-any, number_of-none, option_map-none, option_cases}
+use Rattle.fsa_model.proofs.RowLaws.{any-filter, any-map, any-weaker, find-all, find-none, find-any, option_cases}
 use Rattle.fsa_model.proofs.WaitLaws.{any-of_filter, find-passes}
 use Rattle.key_index.specs.Index.{entries_of, has_key, is_after as is_key_after}
-use Rattle.key_index.specs.RowsByKey.{IsIndexOf, pairs, row_passes}
-use Rattle.key_index.proofs.RowLaws.{index-found}
-use Rattle.volume_tables.specs.HandleIndex.{call_key}
+use Rattle.key_index.specs.RowsByKey.{IsIndexOf, pairs}
+use Rattle.key_index.proofs.RowLaws.{index-first}
+use Rattle.volume_tables.specs.CallKey.{key_of}
+use Rattle.volume_tables.specs.HandleIndex.{AreIndexed, FitsKey, IndexedHandles, call_key}
 use Rattle.volume_tables.specs.HandleTable.{next_of}
 
 -- ---- tests that agree on each item of a list
@@ -111,134 +111,168 @@ module _ {R : Type 0} (key : R → ℕ) (rows : List (ℕ × R)) (entries : List
             rw (← same) (find-all (λ (y : ℕ × ℕ). (y.0 ≤ below) ⊎ (e.0 ≤ y.0)) (has_key k) entries x.0 x.1 (keys-between below entries e rising found)))
       ]
 
+-- ---- the first entry of a greater key
+
+first-of : {X : Type 0} (p : X → Bool) (xs : List X) → slice_get (filter p xs) 0 ≡ find p xs
+first-of p [] = refl
+first-of p (x ∷ xs) = elim (cases_Bool (p x)) [
+  | inl passes ↦ rw passes refl
+  | inr fails ↦ rw fails (first-of p xs)
+]
+
+-- is the first one of its key
+first-key : (below : ℕ) (entries : List (ℕ × ℕ)) (e : ℕ × ℕ) → below < e.0 → find (is_key_after below) entries ≡ Some e → find (has_key e.0) entries ≡ Some e
+first-key below [] e more found = (let impossible : None ≡ Some e = found in cc)
+first-key below (x ∷ entries) e more found = elim (cases_Bool (nat_lt below x.0)) [
+  | inl first ↦ (
+      let is : Some x ≡ Some e = rw first at found in
+      let same : x ≡ e = cc in
+      let here : (x.0 == e.0) ≡ true = eq-eqb x.0 e.0 (ap (λ (y : ℕ × ℕ). y.0) same) in
+      rw here is)
+  | inr under ↦ (
+      let low : x.0 ≤ below = ltb-false below x.0 under in
+      let other : (x.0 == e.0) ≡ false = ne_eqb x.0 e.0 (λ same. absurd (omega (arith, same))) in
+      rw other (first-key below entries e more (rw under at found)))
+]
+
+-- ---- keys of calls
+
+key-parts : (client number c n : ℕ) → number < 2 ^ 32 → n < 2 ^ 32 → key_of client number ≡ key_of c n → (client ≡ c) × (number ≡ n)
+key-parts client number c n fits fits_too same = (omega arith, omega arith)
+
+key-is : (client number : ℕ) (h : Handle) → number < 2 ^ 32 → FitsKey h → (call_key h == key_of client number) ≡ is_opened_by client number h
+key-is client number h fits fit = elim (cases_Bool (is_opened_by client number h)) [
+  | inl is ↦ (
+      let parts = and_parts (h.client == client) (h.number == number) is in
+      let one : h.client ≡ client = eqb-true h.client client parts.0 in
+      let two : h.number ≡ number = eqb-true h.number number parts.1 in
+      eq-eqb (call_key h) (key_of client number) (omega (arith, one, two)) ∙ sym is)
+  | inr other ↦ ne_eqb (call_key h) (key_of client number) (λ same.
+      let parts = key-parts h.client h.number client number fit.1 fits same in
+      absurd (both_ways (is_opened_by client number h) other (and_from (h.client == client) (h.number == number) (eq-eqb h.client client parts.0) (eq-eqb h.number number parts.1)))) ∙ sym other
+]
+
+-- the handle of a call is that of the first entry of its key
+pub opened-first : (client number : ℕ) (rows : List (ℕ × Handle)) (index : IndexedHandles) → number < 2 ^ 32 → AreIndexed rows index
+    → option_map (λ (e : ℕ × ℕ). e.1) (slice_get (entries_of index.calls (key_of client number)) 0) ≡ number_of (is_opened_by client number) rows
+opened-first client number rows index fits is =
+    sym (index-first call_key rows index.calls (key_of client number) is.calls)
+    ∙ ap (option_map (λ (row : ℕ × Handle). row.0)) (find-alike (λ (row : ℕ × Handle). call_key row.1 == key_of client number) (λ row. is_opened_by client number row.1) rows
+    (λ i d within. key-is client number (get_or rows i d).1 fits (is.fit i d within)))
+
 -- ---- the next handle
 
 module _ (client : ℕ) (rows : List (ℕ × Handle)) where
-  -- the handle is the client's, and a call of this number opened it
-  abbrev pub is_here : ℕ → ℕ × Handle → Bool
-  is_here k row = row.1.number == k && row.1.client == client
-
   abbrev pub some_below : ℕ → ℕ → Bool
   some_below after number = has_row (λ other. is_after client after other && nat_lt other.number number) rows
 
   abbrev pub is_next : ℕ → ℕ × Handle → Bool
   is_next after row = is_after client after row.1 && not (some_below after row.1.number)
 
-  not-after : (after : ℕ) (h : Handle) → h.number ≤ after → is_after client after h ≡ false
-  not-after after h low = and_right (h.client == client) (nat_lt after h.number) (le-ltb after h.number low)
-
-  -- none is next where no number is above
-  pub next-none : (below : ℕ) → All (λ row. row.1.number ≤ below) rows → next_of rows client below ≡ None
-  next-none below low = ap (option_map (λ (row : ℕ × Handle). row.0)) (find-fails (is_next below) rows (λ i d within.
+  -- none is next where none is after
+  next-none : (below : ℕ) → All (λ row. is_after client below row.1 ≡ false) rows → next_of rows client below ≡ None
+  next-none below none = ap (option_map (λ (row : ℕ × Handle). row.0)) (find-fails (is_next below) rows (λ i d within.
       let row : ℕ × Handle = get_or rows i d in
-      and_left (is_after client below row.1) (not (some_below below row.1.number)) (not-after below row.1 (low i d within))))
+      and_left (is_after client below row.1) (not (some_below below row.1.number)) (none i d within)))
 
-  module _ (below k : ℕ) (above : below < k) (between : All (λ row. (row.1.number ≤ below) ⊎ (k ≤ row.1.number)) rows) where
-    -- where the least number above isn't this client's, it can be passed
-    module _ (none : All (λ row. is_here k row ≡ false) rows) where
-      after-passed : All (λ row. is_after client k row.1 ≡ is_after client below row.1) rows
-      after-passed i d within =
-          let row : ℕ × Handle = get_or rows i d in
-          let h : Handle = row.1 in
-          elim (between i d within) [
-            | inl low ↦ not-after k h (omega arith) ∙ sym (not-after below h low)
-            | inr high ↦ elim (cases_Bool (h.number == k)) [
-              | inl here ↦ (
-                  let same : h.number ≡ k = eqb-true h.number k here in
-                  let other : (h.client == client) ≡ false = rw here at (none i d within) in
-                  and_left (h.client == client) (nat_lt k h.number) other ∙ sym (and_left (h.client == client) (nat_lt below h.number) other))
-              | inr apart ↦ (
-                  let more : k < h.number = above-of h.number k high apart in
-                  let one : nat_lt k h.number ≡ true = lt-ltb k h.number more in
-                  let two : nat_lt below h.number ≡ true = lt-ltb below h.number (omega arith) in
-                  ap (λ (b : Bool). h.client == client && b) (one ∙ sym two))
-            ]
-          ]
+  -- and else the first of those of the least number
+  module _ (below k : ℕ) (above : below < k) (between : All (λ row. (is_after client below row.1 ≡ false) ⊎ (k ≤ row.1.number)) rows)
+      (some : list_any (λ (row : ℕ × Handle). is_opened_by client k row.1) rows ≡ true) where
+    after-here : (h : Handle) → is_opened_by client k h ≡ true → (h.number ≡ k) × (is_after client below h ≡ true)
+    after-here h is =
+        let parts = and_parts (h.client == client) (h.number == k) is in
+        let same : h.number ≡ k = eqb-true h.number k parts.1 in
+        (same, and_from (h.client == client) (nat_lt below h.number) parts.0 (lt-ltb below h.number (omega arith)))
 
-      some-passed : (number : ℕ) → some_below k number ≡ some_below below number
-      some-passed number =
-          any-alike (λ (row : ℕ × Handle). is_after client k row.1 && nat_lt row.1.number number) (λ row. is_after client below row.1 && nat_lt row.1.number number) rows
-          (λ i d within. ap (λ (b : Bool). b && nat_lt (get_or rows i d).1.number number) (after-passed i d within))
+    some-under : (number : ℕ) → k < number → some_below below number ≡ true
+    some-under number more = any-weaker (λ (row : ℕ × Handle). is_opened_by client k row.1) (λ row. is_after client below row.1 && nat_lt row.1.number number) rows (λ row is.
+        let here = after-here row.1 is in
+        let same : row.1.number ≡ k = here.0 in
+        and_from (is_after client below row.1) (nat_lt row.1.number number) here.1 (lt-ltb row.1.number number (omega arith))) some
 
-      pub next-passed : next_of rows client k ≡ next_of rows client below
-      next-passed = ap (option_map (λ (row : ℕ × Handle). row.0)) (find-alike (is_next k) (is_next below) rows (λ i d within.
-          let row : ℕ × Handle = get_or rows i d in
-          ap (λ (b : Bool). b && not (some_below k row.1.number)) (after-passed i d within)
-          ∙ ap (λ (b : Bool). is_after client below row.1 && not b) (some-passed row.1.number)))
+    none-under : some_below below k ≡ false
+    none-under = list_any_none (λ (row : ℕ × Handle). is_after client below row.1 && nat_lt row.1.number k) rows (λ i d within.
+        let h : Handle = (get_or rows i d).1 in
+        elim (between i d within) [
+          | inl low ↦ and_left (is_after client below h) (nat_lt h.number k) low
+          | inr high ↦ and_right (is_after client below h) (nat_lt h.number k) (le-ltb h.number k high)
+        ])
 
-    -- and where some is, the first of these is the next
-    module _ (some : list_any (is_here k) rows ≡ true) where
-      some-under : (number : ℕ) → k < number → some_below below number ≡ true
-      some-under number more = any-weaker (is_here k) (λ row. is_after client below row.1 && nat_lt row.1.number number) rows (λ row is.
-          let parts = and_parts (row.1.number == k) (row.1.client == client) is in
-          let same : row.1.number ≡ k = eqb-true row.1.number k parts.0 in
-          let one : nat_lt below row.1.number ≡ true = lt-ltb below row.1.number (omega arith) in
-          let two : nat_lt row.1.number number ≡ true = lt-ltb row.1.number number (omega arith) in
-          and_from (is_after client below row.1) (nat_lt row.1.number number) (and_from (row.1.client == client) (nat_lt below row.1.number) parts.1 one) two) some
-
-      none-under : some_below below k ≡ false
-      none-under = list_any_none (λ (row : ℕ × Handle). is_after client below row.1 && nat_lt row.1.number k) rows (λ i d within.
-          let h : Handle = (get_or rows i d).1 in
-          elim (between i d within) [
-            | inl low ↦ and_left (is_after client below h) (nat_lt h.number k) (not-after below h low)
-            | inr high ↦ and_right (is_after client below h) (nat_lt h.number k) (le-ltb h.number k high)
-          ])
-
-      next-is : All (λ row. is_here k row ≡ is_next below row) rows
-      next-is i d within =
-          let row : ℕ × Handle = get_or rows i d in
-          let h : Handle = row.1 in
-          elim (between i d within) [
-            | inl low ↦ (
-                let apart : (h.number == k) ≡ false = ne_eqb h.number k (λ same. absurd (omega (arith, same))) in
-                and_left (h.number == k) (h.client == client) apart ∙ sym (and_left (is_after client below h) (not (some_below below h.number)) (not-after below h low)))
-            | inr high ↦ elim (cases_Bool (h.number == k)) [
-              | inl here ↦ (
-                  let same : h.number ≡ k = eqb-true h.number k here in
-                  let one : nat_lt below h.number ≡ true = lt-ltb below h.number (omega arith) in
-                  let none : some_below below h.number ≡ false = ap (some_below below) same ∙ none-under in
-                  elim (cases_Bool (h.client == client)) [
-                    | inl own ↦ rw (here, own, one, none) refl
-                    | inr other ↦ rw (here, other) refl
-                  ])
-              | inr apart ↦ (
+    next-is : All (λ row. is_opened_by client k row.1 ≡ is_next below row) rows
+    next-is i d within =
+        let row : ℕ × Handle = get_or rows i d in
+        let h : Handle = row.1 in
+        elim (cases_Bool (is_opened_by client k h)) [
+          | inl here ↦ (
+              let is = after-here h here in
+              let none : some_below below h.number ≡ false = ap (some_below below) is.0 ∙ none-under in
+              here ∙ sym (and_from (is_after client below h) (not (some_below below h.number)) is.1 (ap not none)))
+          | inr other ↦ other ∙ sym (elim (between i d within) [
+            | inl low ↦ and_left (is_after client below h) (not (some_below below h.number)) low
+            | inr high ↦ elim (cases_Bool (h.client == client)) [
+              | inl own ↦ (
+                  let apart : (h.number == k) ≡ false = rw own at other in
                   let under : some_below below h.number ≡ true = some-under h.number (above-of h.number k high apart) in
-                  rw apart (sym (and_right (is_after client below h) (not (some_below below h.number)) (rw under refl))))
+                  and_right (is_after client below h) (not (some_below below h.number)) (ap not under))
+              | inr not_own ↦ and_left (is_after client below h) (not (some_below below h.number)) (and_left (h.client == client) (nat_lt below h.number) not_own)
             ]
-          ]
+          ])
+        ]
 
-      pub next-found : number_of (λ (h : Handle). h.number == k && h.client == client) rows ≡ next_of rows client below
-      next-found = ap (option_map (λ (row : ℕ × Handle). row.0)) (find-alike (is_here k) (is_next below) rows next-is)
+    next-found : number_of (is_opened_by client k) rows ≡ next_of rows client below
+    next-found = ap (option_map (λ (row : ℕ × Handle). row.0)) (find-alike (λ (row : ℕ × Handle). is_opened_by client k row.1) (is_next below) rows next-is)
 
--- what the entries of the first key tell
-module _ (client below k : ℕ) (rows : List (ℕ × Handle)) (last : ℕ) (entries : List (ℕ × ℕ)) (numbered : IsNumbered rows last) (index : IsIndexOf call_key rows entries)
-    (rising : IsNonDecreasingBy (λ (x : ℕ × ℕ). x.0) entries) where
-  abbrev pub of_client : ℕ × Handle → Bool
-  of_client row = row.1.client == client
+-- what the first entry of a greater key tells
+module _ (client below : ℕ) (rows : List (ℕ × Handle)) (index : IndexedHandles) (fits : below < 2 ^ 32) (is : AreIndexed rows index)
+    (rising : IsNonDecreasingBy (λ (x : ℕ × ℕ). x.0) index.calls) where
+  not-after : (h : Handle) → call_key h ≤ key_of client below → is_after client below h ≡ false
+  not-after h low = elim (cases_Bool (h.client == client)) [
+    | inl own ↦ (
+        let same : h.client ≡ client = eqb-true h.client client own in
+        and_right (h.client == client) (nat_lt below h.number) (le-ltb below h.number (omega (arith, same))))
+    | inr other ↦ and_left (h.client == client) (nat_lt below h.number) other
+  ]
 
-  pub next-past : option_map (λ (e : ℕ × ℕ). e.0) (find (is_key_after below) entries) ≡ None → next_of rows client below ≡ None
-  next-past none = next-none client rows below (rows-below call_key rows entries index below (option_map-none (λ (e : ℕ × ℕ). e.0) (find (is_key_after below) entries) none))
+  -- all handles of a client have keys up to its last one
+  other-client : (h : Handle) → FitsKey h → key_of client (2 ^ 32 - 1) < call_key h → is_after client below h ≡ false
+  other-client h fit more = elim (cases_Bool (h.client == client)) [
+    | inl own ↦ (
+        let same : h.client ≡ client = eqb-true h.client client own in
+        let small : h.number < 2 ^ 32 = fit.1 in
+        absurd (omega (arith, same, small)))
+    | inr other ↦ and_left (h.client == client) (nat_lt below h.number) other
+  ]
 
-  module _ (first : option_map (λ (e : ℕ × ℕ). e.0) (find (is_key_after below) entries) ≡ Some k) where
-    first-above : (below < k) × All (λ (row : ℕ × Handle). (row.1.number ≤ below) ⊎ (k ≤ row.1.number)) rows
-    first-above = elim (option_cases (find (is_key_after below) entries)) [
-      | inl none ↦ (let impossible : None ≡ Some k = rw none at first in cc)
-      | inr e ↦ (
-          let is : Some e.0.0 ≡ Some k = rw e.1 at first in
-          let same : e.0.0 ≡ k = cc in
-          rw (← same) (ltb-true below e.0.0 (find-passes (is_key_after below) entries e.0 e.1), rows-between call_key rows entries index below e.0 rising e.1))
-    ]
+  pub next-past : find (is_key_after (key_of client below)) index.calls ≡ None → None ≡ next_of rows client below
+  next-past none =
+      sym (next-none client rows below (λ i d within. not-after (get_or rows i d).1 (rows-below call_key rows index.calls is.calls (key_of client below) none i d within)))
 
-    pub first-key : below < k
-    first-key = first-above.0
+  module _ (e : ℕ × ℕ) (first : find (is_key_after (key_of client below)) index.calls ≡ Some e) where
+    between : All (λ (row : ℕ × Handle). (call_key row.1 ≤ key_of client below) ⊎ (e.0 ≤ call_key row.1)) rows
+    between = rows-between call_key rows index.calls is.calls (key_of client below) e rising first
 
-    pub next-later : option_map (λ (e : ℕ × ℕ). e.1) (find (row_passes rows of_client) (entries_of entries k)) ≡ None → next_of rows client k ≡ next_of rows client below
-    next-later none =
-        next-passed client rows below k first-above.0 first-above.1
-        (number_of-none (λ (h : Handle). h.number == k && h.client == client) rows (index-found call_key rows last entries k of_client numbered index ∙ none))
+    pub next-other : key_of client (2 ^ 32 - 1) < e.0 → None ≡ next_of rows client below
+    next-other more = sym (next-none client rows below (λ i d within. elim (between i d within) [
+      | inl low ↦ not-after (get_or rows i d).1 low
+      | inr high ↦ other-client (get_or rows i d).1 (is.fit i d within) (omega arith)
+    ]))
 
-    pub next-first : (id : ℕ) → option_map (λ (e : ℕ × ℕ). e.1) (find (row_passes rows of_client) (entries_of entries k)) ≡ Some id → Some id ≡ next_of rows client below
-    next-first id found =
-        let here : number_of (λ (h : Handle). h.number == k && h.client == client) rows ≡ Some id = index-found call_key rows last entries k of_client numbered index ∙ found in
-        let some : list_any (is_here client rows k) rows ≡ true = any-found (λ (h : Handle). h.number == k && h.client == client) rows id here in
-        sym here ∙ next-found client rows below k first-above.0 first-above.1 some
+    next-at : (k : ℕ) → below < k → k < 2 ^ 32 → e.0 ≡ key_of client k → Some e.1 ≡ next_of rows client below
+    next-at k above fits_too key =
+        let entry : option_map (λ (x : ℕ × ℕ). x.1) (slice_get (entries_of index.calls e.0) 0) ≡ Some e.1
+        = ap (option_map (λ (x : ℕ × ℕ). x.1)) (first-of (has_key e.0) index.calls ∙ first-key (key_of client below) index.calls e (omega arith) first) in
+        let opened : number_of (is_opened_by client k) rows ≡ Some e.1 = sym (opened-first client k rows index fits_too is) ∙ (rw key at entry) in
+        let more : All (λ (row : ℕ × Handle). (is_after client below row.1 ≡ false) ⊎ (k ≤ row.1.number)) rows = λ i d within. at-least k key (get_or rows i d).1 (between i d within) in
+        sym opened ∙ next-found client rows below k above more (any-found (is_opened_by client k) rows e.1 opened)
+      where
+        at-least : (k : ℕ) → e.0 ≡ key_of client k → (h : Handle) → (call_key h ≤ key_of client below) ⊎ (e.0 ≤ call_key h) → (is_after client below h ≡ false) ⊎ (k ≤ h.number)
+        at-least k key h (inl low) = inl (not-after h low)
+        at-least k key h (inr high) = elim (cases_Bool (h.client == client)) [
+          | inl own ↦ (let same : h.client ≡ client = eqb-true h.client client own in inr (omega (arith, same, key)))
+          | inr other ↦ inl (and_left (h.client == client) (nat_lt below h.number) other)
+        ]
+
+    pub next-own : e.0 ≤ key_of client (2 ^ 32 - 1) → Some e.1 ≡ next_of rows client below
+    next-own own =
+        let more : key_of client below < e.0 = ltb-true (key_of client below) e.0 (find-passes (is_key_after (key_of client below)) index.calls e first) in
+        next-at (e.0 - client * 2 ^ 32) (omega arith) (omega arith) (omega arith)

@@ -1,4 +1,5 @@
 pub mod Beginnings
+pub mod CallKey
 pub mod HandleIndex
 pub mod HandleTable
 pub mod LinkTable

@@ -6,57 +6,12 @@ ghost use Rattle.std.specs.Option.{option_map_or};
 ghost use Rattle.fsa_types.specs.Oplocks.{is_same_key};
 ghost use Rattle.fsa_types.specs.Rows.{row_of};
 ghost use Rattle.fsa_types.specs.Sharing.{clash};
-ghost use Rattle.fsa_model.specs.Lookups.{has_row, is_one_of, is_open_on, is_opened_by};
+ghost use Rattle.fsa_model.specs.Lookups.{has_row, is_one_of, is_open_on};
 ghost use Rattle.key_index.specs.RowsByKey.{row_passes};
 
 use fsa_types::HandleSet;
 use object_tables::Table;
-use volume_rows::{HandleRow, LinksByFile, is_clashing, is_one_of, is_opened_by, is_same_key};
-
-// Whether the handle of this number is there, and this call of this client opened it.
-fn opened_at(table: &Table<HandleRow>, id: u64, client: u32, number: u32) -> bool
-    ensures { result ≡ option_map_or (λ row. is_opened_by client number row) (row_of table.now.rows id) false }
-{
-    match table.get(id) {
-        None => false,
-        Some(row) => is_opened_by(client, number, row),
-    }
-}
-
-/// The first of these handles that this call of this client opened.
-pub fn find_opened(
-    table: &Table<HandleRow>,
-    entries: &[(u64, u64)],
-    client: u32,
-    number: u32,
-) -> Option<u64>
-    ensures { result ≡ option_map (λ entry. entry.1) (find (row_passes table.now.rows (λ entry. is_opened_by client number entry.1)) entries.now) }
-{
-    entries
-        .iter()
-        .find(|entry| opened_at(table, entry.1, client, number))
-        .map(|entry| entry.1)
-}
-
-// Whether the handle of this number is there, and this client's.
-fn is_of_client_at(table: &Table<HandleRow>, id: u64, client: u32) -> bool
-    ensures { result ≡ option_map_or (λ row. row.client == client) (row_of table.now.rows id) false }
-{
-    match table.get(id) {
-        None => false,
-        Some(row) => row.client == client,
-    }
-}
-
-/// The first of these handles that is this client's.
-pub fn find_of_client(table: &Table<HandleRow>, entries: &[(u64, u64)], client: u32) -> Option<u64>
-    ensures { result ≡ option_map (λ entry. entry.1) (find (row_passes table.now.rows (λ entry. entry.1.client == client)) entries.now) }
-{
-    entries
-        .iter()
-        .find(|entry| is_of_client_at(table, entry.1, client))
-        .map(|entry| entry.1)
-}
+use volume_rows::{HandleRow, LinksByFile, is_clashing, is_one_of, is_same_key};
 
 // Whether the handle of this number is there, and of the set.
 fn is_one_at(table: &Table<HandleRow>, id: u64, links: &LinksByFile, on: HandleSet) -> bool

@@ -1,20 +1,22 @@
 //! Which handles a call opened, and which are open on a stream or by a link.
 
-ghost use Rattle.std.specs.Prelude.{ℕ, ◌≡◌, ◌≤◌, ◌+◌, ◌++◌, ◌∷◌, [], List, OnOk, Some, find, option_map};
-ghost use Rattle.std.specs.List.Sorted.{IsNonDecreasingBy};
+ghost use Rattle.std.specs.Prelude.{ℕ, ◌≡◌, ◌≤◌, ◌+◌, ◌++◌, ◌∷◌, [], List, OnOk, Some};
 ghost use Rattle.fsa_types.specs.Rows.{row_of, without_row, IsNumbered};
+ghost use Rattle.fsa_model.specs.Lookups.{is_opened_by, number_of};
 ghost use Rattle.fsa_model.specs.Volume.{Handle};
-ghost use Rattle.key_index.specs.Index.{entries_of, is_after};
-ghost use Rattle.volume_tables.specs.HandleIndex.{AreIndexed, stream_key};
+ghost use Rattle.key_index.specs.Index.{entries_of};
+ghost use Rattle.volume_tables.specs.HandleIndex.{AreIndexed, FitsKey, call_key, stream_key};
+ghost use Rattle.volume_tables.specs.HandleTable.{next_of};
 
+use crate::call_key::key_of;
 use fsa_types::NoMemory;
 use key_index::KeyIndex;
 use std::alloc::Global;
 use std::marker::Model;
 use volume_rows::HandleRow;
 
-/// The numbers of handles, each under the number of the call that opened it, under its stream and under its
-/// link, with room for more of them.
+/// The numbers of handles, each under the client and number of the call that opened it, under its stream and under
+/// its link, with room for more of them.
 #[derive(Debug, Drop)]
 pub struct HandleIndex {
     calls: KeyIndex,
@@ -71,7 +73,7 @@ impl HandleIndex {
         ensures handles { (rows : List (ℕ × Handle)) → AreIndexed rows self.old → AreIndexed (rows ++ (id, row.now) ∷ []) self.new }
         ensures left { self.old.room ≡ self.new.room + 1 }
     {
-        self.calls.add(row.number as u64, id);
+        self.calls.add(call_key(row), id);
         self.streams.add(stream_key(row), id);
         self.links.add(row.link, id);
         self.room -= 1;
@@ -82,26 +84,34 @@ impl HandleIndex {
         ensures handles { (rows : List (ℕ × Handle)) (last : ℕ) → IsNumbered rows last → row_of rows id ≡ Some row.now → AreIndexed rows self.old → AreIndexed (without_row rows id) self.new }
         ensures room { self.new.room ≡ self.old.room }
     {
-        self.calls.remove(row.number as u64, id);
+        self.calls.remove(call_key(row), id);
         self.streams.remove(stream_key(row), id);
         self.links.remove(row.link, id);
     }
 
-    /// The handles that calls of this number opened, each with its number as the second.
-    pub fn of_call(&self, number: u64) -> &[(u64, u64)]
-        ensures { result.now ≡ entries_of self.now.calls number }
+    /// The handle that this call of this client opened; `None` exactly where there is none.
+    pub fn opened_by(&self, client: u32, number: u32) -> Option<u64>
+        ensures { (rows : List (ℕ × Handle)) → AreIndexed rows self.now → result ≡ number_of (is_opened_by client number) rows }
     {
-        self.calls.of(number)
+        match self.calls.of(key_of(client, number)).first() {
+            None => None,
+            Some(entry) => Some(entry.1),
+        }
     }
 
-    /// The least number above this one of a call that opened a handle; `None` exactly where there is none.
-    pub fn call_after(&self, number: u64) -> Option<u64>
-        ensures call { result ≡ option_map (λ entry. entry.0) (find (is_after number) self.now.calls) }
-        ensures rising { IsNonDecreasingBy (λ e. e.0) self.now.calls }
+    /// That client's handle of the least number of a call above `after`; `None` exactly where there is none.
+    pub fn next_of(&self, client: u32, after: u32) -> Option<u64>
+        ensures { (rows : List (ℕ × Handle)) → AreIndexed rows self.now → result ≡ next_of rows client after }
     {
-        match self.calls.after(number) {
+        match self.calls.after(key_of(client, after)) {
             None => None,
-            Some(entry) => Some(entry.0),
+            Some((key, id)) => {
+                if key <= key_of(client, u32::MAX) {
+                    Some(id)
+                } else {
+                    None
+                }
+            }
         }
     }
 
@@ -118,6 +128,14 @@ impl HandleIndex {
     {
         self.links.of(link)
     }
+}
+
+// The client and the number of the call that opened a handle, as one number.
+fn call_key(row: &HandleRow) -> u64
+    ensures key { result ≡ call_key row.now }
+    ensures fits { FitsKey row.now }
+{
+    key_of(row.client, row.number)
 }
 
 // The stream of a handle; 0 where it has none.

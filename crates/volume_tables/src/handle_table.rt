@@ -11,16 +11,12 @@ ghost use Rattle.fsa_types.specs.Sharing.{clash};
 ghost use Rattle.fsa_types.specs.Ranges.{without_first};
 ghost use Rattle.object_tables.specs.Next.{IsNext};
 ghost use Rattle.range_locks.specs.RangeTable.{first_id, is_of, is_range};
-ghost use Rattle.key_index.specs.RowsByKey.{IsIndexOf};
-ghost use Rattle.volume_tables.specs.HandleIndex.{AreIndexed, call_key};
+ghost use Rattle.volume_tables.specs.HandleIndex.{AreIndexed};
 ghost use Rattle.volume_tables.specs.HandleTable.{next_of, stream_of_handle, ranges_on};
 ghost use Rattle.volume_tables.specs.Ranges.{ranges_in, room_at, AreSetIn};
 ghost use Rattle.volume_tables.specs.Rooms.{room_in};
 
-use crate::among::{
-    count_all, count_among, find_of_client, find_opened, some_clash, some_clash_among,
-    some_other_among,
-};
+use crate::among::{count_all, count_among, some_clash, some_clash_among, some_other_among};
 use crate::handle_index::HandleIndex;
 use crate::lock_row::LockRow;
 use crate::ranges::StreamRanges;
@@ -140,26 +136,20 @@ impl HandleTable {
         id
     }
 
-    /// The handle that this call of this client opened; `None` exactly where there is none. It looks at those
-    /// alone that calls of this number opened.
+    /// The handle that this call of this client opened; `None` exactly where there is none. It takes time logarithmic
+    /// in the handles.
     pub fn opened_by(&self, client: u32, number: u32) -> Option<u64>
         ensures { result ≡ number_of (is_opened_by client number) self.now.rows }
     {
-        let _numbered = self.table.len();
-        find_opened(
-            &self.table,
-            self.index.of_call(number as u64),
-            client,
-            number,
-        )
+        self.index.opened_by(client, number)
     }
 
-    /// That client's handle of the least number of a call above `after`; `None` exactly where there is none. It looks
-    /// at those alone that calls of the numbers up to it opened.
+    /// That client's handle of the least number of a call above `after`; `None` exactly where there is none. It takes
+    /// time logarithmic in the handles.
     pub fn next_of(&self, client: u32, after: u32) -> Option<u64>
         ensures { result ≡ next_of self.now.rows client after }
     {
-        next_in(&self.table, &self.index, client, after)
+        self.index.next_of(client, after)
     }
 
     /// How many handles are of the set. Of those on a stream or by a link it looks at these alone.
@@ -299,22 +289,6 @@ impl HandleTable {
         let _ = self.locks.remove(id);
         Some(id)
     }
-}
-
-// The client's handle of the least number of a call above `after`, by the numbers of calls that opened handles.
-fn next_in(table: &Table<HandleRow>, index: &HandleIndex, client: u32, after: u32) -> Option<u64>
-    requires { IsIndexOf call_key table.now.rows index.now.calls }
-    ensures { result ≡ next_of table.now.rows client after }
-{
-    let _numbered = table.len();
-    let mut below = after as u64;
-    'calls: while let Some(number) = index.call_after(below) {
-        if let Some(id) = find_of_client(table, index.of_call(number), client) {
-            return Some(id);
-        }
-        below = number;
-    }
-    None
 }
 
 // The stream of a handle, where it has one.

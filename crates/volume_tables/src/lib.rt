@@ -10,8 +10,8 @@
 //! handles.reserve_locks(handle, 1)?;
 //! let lock = handles.add_lock(handle, at, count, true);
 //! handles.locks_of(stream);               // the ranges of one stream, in the order in which they were granted
-//! handles.opened_by(client, number);      // looks at those alone that calls of this number opened
-//! handles.next_of(client, after);         // goes up by these numbers
+//! handles.opened_by(client, number);      // by binary search
+//! handles.next_of(client, after);         // so is this
 //! handles.some_clashes(links, on, access, share);     // at those alone on a stream, or by a link
 //! handles.remove(handle);                 // with its locks
 //!
@@ -45,14 +45,17 @@
 //!   what goes was charged for, and that sums fit 64 bits.
 //! - Removing takes no memory, and leaves what was promised as it was.
 //! - Each call takes time linear in the rows or locks that it goes over, and one of locks in the streams to
-//!   which room for them was ever promised; one of a tally, time logarithmic in the owners, and linear where
-//!   one is admitted. What was promised is found in time logarithmic in the directories or streams that have
+//!   which room for them was ever promised. The handle of a call, and a client's next handle, are found in time
+//!   logarithmic in the handles; to take one out moves only what the table and the indexes keep of those behind it,
+//!   16 bytes each. A call of a tally takes time logarithmic in the owners, and linear where one is
+//!   admitted. What was promised is found in time logarithmic in the directories or streams that have
 //!   room; where one comes to have some or has none left, the others behind it are moved. A stream's table
 //!   stays once it has been made, and so does an owner.
 #![tactic(auto)]
 
 mod among;
 mod beginning;
+mod call_key;
 mod handle_index;
 mod handle_table;
 mod link_table;
@@ -63,6 +66,7 @@ mod room_list;
 mod space;
 mod stream_table;
 
+pub use call_key::key_of;
 pub use handle_table::HandleTable;
 pub use link_table::LinkTable;
 pub use lock_row::LockRow;

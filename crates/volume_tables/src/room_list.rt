@@ -13,7 +13,7 @@ use std::marker::Model;
 /// where one comes or goes, those behind it are moved.
 #[derive(Debug, Drop)]
 pub struct RoomList {
-    // Those with room, by rising id, each with how much; and all of it.
+    // Those with room, by rising number, each with how much; and all of it.
     rooms: Vec<(u64, usize)>,
     all: usize,
 }

@@ -1,7 +1,8 @@
 use Rattle.std.proofs.Common.{◌∙◌, sym}
 use Rattle.fsa_model.specs.Edits.{is_call}
 use Rattle.volume_tables.proofs.IndexLaws.{number-by_key}
-use Rattle.volume_breaks.specs.CallIndex.{key_of, row_call_key}
+use Rattle.volume_tables.specs.CallKey.{key_of}
+use Rattle.volume_breaks.specs.CallIndex.{row_call_key}
 use Rattle.volume_breaks.proofs.TurnLemmas.{IsNumbered-rise, call-only, sum_of}
 use Rattle.volume_breaks.proofs.pending_calls.PendingCalls.find_turn.Goals as goal
 

@@ -2,7 +2,8 @@ use Rattle.std.proofs.Common.{◌∙◌, ℕ, ap, sym}
 use Rattle.std.specs.Prelude.{option_map}
 use Rattle.fsa_model.specs.Volume.{Pending}
 use Rattle.volume_tables.proofs.IndexLaws.{number-by_key}
-use Rattle.volume_breaks.specs.CallIndex.{is_naming, key_of, row_handle_key}
+use Rattle.volume_tables.specs.CallKey.{key_of}
+use Rattle.volume_breaks.specs.CallIndex.{is_naming, row_handle_key}
 use Rattle.volume_breaks.proofs.TurnLemmas.{IsNumbered-rise, first-rising, naming-only, sum_of}
 use Rattle.volume_breaks.proofs.pending_calls.PendingCalls.first_naming.Goals as goal
 

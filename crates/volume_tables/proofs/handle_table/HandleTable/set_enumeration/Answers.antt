@@ -10,6 +10,6 @@ invariant_of-self c =
     let change = λ (row : Handle). record row { enumeration = Some c.args.enumeration } in (
       rw c.set_enumeration.ensures.rows (AreTabled-changed change i.table.rows i.locks.rows i.ranges c.args.id (λ row. refl) c.self.invariant.0),
       c.self.invariant.1,
-      rw c.set_enumeration.ensures.rows (AreIndexed-changed change i.table.rows c.args.id i.index (λ row. refl) (λ row. refl) (λ row. refl) c.self.invariant.2),
+      rw c.set_enumeration.ensures.rows (AreIndexed-changed change i.table.rows c.args.id i.index (λ row. refl) (λ row. refl) (λ row. refl) (λ row. refl) c.self.invariant.2),
       rw c.set_enumeration.ensures.room c.self.invariant.3,
     )
