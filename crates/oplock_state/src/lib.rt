@@ -29,7 +29,7 @@
 //! - Only `reserve` takes memory. A grant takes room for one oplock, and with it for all that a break of it puts
 //!   by; room stays as oplocks go.
 //! - It asks that numbers rise: `first` is above all numbers of breaks that were given here.
-//! - Each call takes time linear in the oplocks, and `begin` time square in those that it breaks.
+//! - Each call takes time linear in the oplocks, and `begin` as much for each one that it breaks.
 #![tactic(auto)]
 
 mod homes;
