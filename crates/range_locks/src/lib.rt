@@ -14,16 +14,21 @@
 //! held many times, under one number too. It doesn't refuse a range that conflicts; that is for its
 //! caller.
 //!
-//! **Cost.** Beside the list a table has its ranges once more, in the order of their places. As long as each range
-//! has a greater number than those before it, a question looks only at the ranges near the wanted one: at those
-//! that begin before its end, and no further before its place than the longest range is long that was put in since
-//! the table was last empty. These are found by halves. Where they are more than a quarter of all, or numbers don't
-//! rise, a question goes over the list: `conflict` up to the first that conflicts, `blockers` once over all, and
-//! once more up to the last that conflicts. `blockers` goes once over those that are near for each number that it
-//! lists, as long as these looks are no more than there are ranges, and else over the list. `insert` and `remove`
-//! move the ranges behind, and `remove` looks only at those of its place; `remove_any_of` goes up to the first of
-//! its handle, and `remove_all_of` goes over all, and moves nothing where there is none. `insert` takes memory only
-//! where no room was reserved; `blockers` takes memory for what it lists; nothing else takes any.
+//! **Cost.** Beside the list a table has its ranges once more, in the order of their places. As long as each range that
+//! was ever put in had a greater number than the last one that was there, and those near the wanted range are no more
+//! than a quarter of all, a question looks at those near alone, and `conflict` at all of them: those that begin before
+//! its end, and no further before its place than the longest range is long that was put in since the table was last
+//! empty. Where they stand is found by binary search. `blockers` goes over them once, and once more for each number that
+//! it lists if that is no more looks than there are ranges, else over the list up to the last that conflicts. Where a
+//! question doesn't go by those near it goes over the list: `conflict` up to the first that conflicts, `blockers` once
+//! over all, and once more up to the last that conflicts.
+//!
+//! `insert` and `remove` find the place by binary search; `remove` then looks at the ranges that begin there, and finds
+//! the range in the list by its number as long as numbers rose so, and else by a look at each up to it. What is put in
+//! or taken out moves the ranges before it or those behind it, whichever are fewer; where there is no room behind them,
+//! all move. `remove_any_of` first goes up to the first range of its handle. `remove_all_of` goes over all, and where
+//! the handle has one moves what stands behind. `insert` needs memory only where there is no room; `blockers` takes some
+//! for what it lists; nothing else but `reserve` takes any.
 #![tactic(auto)]
 
 mod places;

@@ -1,22 +1,22 @@
 //! The ranges of one stream in the order of their places.
 
-ghost use Rattle.std.specs.Prelude.{ℕ, Bool, List, ◌≡◌, ◌≤◌, ◌<◌, ◌+◌, ◌++◌, ◌∷◌, [], ◌-◌, true, not, All, OnOk, IsOk, filter, find, length, position};
+ghost use Rattle.std.specs.Prelude.{ℕ, Bool, List, ◌≡◌, ◌≤◌, ◌<◌, ◌+◌, ◌++◌, ◌∷◌, [], true, not, All, OnOk, IsOk, filter, find, length, position};
 ghost use Rattle.std.specs.List.{AllWithin};
 ghost use Rattle.std.specs.List.Sorted.{IsNonDecreasingBy, IsPartitionPoint};
-ghost use Rattle.std.specs.Vec.{vec_capacity, vec_len};
 ghost use Rattle.fsa_types.specs.Ranges.{meets, without_first};
 ghost use Rattle.range_locks.specs.RangeTable.{AreSameByPlace, is_of, is_range, lock_of};
 ghost use Rattle.range_locks.specs.declared.range.Range.{Range};
 
 use crate::range::Range;
 use fsa_types::NoMemory;
+use object_tables::ShiftList;
 use std::alloc::Global;
 use std::marker::Model;
 
 /// Ranges in the order of their places. Those of one place stand in the order in which they were added.
 #[derive(Debug, Drop)]
 pub(crate) struct RangesByPlace {
-    ranges: Vec<Range>,
+    ranges: ShiftList<Range>,
     // No range has more bytes.
     longest: u64,
 }
@@ -24,12 +24,11 @@ pub(crate) struct RangesByPlace {
 impl Model for RangesByPlace {
     ghost use Rattle.range_locks.specs.RangeTable.{Ranges};
     ghost use Rattle.std.specs.List.Sorted.{IsNonDecreasingBy};
-    ghost use Rattle.std.specs.Prelude.{◌-◌, ◌≤◌, All};
-    ghost use Rattle.std.specs.Vec.{vec_capacity, vec_len};
+    ghost use Rattle.std.specs.Prelude.{◌≤◌, All};
 
     ghost Value = { Ranges };
 
-    ghost view = { λ p. record { ranges = p.ranges.items; room = vec_capacity p.ranges - vec_len p.ranges } };
+    ghost view = { λ p. record { ranges = p.ranges.items; room = p.ranges.room } };
 
     ghost invariant = { λ p. IsNonDecreasingBy (λ range. range.at) p.ranges.items × All (λ range. range.count ≤ p.longest) p.ranges.items };
 }
@@ -40,7 +39,7 @@ impl RangesByPlace {
         ensures { result.ranges ≡ [] }
     {
         RangesByPlace {
-            ranges: Vec::new(alloc),
+            ranges: ShiftList::new(alloc),
             longest: 0,
         }
     }
@@ -62,18 +61,16 @@ impl RangesByPlace {
         ensures added { AreSameByPlace self.new.ranges (self.old.ranges ++ range ∷ []) }
         ensures left { self.old.room ≤ self.new.room + 1 }
     {
-        self.longest = longest_with(&self.ranges, self.longest, range.count);
-        let place = end_of(&self.ranges, range.at);
-        let Ok(()) = self.ranges.insert(place, range) else {
-            unreachable!()
-        };
+        self.longest = longest_with(self.ranges.as_slice(), self.longest, range.count);
+        let place = end_of(self.ranges.as_slice(), range.at);
+        self.ranges.insert(place, range);
     }
 
     /// The ranges among which are all that overlap with this one, in order.
     pub(crate) fn near(&self, at: u64, count: u64) -> &[Range]
         ensures { (test : Range → Bool) → ((range : Range) → test range ≡ true → meets at count (lock_of range) ≡ true) → filter test result.now ≡ filter test self.now.ranges }
     {
-        near(&self.ranges, self.longest, at, count)
+        near(self.ranges.as_slice(), self.longest, at, count)
     }
 
     /// Takes the first range of this handle with exactly this place and count out, and gives it; `None`
@@ -83,7 +80,7 @@ impl RangesByPlace {
         ensures ranges { self.new.ranges ≡ without_first (is_range handle at count) self.old.ranges }
         ensures room { self.old.room ≤ self.new.room }
     {
-        match place_of(&self.ranges, handle, at, count) {
+        match place_of(self.ranges.as_slice(), handle, at, count) {
             None => None,
             Some(place) => Some(self.ranges.remove(place)),
         }
@@ -99,10 +96,9 @@ impl RangesByPlace {
 }
 
 /// Takes all ranges of this handle out.
-pub(crate) fn remove_all_of(ranges: &mut Vec<Range>, handle: u64)
+pub(crate) fn remove_all_of(ranges: &mut ShiftList<Range>, handle: u64)
     ensures ranges { ranges.new.items ≡ filter (λ range. not (is_of handle range)) ranges.old.items }
-    ensures few { length ranges.new.items ≤ length ranges.old.items }
-    ensures room { vec_capacity ranges.new ≡ vec_capacity ranges.old }
+    ensures room { ranges.old.room ≤ ranges.new.room }
 {
     ranges.retain(|range| range.handle != handle);
 }

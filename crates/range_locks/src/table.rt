@@ -3,7 +3,6 @@
 ghost use Rattle.std.specs.Prelude.{◌≡◌, ◌==◌, ◌≤◌, ◌<◌, ◌+◌, ◌-◌, ◌++◌, ◌∷◌, ◌&&◌, [], List, Some, None, true, if◌then◌else◌, not, filter, find, length, count_by, position, slice_index_or, IfOk, IsOk, OnOk, OnErr};
 ghost use Rattle.std.specs.List.{list_any};
 ghost use Rattle.std.specs.List.Sorted.{IsPartitionPoint};
-ghost use Rattle.std.specs.Vec.{vec_capacity, vec_len};
 ghost use Rattle.fsa_types.specs.Ranges.{without_first};
 ghost use Rattle.fsa_types.specs.BoundedList.{full};
 ghost use Rattle.range_locks.specs.RangeTable.{AreNumbered, AreSameByPlace, conflicts, is_range, is_of, is_behind, lesser, least_from, first_id, blockers_of};
@@ -12,13 +11,14 @@ ghost use Rattle.range_locks.specs.declared.range.Range.{Range};
 use crate::places::{RangesByPlace, place_in, remove_all_of};
 use crate::range::{Range, Want};
 use fsa_types::{Blocker, BlockerList, NoMemory};
+use object_tables::ShiftList;
 use std::alloc::Global;
 use std::marker::Model;
 
 /// The ranges of one stream that are held, in order of insertion.
 #[derive(Debug, Drop)]
 pub struct RangeTable {
-    ranges: Vec<Range>,
+    ranges: ShiftList<Range>,
     // The same ranges in the order of their places.
     by_place: RangesByPlace,
     // Each range was put in behind lesser numbers, so that their numbers tell their order.
@@ -27,12 +27,11 @@ pub struct RangeTable {
 
 impl Model for RangeTable {
     ghost use Rattle.range_locks.specs.RangeTable.{AreNumbered, AreSameByPlace, Ranges};
-    ghost use Rattle.std.specs.Prelude.{◌-◌, ◌≡◌, min, true};
-    ghost use Rattle.std.specs.Vec.{vec_capacity, vec_len};
+    ghost use Rattle.std.specs.Prelude.{◌≡◌, min, true};
 
     ghost Value = { Ranges };
 
-    ghost view = { λ t. record { ranges = t.ranges.items; room = min (vec_capacity t.ranges - vec_len t.ranges) t.by_place.room } };
+    ghost view = { λ t. record { ranges = t.ranges.items; room = min t.ranges.room t.by_place.room } };
 
     ghost invariant = { λ t. AreSameByPlace t.by_place.ranges t.ranges.items × (t.rising ≡ true → AreNumbered t.ranges.items) };
 }
@@ -43,7 +42,7 @@ impl RangeTable {
         ensures { result.ranges ≡ [] }
     {
         RangeTable {
-            ranges: Vec::new(alloc),
+            ranges: ShiftList::new(alloc),
             by_place: RangesByPlace::new(alloc),
             rising: true,
         }
@@ -60,7 +59,7 @@ impl RangeTable {
     pub fn is_empty(&self) -> bool
         ensures { result ≡ (length self.now.ranges == 0) }
     {
-        self.ranges.is_empty()
+        self.ranges.len() == 0
     }
 
     /// The number of the first range that conflicts with what this handle wants; `None` exactly
@@ -72,7 +71,7 @@ impl RangeTable {
         if goes_by_place(self.rising, near.len(), self.ranges.len()) {
             least_behind(near, want, handle, at, count, None)
         } else {
-            first_of(&self.ranges, want, handle, at, count)
+            first_of(self.ranges.as_slice(), want, handle, at, count)
         }
     }
 
@@ -90,9 +89,9 @@ impl RangeTable {
     {
         let near = self.by_place.near(at, count);
         if goes_by_place(self.rising, near.len(), self.ranges.len()) {
-            listed_near(alloc, &self.ranges, near, want, handle, at, count)
+            listed_near(alloc, self.ranges.as_slice(), near, want, handle, at, count)
         } else {
-            listed(alloc, &self.ranges, want, handle, at, count)
+            listed(alloc, self.ranges.as_slice(), want, handle, at, count)
         }
     }
 
@@ -107,7 +106,7 @@ impl RangeTable {
         Ok(())
     }
 
-    /// Puts a range at the end. It takes memory only where there is no spare room. Nothing has
+    /// Puts a range at the end. It needs memory only where there is no spare room. Nothing has
     /// changed after `NoMemory`.
     pub fn insert(&mut self, range: Range) -> Result<(), NoMemory>
         ensures ok { OnOk result (self.new.ranges ≡ self.old.ranges ++ range ∷ []) }
@@ -116,8 +115,9 @@ impl RangeTable {
         ensures left { self.old.room ≤ self.new.room + 1 }
     {
         self.by_place.reserve(1)?;
-        let rising = stays_rising(&self.ranges, range.id, self.rising);
-        self.ranges.push(range)?;
+        self.ranges.reserve(1)?;
+        let rising = stays_rising(self.ranges.as_slice(), range.id, self.rising);
+        self.ranges.push(range);
         self.by_place.add(range);
         self.rising = rising;
         Ok(())
@@ -147,7 +147,7 @@ impl RangeTable {
         ensures ranges { self.new.ranges ≡ without_first (is_of handle) self.old.ranges }
         ensures room { self.old.room ≤ self.new.room }
     {
-        match first_of_handle(&self.ranges, handle) {
+        match first_of_handle(self.ranges.as_slice(), handle) {
             None => None,
             Some(range) => self.remove(range.handle, range.at, range.count),
         }
@@ -159,7 +159,7 @@ impl RangeTable {
         ensures ranges { self.new.ranges ≡ filter (λ range. not (is_of handle range)) self.old.ranges }
         ensures room { self.old.room ≤ self.new.room }
     {
-        if has_any_of(&self.ranges, handle) {
+        if has_any_of(self.ranges.as_slice(), handle) {
             remove_all_of(&mut self.ranges, handle);
             self.by_place.remove_all_of(handle);
         }
@@ -352,13 +352,13 @@ fn listed_all(
 }
 
 // Takes the first range of this handle with exactly this place and count out, which has this number.
-fn remove(ranges: &mut Vec<Range>, handle: u64, at: u64, count: u64, id: u64, rising: bool)
+fn remove(ranges: &mut ShiftList<Range>, handle: u64, at: u64, count: u64, id: u64, rising: bool)
     requires numbered { rising ≡ true → AreNumbered ranges.old.items }
     requires first { first_id (is_range handle at count) ranges.old.items ≡ Some id }
     ensures ranges { ranges.new.items ≡ without_first (is_range handle at count) ranges.old.items }
-    ensures room { vec_capacity ranges.old - vec_len ranges.old ≤ vec_capacity ranges.new - vec_len ranges.new }
+    ensures room { ranges.old.room ≤ ranges.new.room }
 {
-    let place = place_of(ranges, handle, at, count, id, rising);
+    let place = place_of(ranges.as_slice(), handle, at, count, id, rising);
     let _ = ranges.remove(place);
 }
 

@@ -4,4 +4,4 @@ use Rattle.range_locks.specs.RangeTable.{is_of}
 use Rattle.range_locks.proofs.places.remove_all_of.Goals as goal
 
 pub returns-clause-ranges : goal.returns-clause-ranges
-returns-clause-ranges c = filter_same _ (λ range. not (is_of c.args.handle range)) _ (λ x b f k. search rules) _ _ c.retain.ensures.filtered
+returns-clause-ranges c = filter_same _ (λ range. not (is_of c.args.handle range)) _ (λ x b f k. search rules) _ _ c.retain.ensures.items

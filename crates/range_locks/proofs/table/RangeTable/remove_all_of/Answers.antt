@@ -19,5 +19,5 @@ invariant_of-self c =
 
 pub returns-else-has_any_of-clause-ranges : goal.returns-else-has_any_of-clause-ranges
 returns-else-has_any_of-clause-ranges c =
-    let none : list_any (is_of c.args.handle) c.self.inside.ranges.items ≡ false = sym (rw c.deref.ensures.value at c.has_any_of.ensures) ∙ c.if-has_any_of.false in
+    let none : list_any (is_of c.args.handle) c.self.inside.ranges.items ≡ false = sym (rw c.as_slice.ensures at c.has_any_of.ensures) ∙ c.if-has_any_of.false in
     rw (← c.self.view_is) (sym (none-of c.args.handle c.self.inside.ranges.items none))
