@@ -5,24 +5,9 @@ use Rattle.fsa_types.specs.declared.request.What.{What}
 use Rattle.fsa_types.specs.declared.request.What.TheVariants.{Ask}
 use Rattle.fsa_model.specs.Once.{made}
 use Rattle.fsa_model.specs.Volume.{Volume}
-use Rattle.fsa_machine.specs.Spare.{AreSpare, HasLists, SpareTurns, is_ack_or_cancel}
+use Rattle.fsa_machine.specs.Spare.{AreSpare, SpareTurns, is_ack_or_cancel}
 use Rattle.fsa_machine.specs.Step.{HasReplyRoom}
 use Rattle.fsa_machine.specs.declared.replies.ReplyRooms.{ReplyRooms}
-use Rattle.fsa_machine.specs.declared.turns.TurnRoom.{TurnRoom}
-
--- lists for more calls do for fewer
-pub HasLists-fewer : (few many : ℕ) (room : TurnRoom) → few ≤ many → HasLists many room → HasLists few room
-HasLists-fewer few many room less has = record {
-  none = has.none;
-  no_ended = has.no_ended;
-  ended = (let more = has.ended in omega arith);
-  no_starved = has.no_starved;
-  starved = (let more = has.starved in omega arith);
-  no_kept = has.no_kept;
-  kept = has.kept;
-  no_waits = has.no_waits;
-  waits = (let more = has.waits in omega arith);
-}
 
 -- replies to an Ack and to a Cancel have neither bytes nor units
 pub short-reply : (what : What) (rooms : ReplyRooms) → is_ack_or_cancel what ≡ true → HasReplyRoom what rooms

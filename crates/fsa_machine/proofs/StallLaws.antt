@@ -14,7 +14,8 @@ use Rattle.fsa_model.specs.Volume.{Pending, Volume}
 use Rattle.fsa_model.specs.Waiting.{is_wait, is_asked_before, all_wait, waits_in_order, with_stalled}
 use Rattle.fsa_model.proofs.OnceLaws.{AddsEnds-same, AddsEnds-next, AddsEnds-length, ended-calls_ended}
 use Rattle.fsa_model.proofs.LoopLaws.{Reaches-keeping}
-use Rattle.fsa_model.proofs.TurnLaws.{Adds, Adds-answered, try-keeps, tried-begins}
+use Rattle.fsa_model.proofs.TurnLaws.{Adds, Adds-answered, Turns, settlement-turns, try-keeps, tried-begins}
+use Rattle.fsa_model.specs.Settle.{settled}
 use Rattle.fsa_model.specs.Outcome.{Outcome, Done, Stay, Hold}
 use Rattle.fsa_model.specs.Try.{try}
 use Rattle.fsa_types.specs.declared.request.Call.{Call}
@@ -301,3 +302,14 @@ own-answered v w call serves may_try numbered may new is =
 pub told-length : (v mid : Volume) (before told : List EndOf) → told ≡ before ++ ends_between v mid → length told ≡ length before + (length mid.ended - length v.ended)
 told-length v mid before told is =
     (let all = length-append before (ends_between v mid) in let left = length-drop (length v.ended) mid.ended in rw is (omega arith))
+
+-- a turn gives out no more ends than calls were pending, and its own
+pub given-few : (v w x : Volume) (call : Call) (starved : List CallId) (before told given : List EndOf) → MayTurn v → times call.client call.number v ≡ 0
+    → w ≡ answered call (turn_number v) (try v call (turn_number v)) → OwnAnswered v (try v call (turn_number v)) w → x ≡ (settled w starved).volume → length w.ended ≤ length x.ended
+    → before ≡ [] → told ≡ before ++ ends_between v (volume_after (try v call (turn_number v))) → given ≡ told ++ ends_between w x → length given ≤ length v.pending + 1
+given-few v w x call starved before told given may new is own after longer none begins goes =
+    let turns : Turns v call x = subst (λ (y : Volume). Turns v call y) (sym (after ∙ ap (λ (y : Volume). (settled y starved).volume) is)) (settlement-turns v call starved may new) in
+    let nothing = ap (λ (ends : List EndOf). length ends) none in
+    let first = told-length v (volume_after (try v call (turn_number v))) before told begins in
+    let second = told-length w x told given goes in
+    omega (arith, turns.number, own.begins, own.goes, longer, nothing, first, second)

@@ -1,9 +1,13 @@
 -- Room for turns that come.
-use Rattle.std.specs.Prelude.{◌≡◌, ℕ, ◌+◌, ◌<◌, ◌≤◌, Bool, true, false, [], length}
+use Rattle.std.specs.Prelude.{◌≡◌, ℕ, ◌+◌, ◌<◌, ◌≤◌, Bool, true, false, List, [], length}
+use Rattle.fsa_types.specs.declared.reply.EndOf.{EndOf}
+use Rattle.fsa_types.specs.declared.request.CallId.{CallId}
 use Rattle.fsa_types.specs.declared.request.Request.TheVariants.{Ack, Cancel}
 use Rattle.fsa_types.specs.declared.request.What.{What}
 use Rattle.fsa_types.specs.declared.request.What.TheVariants.{Ask}
 use Rattle.fsa_model.specs.Volume.{Volume}
+use Rattle.fsa_machine.specs.declared.lists.GivenLists.{GivenLists}
+use Rattle.fsa_machine.specs.declared.lists.TurnLists.{TurnLists}
 use Rattle.fsa_machine.specs.declared.turns.TurnRoom.{TurnRoom}
 
 -- an Ack or a Cancel
@@ -12,17 +16,41 @@ is_ack_or_cancel (Ask (Ack handle level)) = true
 is_ack_or_cancel (Ask (Cancel number)) = true
 is_ack_or_cancel _ = false
 
--- the lists of a turn's room are empty, and each has room for so many calls; what is given out twice has the same room
+-- these lists are empty, and each has room for so many ends or calls; what is given out twice has the same room
+pub record AreLists (calls : ℕ) (lists : TurnLists) : Type 0 where
+  pub no_given : lists.given.items ≡ []
+  pub given : calls ≤ lists.given.room
+  pub no_kept : lists.kept.items ≡ []
+  pub kept : lists.kept.room ≡ lists.given.room
+  pub no_starved : lists.starved.items ≡ []
+  pub starved : calls ≤ lists.starved.room
+  pub no_kept_starved : lists.kept_starved.items ≡ []
+  pub kept_starved : lists.kept_starved.room ≡ lists.starved.room
+  pub no_waits : lists.waits.items ≡ []
+  pub waits : calls ≤ lists.waits.room
+
+-- there are no blockers in a turn's room, and its lists are so
 pub record HasLists (calls : ℕ) (room : TurnRoom) : Type 0 where
   pub none : room.none.items ≡ []
-  pub no_ended : room.ended.items ≡ []
-  pub ended : calls ≤ room.ended.room
-  pub no_starved : room.starved.items ≡ []
-  pub starved : calls ≤ room.starved.room
-  pub no_kept : room.kept.items ≡ []
-  pub kept : room.kept.room ≡ room.starved.room
-  pub no_waits : room.waits.items ≡ []
-  pub waits : calls ≤ room.waits.room
+  pub lists : AreLists calls room.lists
+
+-- these lists have room for so many ends, and but for the calls that starved, which can be copied, and for waits they
+-- are empty
+pub record StandBy (ends : ℕ) (lists : TurnLists) : Type 0 where
+  pub no_given : lists.given.items ≡ []
+  pub given : ends ≤ lists.given.room
+  pub no_kept : lists.kept.items ≡ []
+  pub kept : lists.kept.room ≡ lists.given.room
+  pub starved : length lists.starved.items ≤ lists.starved.room
+  pub no_kept_starved : lists.kept_starved.items ≡ []
+  pub kept_starved : lists.kept_starved.room ≡ lists.starved.room
+
+-- these ends and calls are given out, and the same is kept
+pub record AreGiven (ends : List EndOf) (named : List CallId) (lists : GivenLists) : Type 0 where
+  pub given : lists.given.items ≡ ends
+  pub kept : lists.kept ≡ lists.given
+  pub starved : lists.starved.items ≡ named
+  pub kept_starved : lists.kept_starved ≡ lists.starved
 
 -- rooms for so many turns, each with lists for so many calls
 pub record SpareTurns : Type 0 where

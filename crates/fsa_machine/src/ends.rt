@@ -1,6 +1,7 @@
 //! The ends that a turn gives out, twice: one list for the caller, and one that the history keeps.
 
-ghost use Rattle.std.specs.Prelude.{◌≡◌, ◌≤◌, ◌<◌, ◌+◌, ◌-◌, ◌^◌, ◌++◌, ◌∷◌, [], length, drop, IfOk};
+ghost use Rattle.std.specs.Prelude.{◌≡◌, ◌≤◌, ◌<◌, ◌+◌, ◌-◌, ◌^◌, ◌++◌, ◌∷◌, [], length, drop, OnOk};
+ghost use Rattle.std.specs.Vec.{vec_capacity, vec_len};
 ghost use Rattle.fsa_model.specs.Frame.{IsBare};
 ghost use Rattle.fsa_machine.specs.Step.{AreBare};
 
@@ -9,33 +10,84 @@ use fsa_types::{Body, Bytes, EndList, EndOf, Name, NoMemory, Reply};
 use std::alloc::Global;
 use std::marker::Model;
 
-/// Two equal lists of ends. They are seen as one of them.
+/// Two equal lists of ends, which a turn fills and which are empty between turns. They are seen as one of them.
 #[derive(Drop)]
 pub struct EndLists {
-    given: EndList,
-    kept: EndList,
+    given: Vec<EndOf>,
+    kept: Vec<EndOf>,
+    room: u32,
 }
 
 impl Model for EndLists {
-    ghost use Rattle.std.specs.Prelude.{◌≡◌};
+    ghost use Rattle.std.specs.Prelude.{◌≡◌, ◌≤◌};
+    ghost use Rattle.std.specs.Vec.{vec_capacity, vec_len};
     ghost use Rattle.fsa_types.specs.BoundedList.{Bounded};
     ghost use Rattle.fsa_types.specs.declared.reply.EndOf.{EndOf};
 
     ghost Value = { Bounded EndOf };
 
-    ghost view = { λ l. l.given };
+    ghost view = { λ l. record { items = l.given.items; room = l.room } };
 
-    ghost invariant = { λ l. l.kept ≡ l.given };
+    ghost invariant = { λ l. (l.kept.items ≡ l.given.items) × (vec_len l.given ≤ l.room) × (l.room ≤ vec_capacity l.given) × (l.room ≤ vec_capacity l.kept) };
+}
+
+// Moves all of these ends, in order, into an empty list with room for them.
+fn moved(ends: &mut Vec<EndOf>, mut list: EndList) -> EndList
+    requires none { list.items ≡ [] }
+    requires room { length ends.old.items ≤ list.room }
+    ensures items { result.items ≡ ends.old.items }
+    ensures room { result.room ≡ list.room }
+    ensures emptied { ends.new.items ≡ [] }
+    ensures capacity { vec_capacity ends.new ≡ vec_capacity ends.old }
+{
+    ends.reverse();
+    'ends: while let Some(end) = ends.pop() {
+        list.push(end);
+    }
+    list
 }
 
 impl EndLists {
-    /// Two empty lists with room for so many ends each.
-    pub fn with_room(alloc: Global, n: u32) -> Result<EndLists, NoMemory>
-        ensures { IfOk result (λ lists. lists ≡ record { items = []; room = n }) }
+    /// Two empty lists with room for no end. It takes no memory.
+    pub fn none(alloc: Global) -> EndLists
+        ensures { result ≡ record { items = []; room = 0 } }
     {
-        let given = EndList::with_room(alloc, n)?;
-        let kept = EndList::with_room(alloc, n)?;
-        Ok(EndLists { given, kept })
+        EndLists {
+            given: Vec::new(alloc),
+            kept: Vec::new(alloc),
+            room: 0,
+        }
+    }
+
+    /// How many ends each of the lists has.
+    pub fn len(&self) -> u32
+        ensures { result ≡ length self.now.items }
+    {
+        let _room = self.room;
+        self.given.len() as u32
+    }
+
+    /// For how many ends each of the lists has room.
+    pub fn room(&self) -> u32
+        ensures { result ≡ self.now.room }
+    {
+        self.room
+    }
+
+    /// Takes room in the empty lists for so many ends each, unless it is there.
+    pub fn reserve(&mut self, n: u32) -> Result<(), NoMemory>
+        requires none { self.old.items ≡ [] }
+        ensures none { self.new.items ≡ [] }
+        ensures room { OnOk result (n ≤ self.new.room) }
+        ensures no_less { self.old.room ≤ self.new.room }
+    {
+        if n <= self.room {
+            return Ok(());
+        }
+        self.given.reserve(n as usize)?;
+        self.kept.reserve(n as usize)?;
+        self.room = n;
+        Ok(())
     }
 
     /// Puts an end and its copy at the ends of the lists.
@@ -45,8 +97,12 @@ impl EndLists {
         ensures items { self.new.items ≡ self.old.items ++ given ∷ [] }
         ensures room { self.new.room ≡ self.old.room }
     {
-        self.given.push(given);
-        self.kept.push(kept);
+        let Ok(()) = self.given.push(given) else {
+            unreachable!()
+        };
+        let Ok(()) = self.kept.push(kept) else {
+            unreachable!()
+        };
     }
 
     /// Puts the end of a call with this reply and its copy at the ends of the lists.
@@ -69,13 +125,17 @@ impl EndLists {
         self.push(given, kept);
     }
 
-    /// The list to give out, and the one to keep.
-    pub fn into_parts(self) -> (EndList, EndList)
-        ensures given { result.0 ≡ self }
-        ensures kept { result.1 ≡ self }
+    /// Moves the ends of both lists into these, which are empty and have room for them.
+    pub fn move_into(&mut self, given: EndList, kept: EndList) -> (EndList, EndList)
+        requires no_given { given.items ≡ [] }
+        requires given { length self.old.items ≤ given.room }
+        requires no_kept { kept.items ≡ [] }
+        requires kept { kept.room ≡ given.room }
+        ensures given { result.0 ≡ record { items = self.old.items; room = given.room } }
+        ensures kept { result.1 ≡ result.0 }
+        ensures emptied { self.new ≡ record { items = []; room = self.old.room } }
     {
-        let EndLists { given, kept } = self;
-        (given, kept)
+        (moved(&mut self.given, given), moved(&mut self.kept, kept))
     }
 }
 

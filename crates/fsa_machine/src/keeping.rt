@@ -10,15 +10,13 @@ ghost use Rattle.fsa_model.specs.Turn.{turn};
 ghost use Rattle.fsa_machine.specs.Kept.{entry_of, out_kept};
 ghost use Rattle.fsa_machine.specs.Released.{how_many_let_go};
 ghost use Rattle.fsa_machine.specs.Serves.{MayTry, Serves, ServesOn, most_entries};
-ghost use Rattle.fsa_machine.specs.Spare.{AreSpare, HasLists, is_ack_or_cancel};
-ghost use Rattle.fsa_machine.specs.Step.{HasReplyRoom};
+ghost use Rattle.fsa_machine.specs.Spare.{AreSpare, is_ack_or_cancel};
 
 use crate::kept::KeptTurn;
 use crate::machine::MOST_ENTRIES;
 use crate::spare::SpareRooms;
 use crate::steps::Steps;
 use crate::store::Store;
-use crate::turns::{TurnRoom, take_room, turn_in_room};
 use fsa_types::{Call, NoMemory, Out, Request, TryCopy, What};
 use std::alloc::Global;
 use std::sync::ledger::Ledger;
@@ -56,48 +54,17 @@ fn short_copy(call: &Call) -> Option<Call>
     })
 }
 
-// Makes a turn in its room, and keeps it beside the copy of its call, for which there is room.
-fn keep_in_room<S: Store, L: Ledger>(
-    alloc: Global,
-    store: &mut S,
-    kept: &mut Vec<KeptTurn>,
-    call: Call,
-    copy: Call,
-    room: TurnRoom,
-    steps: &mut Steps<L>,
-) -> Result<Out, (Call, NoMemory)>
-    requires serves { Serves (S.content store.old) }
-    requires may_try { MayTry (S.content store.old) call }
-    requires number { 0 < call.number }
-    requires may { MayTurn (S.content store.old) }
-    requires new { times call.client call.number (S.content store.old) ≡ 0 }
-    requires few { made (S.content store.old) < most_entries }
-    requires ends { length (S.content store.old).pending + 1 ≤ S.spare_ends store.old }
-    requires rooms { HasReplyRoom call.what room.rooms }
-    requires lists { HasLists (length (S.content store.old).pending + 1) room }
-    requires copy { copy ≡ call }
+// Keeps what a turn gave out beside the copy of its call, for which there is room.
+fn keep_out(kept: &mut Vec<KeptTurn>, call: Call, out: Out)
     requires place { vec_len kept.old < vec_capacity kept.old }
-    ensures turn { IfOk result (λ out. turn (S.content store.old) call out.starved.items ≡ Some (record { volume = S.content store.new; out = out_of out })) }
-    ensures serves { OnOk result (ServesOn (S.content store.old) (S.content store.new)) }
-    ensures longer { OnOk result (length (S.content store.old).ended ≤ length (S.content store.new).ended) }
-    ensures ends { S.spare_ends store.old + length (S.content store.old).ended ≤ S.spare_ends store.new + length (S.content store.new).ended }
-    ensures pending { OnOk result (S.spare_pending store.old ≤ S.spare_pending store.new + 1) }
-    ensures pending_kept { OnErr result (S.spare_pending store.old ≤ S.spare_pending store.new) }
-    ensures memory { is_ack_or_cancel call.what ≡ true → 1 ≤ S.spare_pending store.old → IsOk result }
-    ensures entries { IfOk result (λ out. map entry_of kept.new.items ≡ map entry_of kept.old.items ++ record { call = call; starved = out.starved.items } ∷ []) }
-    ensures outs { IfOk result (λ out. map out_kept kept.new.items ≡ map out_kept kept.old.items ++ out_of out ∷ []) }
-    ensures len { OnOk result (vec_len kept.new ≡ vec_len kept.old + 1) }
-    ensures len_kept { OnErr result (vec_len kept.new ≡ vec_len kept.old) }
+    ensures entries { map entry_of kept.new.items ≡ map entry_of kept.old.items ++ record { call = call; starved = out.starved.items } ∷ [] }
+    ensures outs { map out_kept kept.new.items ≡ map out_kept kept.old.items ++ out_of out ∷ [] }
+    ensures len { vec_len kept.new ≡ vec_len kept.old + 1 }
     ensures capacity { vec_capacity kept.old ≤ vec_capacity kept.new }
-    ensures err { IfErr result (λ back. (S.content store.new ≡ S.content store.old) × (kept.new.items ≡ kept.old.items) × (back.0 ≡ call)) }
-    ensures tries { steps.new ≤ steps.old + (1 + how_many_let_go (own_tried (S.content store.old) call)) }
-    ensures rises { steps.old ≤ steps.new }
 {
-    let (given, out) = turn_in_room(alloc, store, call, room, steps)?;
-    let Ok(()) = kept.push(KeptTurn { call: copy, out }) else {
+    let Ok(()) = kept.push(KeptTurn { call, out }) else {
         unreachable!()
     };
-    Ok(given)
 }
 
 // Makes a turn in new room, and keeps it.
@@ -105,6 +72,7 @@ fn keep_new<S: Store, L: Ledger>(
     alloc: Global,
     store: &mut S,
     kept: &mut Vec<KeptTurn>,
+    spare: &mut SpareRooms,
     call: Call,
     steps: &mut Steps<L>,
 ) -> Result<Out, (Call, NoMemory)>
@@ -125,6 +93,7 @@ fn keep_new<S: Store, L: Ledger>(
     ensures len { OnOk result (vec_len kept.new ≡ vec_len kept.old + 1) }
     ensures len_kept { OnErr result (vec_len kept.new ≡ vec_len kept.old) }
     ensures capacity { vec_capacity kept.old ≤ vec_capacity kept.new }
+    ensures spare { spare.new ≡ spare.old }
     ensures err { IfErr result (λ back. (S.content store.new ≡ S.content store.old) × (kept.new.items ≡ kept.old.items) × (back.0 ≡ call)) }
     ensures tries { steps.new ≤ steps.old + (1 + how_many_let_go (own_tried (S.content store.old) call)) }
     ensures rises { steps.old ≤ steps.new }
@@ -132,10 +101,9 @@ fn keep_new<S: Store, L: Ledger>(
     let Ok(copy) = take_entry(alloc, kept, &call) else {
         return Err((call, NoMemory));
     };
-    let Ok(room) = take_room(alloc, store, &call) else {
-        return Err((call, NoMemory));
-    };
-    keep_in_room(alloc, store, kept, call, copy, room, steps)
+    let (given, out) = spare.turn_new(alloc, store, call, steps)?;
+    keep_out(kept, copy, out);
+    Ok(given)
 }
 
 // Makes a turn of an Ack or a Cancel in the room of a turn to come, and keeps it. It takes no memory.
@@ -143,9 +111,9 @@ fn keep_spare<S: Store, L: Ledger>(
     alloc: Global,
     store: &mut S,
     kept: &mut Vec<KeptTurn>,
+    spare: &mut SpareRooms,
     call: Call,
     copy: Call,
-    room: TurnRoom,
     steps: &mut Steps<L>,
 ) -> Out
     requires serves { Serves (S.content store.old) }
@@ -157,7 +125,8 @@ fn keep_spare<S: Store, L: Ledger>(
     requires short { is_ack_or_cancel call.what ≡ true }
     requires ends { length (S.content store.old).pending + 1 ≤ S.spare_ends store.old }
     requires pending { 1 ≤ S.spare_pending store.old }
-    requires lists { HasLists (length (S.content store.old).pending + 1) room }
+    requires some { 0 < spare.old.turns }
+    requires lists { length (S.content store.old).pending + 1 ≤ spare.old.calls }
     requires copy { copy ≡ call }
     requires place { vec_len kept.old < vec_capacity kept.old }
     ensures turn { turn (S.content store.old) call result.starved.items ≡ Some (record { volume = S.content store.new; out = out_of result }) }
@@ -169,33 +138,29 @@ fn keep_spare<S: Store, L: Ledger>(
     ensures outs { map out_kept kept.new.items ≡ map out_kept kept.old.items ++ out_of result ∷ [] }
     ensures len { vec_len kept.new ≡ vec_len kept.old + 1 }
     ensures capacity { vec_capacity kept.old ≤ vec_capacity kept.new }
+    ensures left { spare.old.turns ≡ spare.new.turns + 1 }
+    ensures calls { spare.new.calls ≡ spare.old.calls }
     ensures tries { steps.new ≤ steps.old + (1 + how_many_let_go (own_tried (S.content store.old) call)) }
     ensures rises { steps.old ≤ steps.new }
 {
-    let Ok(out) = keep_in_room(alloc, store, kept, call, copy, room, steps) else {
+    let Ok((given, out)) = spare.turn_spare(alloc, store, call, steps) else {
         unreachable!()
     };
-    out
+    keep_out(kept, copy, out);
+    given
 }
 
-// Takes the room of a turn to come, with a copy of the call, where there is such a room and the call is an Ack or
-// a Cancel. It takes no memory.
-fn take_spare(spare: &mut SpareRooms, call: &Call) -> Option<(Call, TurnRoom)>
-    ensures copy { IfSome result (λ taken. taken.0 ≡ call.now) }
-    ensures lists { IfSome result (λ taken. HasLists spare.old.calls taken.1) }
+// A copy of the call, where that is an Ack or a Cancel and there is room for a turn to come. It takes no memory.
+fn spare_copy(spare: &SpareRooms, call: &Call) -> Option<Call>
+    ensures copy { IfSome result (λ copy. copy ≡ call.now) }
     ensures short { OnSome result (is_ack_or_cancel call.now.what ≡ true) }
-    ensures left { OnSome result (spare.old.turns ≡ spare.new.turns + 1) }
-    ensures none { IfNone result (is_ack_or_cancel call.now.what ≡ true → spare.old.turns ≡ 0) }
-    ensures same { IfNone result (spare.new ≡ spare.old) }
-    ensures calls { spare.new.calls ≡ spare.old.calls }
+    ensures some { OnSome result (0 < spare.now.turns) }
+    ensures none { IfNone result (is_ack_or_cancel call.now.what ≡ true → spare.now.turns ≡ 0) }
 {
-    let Some(copy) = short_copy(call) else {
+    if spare.turns() == 0 {
         return None;
-    };
-    match spare.take() {
-        None => None,
-        Some(room) => Some((copy, room)),
     }
+    short_copy(call)
 }
 
 /// Makes a turn, and keeps it. An Ack or a Cancel is made in the room of a turn to come, where there is one, and
@@ -227,10 +192,10 @@ pub fn keep_turn<S: Store, L: Ledger>(
     ensures tries { steps.new ≤ steps.old + (1 + how_many_let_go (own_tried (S.content store.old) call)) }
     ensures rises { steps.old ≤ steps.new }
 {
-    match take_spare(spare, &call) {
-        Some((copy, room)) => Ok(keep_spare(alloc, store, kept, call, copy, room, steps)),
+    match spare_copy(spare, &call) {
+        Some(copy) => Ok(keep_spare(alloc, store, kept, spare, call, copy, steps)),
         None => {
-            let out = keep_new(alloc, store, kept, call, steps)?;
+            let out = keep_new(alloc, store, kept, spare, call, steps)?;
             spare.drop_one();
             Ok(out)
         }
@@ -265,7 +230,5 @@ pub fn reserve_turns<S: Store>(
     let calls = store.pending_calls() + turns;
     store.reserve(calls, turns)?;
     kept.reserve(turns)?;
-    let rooms = SpareRooms::with_turns(alloc, turns, calls as u32)?;
-    *spare = rooms;
-    Ok(())
+    spare.take_turns(alloc, turns, calls as u32)
 }

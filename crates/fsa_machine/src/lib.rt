@@ -15,7 +15,9 @@
 //!
 //! - A turn (`turns`) takes its room, tries its own call (`own`), and settles what is pending (`settle`). The
 //!   definitions are `Turn` and `Settle` of `fsa_model`. What a turn gives out it makes twice (`ends`,
-//!   `replies`): the history keeps one copy, and the caller gets the other.
+//!   `replies`): the history keeps one copy, and the caller gets the other. It fills lists that the machine keeps, and
+//!   in the end moves what they hold into short ones, or, where there is no memory for these, into lists that stand by
+//!   for that (`lists`).
 //! - Room first: an end and a name for each pending call and for the turn's own, two copies of the own
 //!   reply, and the entry. A held call takes a copy of itself and two of its reply before it is tried
 //!   again, and a Notify two of a report that has bytes; where that finds no memory it ends `NO_MEMORY`, and
@@ -40,6 +42,7 @@
 mod ends;
 mod keeping;
 mod kept;
+mod lists;
 mod look;
 mod machine;
 mod own;

@@ -221,9 +221,9 @@ impl<S: Store> Machine<S> {
     }
 
     /// Takes room for the next `n` turns: as long as all of them are Ack or Cancel they can't be refused for
-    /// memory. It asks for memory `n` times, each time for as many calls as are pending and `n`. `NoMemory`
-    /// changes nothing, and comes where there is none for it and where `n` is above 1,000,000, unless there is
-    /// room for so many turns already.
+    /// memory. It asks for memory `n` times, each time for as many calls as are pending and `n`, and once more for
+    /// that many ends. `NoMemory` changes nothing, and comes where there is none for it and where `n` is above
+    /// 1,000,000, unless there is room for so many turns already.
     pub fn reserve(&mut self, alloc: Global, n: u32) -> Result<(), NoMemory>
         ensures setup { self.new.setup ≡ self.old.setup }
         ensures entries { self.new.entries ≡ self.old.entries }

@@ -111,6 +111,7 @@ pub fn answer_own<S: Store, L: Ledger>(
     ensures pending_kept { OnErr result (S.spare_pending store.old ≤ S.spare_pending store.new) }
     ensures memory { is_ack_or_cancel call.what ≡ true → 1 ≤ S.spare_pending store.old → IsOk result }
     ensures told { OnOk result (ended.new.items ≡ ended.old.items ++ ends_between (S.content store.old) (volume_after (try (S.content store.old) call (turn_number (S.content store.old))))) }
+    ensures untold { OnErr result (ended.new.items ≡ ended.old.items) }
     ensures told_room { ended.new.room ≡ ended.old.room }
     ensures err { IfErr result (λ back. (S.content store.new ≡ S.content store.old) × (back.0 ≡ call)) }
     ensures tries { steps.new ≤ steps.old + 1 }

@@ -1,6 +1,6 @@
 //! One turn.
 
-ghost use Rattle.std.specs.Prelude.{◌≡◌, ◌≤◌, ◌<◌, ◌+◌, [], true, length, Some, IfOk, IfErr, IsOk, OnErr, OnOk};
+ghost use Rattle.std.specs.Prelude.{◌≡◌, ◌≤◌, ◌<◌, ◌+◌, [], true, length, Some, IfOk, IfErr, IfSome, IsOk, OnErr, OnOk};
 ghost use Rattle.fsa_model.specs.Engine.{own_tried};
 ghost use Rattle.fsa_model.specs.Once.{made, times};
 ghost use Rattle.fsa_model.specs.Outcome.{out_of};
@@ -8,87 +8,57 @@ ghost use Rattle.fsa_model.specs.Settling.{MayTurn};
 ghost use Rattle.fsa_model.specs.Turn.{turn};
 ghost use Rattle.fsa_machine.specs.Released.{how_many_let_go};
 ghost use Rattle.fsa_machine.specs.Serves.{MayTry, Serves, ServesOn, most_entries};
-ghost use Rattle.fsa_machine.specs.Spare.{HasLists, is_ack_or_cancel};
+ghost use Rattle.fsa_machine.specs.Spare.{AreLists, HasLists, is_ack_or_cancel};
 ghost use Rattle.fsa_machine.specs.Step.{HasReplyRoom};
 
 use crate::ends::EndLists;
+use crate::lists::{GivenLists, TurnLists, give};
 use crate::own::answer_own;
-use crate::replies::{ReplyRooms, take_rooms};
+use crate::replies::ReplyRooms;
 use crate::settle::settle;
 use crate::steps::Steps;
 use crate::store::Store;
-use fsa_types::{BlockerList, Call, CallId, CallIdList, NoMemory, Out};
+use fsa_types::{BlockerList, Call, NoMemory, Out};
 use std::alloc::Global;
 use std::sync::ledger::Ledger;
 
-/// What a turn takes before it changes anything: room for two copies of the reply, an empty list of blockers,
-/// the lists of ends, the two lists of calls that starve, and the list of waits.
+/// What a turn takes before it changes anything: room for two copies of the reply, an empty list of blockers, and
+/// the lists that stand by.
 #[derive(Drop)]
 pub struct TurnRoom {
-    rooms: ReplyRooms,
-    none: BlockerList,
-    ended: EndLists,
-    starved: CallIdList,
-    kept: CallIdList,
-    waits: CallIdList,
+    /// Room for two copies of the reply.
+    pub rooms: ReplyRooms,
+    /// No blockers.
+    pub none: BlockerList,
+    /// The lists that stand by.
+    pub lists: TurnLists,
 }
 
-/// A turn's room with that for its reply, and with lists for so many calls.
-pub fn room_for(alloc: Global, rooms: ReplyRooms, calls: u32) -> Result<TurnRoom, NoMemory>
-    ensures rooms { IfOk result (λ room. room.rooms ≡ rooms) }
-    ensures lists { IfOk result (λ room. HasLists calls room) }
-{
-    Ok(TurnRoom {
-        rooms,
-        none: BlockerList::with_room(alloc, 0)?,
-        ended: EndLists::with_room(alloc, calls)?,
-        starved: CallIdList::with_room(alloc, calls)?,
-        kept: CallIdList::with_room(alloc, calls)?,
-        waits: CallIdList::with_room(alloc, calls)?,
-    })
+/// A turn that was made: what it gives out, the same to be kept, and the lists that stood by, where they are still
+/// empty.
+#[derive(Drop)]
+pub struct MadeTurn {
+    /// What it gives out.
+    pub given: Out,
+    /// The same, to be kept.
+    pub kept: Out,
+    /// The lists that stood by.
+    pub lists: Option<TurnLists>,
 }
 
-/// Takes all room that a turn of this call needs: an end and a name for each call that is pending and for its
-/// own, and the copies of its own reply.
-pub fn take_room<S: Store>(alloc: Global, store: &mut S, call: &Call) -> Result<TurnRoom, NoMemory>
-    requires few { made (S.content store.old) < most_entries }
-    ensures content { S.content store.new ≡ S.content store.old }
-    ensures ends { OnOk result (length (S.content store.old).pending + 1 ≤ S.spare_ends store.new) }
-    ensures rooms { IfOk result (λ room. HasReplyRoom call.now.what room.rooms) }
-    ensures lists { IfOk result (λ room. HasLists (length (S.content store.old).pending + 1) room) }
-    ensures ends_kept { S.spare_ends store.old ≤ S.spare_ends store.new }
-    ensures pending_kept { S.spare_pending store.old ≤ S.spare_pending store.new }
-{
-    let calls = store.pending_calls() + 1;
-    store.reserve(calls, 0)?;
-    let copies = take_rooms(alloc, &call.what)?;
-    room_for(alloc, copies, calls as u32)
-}
-
-// These calls, in an empty list that has room for them.
-fn copied(calls: &[CallId], mut kept: CallIdList) -> CallIdList
-    requires none { kept.items ≡ [] }
-    requires room { length calls.now ≤ kept.room }
-    ensures items { result.items ≡ calls.now }
-    ensures room { result.room ≡ kept.room }
-{
-    for call in calls {
-        kept.push(*call);
-    }
-    kept
-}
-
-/// Makes a turn, in room that was taken for it: tries the call, and settles what is pending. What it gives out
-/// is given twice. Where there is no memory for the call nothing has changed, and it is handed back; a pending
-/// call that finds none ends so, and is named. An Ack and a Cancel need no memory where the store has room for
-/// one pending call. Each try is one step.
+/// Makes a turn, in room that was taken for it: tries the call, and settles what is pending. What it gives out is given
+/// twice: in short lists, where there is memory for these and no call starved, and else in the lists that stand by.
+/// `ended` is empty before, and empty again. Where there is no memory for the call nothing has changed, and it is
+/// handed back; a pending call that finds none ends so, and is named. An Ack and a Cancel need no memory where the
+/// store has room for one pending call. Each try is one step.
 pub fn turn_in_room<S: Store, L: Ledger>(
     alloc: Global,
     store: &mut S,
     call: Call,
     room: TurnRoom,
+    ended: &mut EndLists,
     steps: &mut Steps<L>,
-) -> Result<(Out, Out), (Call, NoMemory)>
+) -> Result<MadeTurn, (Call, NoMemory)>
     requires serves { Serves (S.content store.old) }
     requires may_try { MayTry (S.content store.old) call }
     requires number { 0 < call.number }
@@ -98,8 +68,13 @@ pub fn turn_in_room<S: Store, L: Ledger>(
     requires ends { length (S.content store.old).pending + 1 ≤ S.spare_ends store.old }
     requires rooms { HasReplyRoom call.what room.rooms }
     requires lists { HasLists (length (S.content store.old).pending + 1) room }
-    ensures ok { IfOk result (λ outs. turn (S.content store.old) call outs.0.starved.items ≡ Some (record { volume = S.content store.new; out = out_of outs.0 })) }
-    ensures same { IfOk result (λ outs. outs.1 ≡ outs.0) }
+    requires none { ended.old.items ≡ [] }
+    requires told { length (S.content store.old).pending + 1 ≤ ended.old.room }
+    ensures ok { IfOk result (λ made. turn (S.content store.old) call made.given.starved.items ≡ Some (record { volume = S.content store.new; out = out_of made.given })) }
+    ensures same { IfOk result (λ made. made.kept ≡ made.given) }
+    ensures lists { IfOk result (λ made. IfSome made.lists (λ lists. AreLists 0 lists)) }
+    ensures emptied { ended.new.items ≡ [] }
+    ensures ended_room { ended.new.room ≡ ended.old.room }
     ensures serves { OnOk result (ServesOn (S.content store.old) (S.content store.new)) }
     ensures longer { OnOk result (length (S.content store.old).ended ≤ length (S.content store.new).ended) }
     ensures ends { S.spare_ends store.old + length (S.content store.old).ended ≤ S.spare_ends store.new + length (S.content store.new).ended }
@@ -110,27 +85,41 @@ pub fn turn_in_room<S: Store, L: Ledger>(
     ensures tries { steps.new ≤ steps.old + (1 + how_many_let_go (own_tried (S.content store.old) call)) }
     ensures rises { steps.old ≤ steps.new }
 {
-    let TurnRoom {
-        rooms,
-        none,
-        mut ended,
-        mut starved,
+    let TurnRoom { rooms, none, lists } = room;
+    let TurnLists {
+        given,
         kept,
+        mut starved,
+        kept_starved,
         mut waits,
-    } = room;
-    let (answer, same_answer) = answer_own(alloc, store, call, rooms, none, &mut ended, steps)?;
-    settle(alloc, store, &mut waits, &mut ended, &mut starved, steps);
-    let kept = copied(starved.as_slice(), kept);
-    let (given_ends, kept_ends) = ended.into_parts();
-    let given = Out {
-        answer,
-        ended: given_ends,
+    } = lists;
+    let (answer, same_answer) = answer_own(alloc, store, call, rooms, none, ended, steps)?;
+    settle(alloc, store, &mut waits, ended, &mut starved, steps);
+    let lists = TurnLists {
+        given,
+        kept,
         starved,
+        kept_starved,
+        waits,
     };
-    let kept = Out {
-        answer: same_answer,
-        ended: kept_ends,
-        starved: kept,
-    };
-    Ok((given, kept))
+    let (out, lists) = give(alloc, ended, lists);
+    let GivenLists {
+        given,
+        kept,
+        starved,
+        kept_starved,
+    } = out;
+    Ok(MadeTurn {
+        given: Out {
+            answer,
+            ended: given,
+            starved,
+        },
+        kept: Out {
+            answer: same_answer,
+            ended: kept,
+            starved: kept_starved,
+        },
+        lists,
+    })
 }

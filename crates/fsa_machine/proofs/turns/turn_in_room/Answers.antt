@@ -1,11 +1,11 @@
-use Rattle.std.proofs.Common.{◌≡◌, List, length, ap, lt-ltb, arith}
+use Rattle.std.proofs.Common.{◌≡◌, List, length, ap, sym, ◌∙◌, lt-ltb, arith}
 use Rattle.fsa_types.specs.declared.reply.EndOf.{EndOf}
 use Rattle.fsa_model.specs.Engine.{own_tried}
 use Rattle.fsa_model.specs.Turn.{try, turn_number, volume_after}
 use Rattle.fsa_model.specs.Volume.{Volume}
 use Rattle.fsa_machine.specs.Released.{how_many_let_go}
 use Rattle.fsa_machine.proofs.ServeLaws.{SameBase-next}
-use Rattle.fsa_machine.proofs.StallLaws.{own-answered, told-length}
+use Rattle.fsa_machine.proofs.StallLaws.{given-few, own-answered, told-length}
 use Rattle.fsa_machine.proofs.turns.turn_in_room.Goals as goal
 
 pub settle-requires-clause-serves : goal.settle-requires-clause-serves
@@ -22,15 +22,15 @@ settle-requires-clause-ends g c = (let own = own-answered (g.S.Store.content c.a
 
 pub settle-requires-clause-told : goal.settle-requires-clause-told
 settle-requires-clause-told g c = (let own = own-answered (g.S.Store.content c.args.store.now) (g.S.Store.content c.answer_own.new.store) c.args.call c.requires.serves c.requires.may_try (lt-ltb 0 c.args.call.number c.requires.number) c.requires.may c.requires.new c.in_ok-answer.ensures.content in
-    let told = told-length (g.S.Store.content c.args.store.now) (volume_after (try (g.S.Store.content c.args.store.now) c.args.call (turn_number (g.S.Store.content c.args.store.now)))) c.args.room.ended.items c.answer_own.new.ended.items c.in_ok-answer.ensures.told in
-    let none = ap (λ (ends : List EndOf). length ends) c.requires.lists.no_ended in
-    omega (arith, own.made, own.begins, own.goes, c.in_ok-answer.ensures.told_room, c.requires.lists.ended))
+    let told = told-length (g.S.Store.content c.args.store.now) (volume_after (try (g.S.Store.content c.args.store.now) c.args.call (turn_number (g.S.Store.content c.args.store.now)))) c.args.ended.now.items c.answer_own.new.ended.items c.in_ok-answer.ensures.told in
+    let none = ap (λ (ends : List EndOf). length ends) c.requires.none in
+    omega (arith, own.made, own.begins, own.goes, c.in_ok-answer.ensures.told_room, c.requires.told))
 
 pub settle-requires-clause-named : goal.settle-requires-clause-named
-settle-requires-clause-named g c = (let own = own-answered (g.S.Store.content c.args.store.now) (g.S.Store.content c.answer_own.new.store) c.args.call c.requires.serves c.requires.may_try (lt-ltb 0 c.args.call.number c.requires.number) c.requires.may c.requires.new c.in_ok-answer.ensures.content in omega (arith, own.made, own.begins, own.goes, c.requires.lists.starved))
+settle-requires-clause-named g c = (let own = own-answered (g.S.Store.content c.args.store.now) (g.S.Store.content c.answer_own.new.store) c.args.call c.requires.serves c.requires.may_try (lt-ltb 0 c.args.call.number c.requires.number) c.requires.may c.requires.new c.in_ok-answer.ensures.content in omega (arith, own.made, own.begins, own.goes, c.requires.lists.lists.starved))
 
 pub settle-requires-clause-waits : goal.settle-requires-clause-waits
-settle-requires-clause-waits g c = (let own = own-answered (g.S.Store.content c.args.store.now) (g.S.Store.content c.answer_own.new.store) c.args.call c.requires.serves c.requires.may_try (lt-ltb 0 c.args.call.number c.requires.number) c.requires.may c.requires.new c.in_ok-answer.ensures.content in omega (arith, own.made, own.begins, own.goes, c.requires.lists.waits))
+settle-requires-clause-waits g c = (let own = own-answered (g.S.Store.content c.args.store.now) (g.S.Store.content c.answer_own.new.store) c.args.call c.requires.serves c.requires.may_try (lt-ltb 0 c.args.call.number c.requires.number) c.requires.may c.requires.new c.in_ok-answer.ensures.content in omega (arith, own.made, own.begins, own.goes, c.requires.lists.lists.waits))
 
 pub returns-clause-longer : goal.returns-clause-longer
 returns-clause-longer g c = (let own = own-answered (g.S.Store.content c.args.store.now) (g.S.Store.content c.answer_own.new.store) c.args.call c.requires.serves c.requires.may_try (lt-ltb 0 c.args.call.number c.requires.number) c.requires.may c.requires.new c.in_ok-answer.ensures.content in omega (arith, own.begins, own.goes, c.settle.ensures.longer))
@@ -42,3 +42,18 @@ pub returns-clause-tries : goal.returns-clause-tries
 returns-clause-tries g c =
     let own : how_many_let_go (g.S.Store.content c.answer_own.new.store) ≡ how_many_let_go (own_tried (g.S.Store.content c.args.store.now) c.args.call) = ap (λ (v : Volume). how_many_let_go v) c.in_ok-answer.ensures.content in
     omega (arith, own, c.answer_own.ensures.tries, c.settle.ensures.tries)
+
+pub give-out-requires : goal.give-out-requires
+give-out-requires g c = record {
+  lists = record {
+    no_given = c.requires.lists.lists.no_given;
+    given = (let own = own-answered (g.S.Store.content c.args.store.now) (g.S.Store.content c.answer_own.new.store) c.args.call c.requires.serves c.requires.may_try (lt-ltb 0 c.args.call.number c.requires.number) c.requires.may c.requires.new c.in_ok-answer.ensures.content in
+        let few = given-few _ _ _ c.args.call _ _ _ _ c.requires.may c.requires.new c.in_ok-answer.ensures.content own c.settle.ensures.content c.settle.ensures.longer c.requires.none c.in_ok-answer.ensures.told c.settle.ensures.told in
+        omega (arith, few, c.requires.lists.lists.given));
+    no_kept = c.requires.lists.lists.no_kept;
+    kept = c.requires.lists.lists.kept;
+    starved = rw c.settle.ensures.named_room c.settle.ensures.few_named;
+    no_kept_starved = c.requires.lists.lists.no_kept_starved;
+    kept_starved = (c.requires.lists.lists.kept_starved ∙ sym c.settle.ensures.named_room);
+  };
+}

@@ -1,5 +1,5 @@
 use Rattle.std.proofs.Common.{◌≡◌, take}
-use Rattle.fsa_machine.proofs.turns.copied.Given as goal
+use Rattle.fsa_machine.proofs.lists.copied.Given as goal
 
 abbrev pub invariant-loop-call : goal.invariant-loop-call
 invariant-loop-call l = record {

@@ -1,7 +1,7 @@
 use Rattle.std.proofs.Common.{◌≡◌, All}
 use Rattle.std.specs.Vec.{vec_len}
 use Rattle.fsa_machine.specs.Spare.{HasLists}
-use Rattle.fsa_machine.proofs.spare.SpareRooms.with_turns.Given as goal
+use Rattle.fsa_machine.proofs.spare.bare_rooms.Given as goal
 
 abbrev pub invariant-loop-turn : goal.invariant-loop-turn
 invariant-loop-turn l = record {
