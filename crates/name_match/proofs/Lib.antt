@@ -1,4 +1,5 @@
 pub mod BeginningLaws
+pub mod DeadLaws
 mod MatchExamples
 pub mod MatchLaws
 pub mod RowLaws

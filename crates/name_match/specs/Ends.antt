@@ -11,6 +11,10 @@ pub record AreEnds (table : List (ℕ × ℕ)) (expression name : List ℕ) (row
   pub cells : (k : ℕ) → k ≤ length expression
       → slice_index_or row k false ≡ matches table (drop k expression) name
 
+-- from none of its places on the expression matches the name
+pub record IsDead (table : List (ℕ × ℕ)) (expression name : List ℕ) : Type 0 where
+  pub cells : (k : ℕ) → k ≤ length expression → matches table (drop k expression) name ≡ false
+
 -- the row begins with these units, upcased
 pub record AreUpcased (table : List (ℕ × ℕ)) (units row : List ℕ) : Type 0 where
   pub cells : (k : ℕ) → k < length units → slice_index row k ≡ up table (slice_index units k)

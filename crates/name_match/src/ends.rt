@@ -1,13 +1,13 @@
 //! Matching by the ends of an expression: the name is read from its last unit to its first, and a
 //! row says for each place of the expression whether what stands from there on matches what was
 //! read. So it is known at each `.` whether another follows, and a unit of the name costs one step
-//! for each unit of the expression.
+//! for each unit of the expression. Where no place's rest matches, nothing does, whatever stands before.
 
-ghost use Rattle.std.specs.Prelude.{◌≡◌, ◌==◌, ◌≤◌, ◌<◌, [], length, drop};
+ghost use Rattle.std.specs.Prelude.{◌≡◌, ◌==◌, ◌≤◌, ◌<◌, [], false, length, drop};
 ghost use Rattle.std.specs.List.{list_any};
 ghost use Rattle.fsa_types.specs.CaseTable.{up};
 ghost use Rattle.fsa_types.specs.Match.{matches, sign_of, is_dot, is_last_dot};
-ghost use Rattle.name_match.specs.Ends.{AreEnds, AreUpcased, cell, cell_of_empty};
+ghost use Rattle.name_match.specs.Ends.{AreEnds, AreUpcased, IsDead, cell, cell_of_empty};
 
 use crate::signs::{DOS_DOT, DOS_QM, DOS_STAR, DOT, QUESTION_MARK, STAR};
 use fsa_types::UpcaseTable;
@@ -43,7 +43,7 @@ pub(crate) fn matches_by_ends(table: &UpcaseTable, expression: &[u16], name: &[u
     read_end(&mut row, table, expression);
     let mut dot_follows = false;
     for start in (0..name.len()).rev() {
-        read_unit(
+        let lives = read_unit(
             &mut row,
             table,
             expression,
@@ -51,6 +51,9 @@ pub(crate) fn matches_by_ends(table: &UpcaseTable, expression: &[u16], name: &[u
             &name[start..],
             dot_follows,
         );
+        if !lives {
+            return false;
+        }
         dot_follows = name[start] == DOT || dot_follows;
     }
     row[0]
@@ -77,7 +80,8 @@ fn read_end(row: &mut [bool; 256], table: &UpcaseTable, expression: &[u16])
     }
 }
 
-// Makes the row for a name of that for the name without its first unit.
+// Makes the row for a name of that for the name without its first unit. Gives whether a cell of it is set: where none
+// is, none will be, whatever stands before the name.
 fn read_unit(
     row: &mut [bool; 256],
     table: &UpcaseTable,
@@ -85,24 +89,26 @@ fn read_unit(
     upcased: &[u16; 255],
     name: &[u16],
     dot_follows: bool,
-)
+) -> bool
     requires short { length expression.now ≤ 255 }
     requires upcased { AreUpcased table.now expression.now upcased.now }
     requires unit { 0 < length name.now }
     requires dot { dot_follows ≡ list_any is_dot (drop 1 name.now) }
     requires row { AreEnds table.now expression.now (drop 1 name.now) row.old }
-    ensures { AreEnds table.now expression.now name.now row.new }
+    ensures row { AreEnds table.now expression.now name.now row.new }
+    ensures dead { result ≡ false → IsDead table.now expression.now name.now }
 {
     let first = table.up(name[0]);
     let is_dot = name[0] == DOT;
     let is_last_dot = is_dot && !dot_follows;
     let mut next = row[expression.len()];
     row[expression.len()] = false;
+    let mut lives = false;
     for place in (0..expression.len()).rev() {
         let later = row[place];
         let rest = row[place + 1];
         let is_same = upcased[place] == first;
-        row[place] = cell(
+        let set = cell(
             expression[place],
             First {
                 is_same,
@@ -111,8 +117,11 @@ fn read_unit(
             },
             Around { rest, later, next },
         );
+        row[place] = set;
+        lives = lives || set;
         next = later;
     }
+    lives
 }
 
 // Whether an expression that begins with this unit matches the empty name, where `rest` says

@@ -25,7 +25,8 @@
 //!
 //! **Cost.** An expression is looked at once when it is made. `*`, literal units alone, and `*` with
 //! literal units after it are matched in one walk along the name's end. Everything else takes as
-//! many steps as the product of the two lengths and no more, whatever the expression. The case table
+//! many steps as the product of the two lengths and no more, whatever the expression, and goes no
+//! further once the end of the name that was read is matched from no place of it on. The case table
 //! is asked once for each unit of the expression and once for each unit of the name. No match takes
 //! memory; its stack is about a kilobyte, whatever the name.
 //!
