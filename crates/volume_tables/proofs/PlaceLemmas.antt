@@ -1,11 +1,15 @@
 -- The first row of a number in a list of rows: its place, and another row put there.
-use Rattle.std.proofs.Common.{◌≡◌, ℕ, zero, suc, ◌<◌, true, false, List, [], ◌∷◌, length, ◌++◌, get_or, refl, ap, ◌∙◌, arith, inl, inr, Some, None, eq-eqb}
-use Rattle.std.specs.List.{position}
+use Rattle.std.proofs.Common.{◌≡◌, ℕ, zero, suc, ◌<◌, true, false, List, [], ◌∷◌, length, ◌++◌, get_or, refl, ap, ◌∙◌, arith, take, drop, inl, inr, Some, None, eq-eqb}
+use Rattle.std.specs.List.{insert, position}
 use Rattle.std.specs.Prelude.{◌==◌}
 use Rattle.std.proofs.lemmas.Bool.{cases_Bool, eqb-true}
 use Rattle.std.proofs.lemmas.List.Quantifiers.{position-Some}
 use Rattle.std.proofs.Math.ListN.{set}
+use Rattle.std.proofs.Math.Seq.{take-append_seam}
+use Rattle.fsa_types.specs.Places.{IsAt, StandsAt}
 use Rattle.fsa_types.specs.Rows.{row_of, lives, without_row}
+use Rattle.fsa_types.proofs.RowLemmas.{AreRising, row_of-at}
+use Rattle.fsa_types.proofs.PlaceLemmas.{AreRising-set, row_of-set_own, row_of-set_other, row_of-insert_own, row_of-insert_other}
 use Rattle.fsa_model.proofs.RowLaws.{eqb-swap}
 
 -- the first place of this number
@@ -107,3 +111,30 @@ row_of-gone (entry ∷ rows) id gone =
       | inl here ↦ (let impossible : true ≡ false = rw here at gone in cc)
       | inr other ↦ rw other (row_of-gone rows id (rw other at gone))
     ]
+
+-- ---- where the numbers rise
+
+-- the row of a number is what stands at its place
+pub row-at : {T : Type 0} (rows : List (ℕ × T)) (id i : ℕ) (d : ℕ × T) → AreRising rows → IsAt rows id i → row_of rows id ≡ Some (get_or rows i d).1
+row-at rows id i d rising at = row_of-at rows i d id rising at.within (at.here d)
+
+-- another row there
+pub put-at : {T : Type 0} (rows : List (ℕ × T)) (id i : ℕ) (d : ℕ × T) (row : T) → AreRising rows → IsAt rows id i → IsPut rows (set rows i ((get_or rows i d).0, row)) id row
+put-at rows id i d row rising at = rw (at.here d) (record {
+  here = row_of-set_own rows id i row rising at;
+  others = λ other differ. row_of-set_other rows id i row other at differ;
+})
+
+pub rising-at : {T : Type 0} (rows : List (ℕ × T)) (id i : ℕ) (d : ℕ × T) (row : T) → AreRising rows → IsAt rows id i → AreRising (set rows i ((get_or rows i d).0, row))
+rising-at rows id i d row rising at = rw (at.here d) (AreRising-set rows id i row rising at)
+
+-- a row of a number that had none, put in where it stands
+pub put-insert : {T : Type 0} (rows : List (ℕ × T)) (id i : ℕ) (row : T) → StandsAt rows id i → IsPut rows (insert rows i (id, row)) id row
+put-insert rows id i row at = record {
+  here = row_of-insert_own rows id i row at;
+  others = λ other differ. row_of-insert_other rows id i row other at differ;
+}
+
+-- what stands in the place of rows of which there are as many
+pub rising-seam : {T : Type 0} (n : ℕ) (new old : List (ℕ × T)) → n ≡ length new → AreRising new → AreRising (take n (new ++ drop (length new) old))
+rising-seam {T} n new old as_many rising = rw (as_many, take-append_seam new (drop (length new) old)) rising

@@ -44,8 +44,9 @@
 //!   stream, and not whether the range conflicts with another. A tally asks that owners are admitted, that
 //!   what goes was charged for, and that sums fit 64 bits.
 //! - Removing takes no memory, and leaves what was promised as it was.
-//! - Each call takes time linear in the rows or locks that it goes over, and one of locks in the streams to
-//!   which room for them was ever promised. The handle of a call, and a client's next handle, are found in time
+//! - Each call takes time linear in the rows or locks that it goes over. The table of a stream's locks is found in
+//!   time logarithmic in the streams to which room for them was ever promised; where one comes, those of streams with
+//!   greater numbers are moved. The handle of a call, and a client's next handle, are found in time
 //!   logarithmic in the handles; to take one out moves only what the table and the indexes keep of those behind it,
 //!   16 bytes each. A call of a tally takes time logarithmic in the owners, and linear where one is
 //!   admitted. What was promised is found in time logarithmic in the directories or streams that have

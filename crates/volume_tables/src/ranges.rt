@@ -1,8 +1,9 @@
 //! The byte-range locks of streams, for each stream a table of its own.
 
-ghost use Rattle.std.specs.Prelude.{ℕ, ◌≡◌, ◌≤◌, ◌+◌, ◌==◌, ◌++◌, ◌∷◌, ◌⊎◌, [], not, false, None, OnOk, position, filter};
+ghost use Rattle.std.specs.Prelude.{ℕ, AllPairs, ◌≡◌, ◌≤◌, ◌<◌, ◌+◌, ◌==◌, ◌++◌, ◌∷◌, [], not, false, IfOk, IfErr, OnOk, filter};
 ghost use Rattle.std.specs.List.{list_any};
 ghost use Rattle.std.specs.Option.{option_copied};
+ghost use Rattle.fsa_types.specs.Places.{IsAt, StandsAt};
 ghost use Rattle.fsa_types.specs.Ranges.{without_first};
 ghost use Rattle.fsa_types.specs.Rows.{row_of};
 ghost use Rattle.range_locks.specs.RangeTable.{first_id, is_of, is_range};
@@ -13,9 +14,11 @@ use range_locks::{Range, RangeTable};
 use std::alloc::Global;
 use std::marker::Model;
 
-/// For each stream the ranges that are locked on it. A stream without locks may have no table.
+/// For each stream the ranges that are locked on it. A stream without locks may have no table. It finds one in time
+/// logarithmic in the tables; where one comes, those behind it are moved.
 #[derive(Debug, Drop)]
 pub struct StreamRanges {
+    // By rising number of the stream.
     tables: Vec<(u64, RangeTable)>,
     // That of a stream without one.
     none: RangeTable,
@@ -23,14 +26,14 @@ pub struct StreamRanges {
 }
 
 impl Model for StreamRanges {
-    ghost use Rattle.std.specs.Prelude.{ℕ, List, ◌≡◌, []};
+    ghost use Rattle.std.specs.Prelude.{ℕ, List, AllPairs, ◌≡◌, ◌<◌, []};
     ghost use Rattle.range_locks.specs.RangeTable.{Ranges};
 
     ghost Value = { List (ℕ × Ranges) };
 
     ghost view = { λ r. r.tables.items };
 
-    ghost invariant = { λ r. r.none.ranges ≡ [] };
+    ghost invariant = { λ r. (r.none.ranges ≡ []) × AllPairs (λ a b. a.0 < b.0) r.tables.items };
 }
 
 impl StreamRanges {
@@ -60,9 +63,12 @@ impl StreamRanges {
         ensures kept { KeepsRanges self.old self.new }
         ensures room { OnOk result (more ≤ room_at self.new stream) }
     {
+        if more == 0 {
+            return Ok(());
+        }
         match place_of(&self.tables, stream) {
-            None => push_table(self.alloc, &mut self.tables, stream, more),
-            Some(_) => reserve(&mut self.tables, stream, more),
+            Ok(place) => reserve_at(&mut self.tables, stream, place, more),
+            Err(place) => insert_table(self.alloc, &mut self.tables, stream, place, more),
         }
     }
 
@@ -96,60 +102,73 @@ impl StreamRanges {
     }
 }
 
-// The place of the table of this stream.
-fn place_of(tables: &[(u64, RangeTable)], stream: u64) -> Option<usize>
-    ensures { result ≡ position (λ entry. entry.0 == stream) tables.now }
+// The place of the table of this stream, or where it would stand, by binary search.
+fn place_of(tables: &[(u64, RangeTable)], stream: u64) -> Result<usize, usize>
+    requires rising { AllPairs (λ a b. a.0 < b.0) tables.now }
+    ensures there { IfOk result (λ place. IsAt tables.now stream place) }
+    ensures missing { IfErr result (λ place. StandsAt tables.now stream place) }
 {
-    tables.iter().position(|entry| entry.0 == stream)
+    tables.binary_search_by_key(&stream, |entry| entry.0)
 }
 
 // The table of this stream.
 fn find_table(tables: &[(u64, RangeTable)], stream: u64) -> Option<&RangeTable>
+    requires rising { AllPairs (λ a b. a.0 < b.0) tables.now }
     ensures { option_copied result ≡ row_of tables.now stream }
 {
-    tables
-        .iter()
-        .find(|entry| entry.0 == stream)
-        .map(|entry| &entry.1)
+    match place_of(tables, stream) {
+        Ok(place) => Some(&tables[place].1),
+        Err(_) => None,
+    }
 }
 
-// A table with so much room of a stream that has none.
-fn push_table(
+// A table with so much room of a stream that has none, and that would stand at this place.
+fn insert_table(
     alloc: Global,
     tables: &mut Vec<(u64, RangeTable)>,
     stream: u64,
+    place: usize,
     room: usize,
 ) -> Result<(), NoMemory>
-    requires { position (λ entry. entry.0 == stream) tables.old.items ≡ None }
+    requires rising { AllPairs (λ a b. a.0 < b.0) tables.old.items }
+    requires missing { StandsAt tables.old.items stream place }
+    ensures rising { AllPairs (λ a b. a.0 < b.0) tables.new.items }
     ensures kept { KeepsRanges tables.old.items tables.new.items }
     ensures room { OnOk result (room ≤ room_at tables.new.items stream) }
 {
     let mut table = RangeTable::new(alloc);
     table.reserve(room)?;
-    tables.push((stream, table))?;
+    tables.insert(place, (stream, table))?;
     Ok(())
 }
 
-// Takes room for so many more ranges of a stream with a table.
-fn reserve(tables: &mut [(u64, RangeTable)], stream: u64, more: usize) -> Result<(), NoMemory>
+// Takes room for so many more ranges of a stream whose table is at this place.
+fn reserve_at(
+    tables: &mut [(u64, RangeTable)],
+    stream: u64,
+    place: usize,
+    more: usize,
+) -> Result<(), NoMemory>
+    requires rising { AllPairs (λ a b. a.0 < b.0) tables.old }
+    requires there { IsAt tables.old stream place }
+    ensures rising { AllPairs (λ a b. a.0 < b.0) tables.new }
     ensures kept { KeepsRanges tables.old tables.new }
-    ensures room { OnOk result ((position (λ entry. entry.0 == stream) tables.old ≡ None) ⊎ (more ≤ room_at tables.new stream)) }
+    ensures room { OnOk result (more ≤ room_at tables.new stream) }
 {
-    let Some(place) = place_of(tables, stream) else {
-        return Ok(());
-    };
     tables[place].1.reserve(more)?;
     Ok(())
 }
 
 // Puts a range at the end of those of a stream.
 fn insert(tables: &mut [(u64, RangeTable)], stream: u64, range: Range)
-    requires { 1 ≤ room_at tables.old stream }
+    requires rising { AllPairs (λ a b. a.0 < b.0) tables.old }
+    requires room { 1 ≤ room_at tables.old stream }
+    ensures rising { AllPairs (λ a b. a.0 < b.0) tables.new }
     ensures ranges { AreSetIn tables.old tables.new stream (ranges_in tables.old stream ++ range ∷ []) }
     ensures left { room_at tables.old stream ≤ room_at tables.new stream + 1 }
     ensures others { (other : ℕ) → (other == stream) ≡ false → room_at tables.new other ≡ room_at tables.old other }
 {
-    let Some(place) = place_of(tables, stream) else {
+    let Ok(place) = place_of(tables, stream) else {
         unreachable!()
     };
     let Ok(()) = tables[place].1.insert(range) else {
@@ -165,25 +184,29 @@ fn remove(
     at: u64,
     count: u64,
 ) -> Option<u64>
+    requires rising { AllPairs (λ a b. a.0 < b.0) tables.old }
+    ensures rising { AllPairs (λ a b. a.0 < b.0) tables.new }
     ensures number { result ≡ first_id (is_range handle at count) (ranges_in tables.old stream) }
     ensures ranges { AreSetIn tables.old tables.new stream (without_first (is_range handle at count) (ranges_in tables.old stream)) }
     ensures room { (other : ℕ) → room_at tables.old other ≤ room_at tables.new other }
 {
     match place_of(tables, stream) {
-        None => None,
-        Some(place) => tables[place].1.remove(handle, at, count),
+        Err(_) => None,
+        Ok(place) => tables[place].1.remove(handle, at, count),
     }
 }
 
 // Takes all ranges of this handle out, and tells whether there were any.
 fn remove_all_of(tables: &mut [(u64, RangeTable)], stream: u64, handle: u64) -> bool
+    requires rising { AllPairs (λ a b. a.0 < b.0) tables.old }
+    ensures rising { AllPairs (λ a b. a.0 < b.0) tables.new }
     ensures some { result ≡ list_any (is_of handle) (ranges_in tables.old stream) }
     ensures ranges { AreSetIn tables.old tables.new stream (filter (λ range. not (is_of handle range)) (ranges_in tables.old stream)) }
     ensures room { (other : ℕ) → room_at tables.old other ≤ room_at tables.new other }
 {
     match place_of(tables, stream) {
-        None => false,
-        Some(place) => remove_from(&mut tables[place].1, handle),
+        Err(_) => false,
+        Ok(place) => remove_from(&mut tables[place].1, handle),
     }
 }
 
