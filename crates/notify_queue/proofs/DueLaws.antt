@@ -1,8 +1,9 @@
 -- What is due, from the parts of a log, and how many bytes it takes.
-use Rattle.std.proofs.Common.{◌≡◌, ℕ, zero, suc, ◌+◌, ◌*◌, ◌/◌, ◌<◌, ◌≤◌, Bool, true, false, cond, List, [], ◌∷◌, ◌++◌, length, take, drop, refl, ap, sym, ◌∙◌, rules, arith, inl, inr, Some, None}
-use Rattle.std.specs.Prelude.{◌==◌, ◌||◌, ◌&&◌, find, map, filter, reverse}
+use Rattle.std.proofs.Common.{◌≡◌, ℕ, zero, suc, ◌+◌, ◌*◌, ◌/◌, ◌<◌, ◌≤◌, Bool, true, false, cond, List, [], ◌∷◌, ◌++◌, length, take, drop, refl, ap, sym, ◌∙◌, arith, inl, inr, Some, None}
+use Rattle.std.specs.Prelude.{◌==◌, ◌||◌, ◌&&◌, find, is_some, map, nat_le, reverse, IfSome, Option}
+use Rattle.std.specs.List.{list_any}
 use Rattle.std.specs.Option.{option_map_or}
-use Rattle.std.proofs.lemmas.Bool.{cases_Bool}
+use Rattle.std.proofs.lemmas.Bool.{cases_Bool, lt-leb}
 use Rattle.std.proofs.lemmas.List.{drop-map, length-reverse}
 use Rattle.fsa_types.specs.Access.{has_any}
 use Rattle.fsa_types.specs.declared.reply.PackKind.TheVariants.{Changes}
@@ -54,6 +55,10 @@ asks-seen watch units dirs entry some_bit =
 abbrev pub path_of : Watch → List ℕ → List (ℕ × ℕ) → Entry → List ℕ
 path_of watch units dirs entry = take (written_for watch.dir (take entry.dirs (drop entry.first_dir dirs))) (take entry.units (drop entry.first_unit units))
 
+pub path-written : (watch : Watch) (units : List ℕ) (dirs : List (ℕ × ℕ)) (entry : Entry) (path : List ℕ) (written : ℕ) → written ≡ written_for watch.dir (take entry.dirs (drop entry.first_dir dirs))
+    → path ≡ take written (take entry.units (drop entry.first_unit units)) → path ≡ path_of watch units dirs entry
+path-written watch units dirs entry path written reached is = is ∙ ap (λ (n : ℕ). take n (take entry.units (drop entry.first_unit units))) reached
+
 told-name : (watch : Watch) (units : List ℕ) (dirs : List (ℕ × ℕ)) (entry : Entry) (path : List ℕ) → path ≡ path_of watch units dirs entry → (told watch units dirs entry).1 ≡ reverse path
 told-name watch units dirs entry path is =
     name-written (take entry.units (drop entry.first_unit units)) watch.dir (take entry.dirs (drop entry.first_dir dirs)) ∙ ap (λ (name : List ℕ). reverse name) (sym is)
@@ -68,7 +73,42 @@ pub row-told : (watch : Watch) (units : List ℕ) (dirs : List (ℕ × ℕ)) (en
     → rows_of (cond (asks_for watch units dirs entry) (told watch units dirs entry ∷ []) []) ≡ change_row entry.action (reverse path) ∷ []
 row-told watch units dirs entry path asked is = rw asked (ap (λ (name : List ℕ). change_row entry.action name ∷ []) (told-name watch units dirs entry path is))
 
+-- ---- ancestors that are looked for
+
+-- what a look for the directory gives tells both whether it is one of these, and the place
+pub among-written : (dir : ℕ) (seen : List (ℕ × ℕ)) (found : Option (ℕ × ℕ)) → found ≡ find (λ (ancestor : ℕ × ℕ). ancestor.0 == dir) seen
+    → (is_some found ≡ list_any (λ (ancestor : ℕ × ℕ). ancestor.0 == dir) seen) × IfSome found (λ ancestor. ancestor.1 ≡ written_for dir seen)
+among-written dir [] found is = rw is (refl, tt)
+among-written dir (ancestor ∷ seen) found is = elim (cases_Bool (ancestor.0 == dir)) [
+  | inl here ↦ (let first : found ≡ Some ancestor = rw here at is in rw (first, here) (refl, refl))
+  | inr other ↦ (let rest = among-written dir seen found (rw other at is) in rw other rest)
+]
+
+-- ---- whether something is due
+
+pub some-due : (watch : Watch) (units : List ℕ) (dirs : List (ℕ × ℕ)) (entries : List Entry)
+    → list_any (asks_for watch units dirs) entries ≡ is_some (size_due (due_among watch units dirs entries))
+some-due watch units dirs [] = refl
+some-due watch units dirs (entry ∷ entries) = elim (cases_Bool (asks_for watch units dirs entry)) [
+  | inl is ↦ rw is refl
+  | inr isnt ↦ rw isnt (some-due watch units dirs entries)
+]
+
+pub asks-more : (watch : Watch) (units : List ℕ) (dirs : List (ℕ × ℕ)) (entry : Entry) (more : List Entry) → asks_for watch units dirs entry ≡ false
+    → list_any (asks_for watch units dirs) more ≡ list_any (asks_for watch units dirs) (entry ∷ more)
+asks-more watch units dirs entry more isnt = rw isnt refl
+
 -- ---- sizes
+
+-- what comes behind them makes them no less
+pub size_from-least : (size : ℕ) (due : List (ℕ × List ℕ)) → size ≤ size_from size due
+size_from-least size [] = omega arith
+size_from-least size (change ∷ changes) =
+    let rest = size_from-least (rounded size + size_of change) changes in
+    omega (arith, rest)
+
+pub fits-not : (room size : ℕ) (due : List (ℕ × List ℕ)) → room < size → nat_le (size_from size due) room ≡ false
+fits-not room size due above = let least = size_from-least size due in lt-leb (size_from size due) room (omega arith)
 
 entry-size : (change : ℕ × List ℕ) → size_of_entry Changes (packed Changes (change_row change.0 change.1)) ≡ size_of change
 entry-size change = omega (arith, length-name_of Changes change.1)

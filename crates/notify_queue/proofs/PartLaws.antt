@@ -1,14 +1,14 @@
 -- What is gone from the front of a log: what is left is as it was.
-use Rattle.std.proofs.Common.{◌≡◌, ℕ, zero, suc, ◌+◌, ◌-◌, ◌≤◌, ◌<◌, List, [], ◌∷◌, ◌++◌, length, take, drop, get_or, refl, ap, sym, subst, ◌∙◌, arith, length-drop}
-use Rattle.std.specs.Prelude.{map, filter, slice_get, All, OnErr, Option, Some, None}
+use Rattle.std.proofs.Common.{◌≡◌, ℕ, zero, suc, ◌+◌, ◌-◌, ◌≤◌, ◌<◌, List, [], ◌∷◌, ◌++◌, length, take, drop, get_or, refl, ap, sym, ◌∙◌, arith, length-drop}
+use Rattle.std.specs.Prelude.{map, filter, slice_get, All, OnErr, Some, None}
 use Rattle.std.proofs.Common.{Result, Ok, Err}
 use Rattle.std.proofs.lemmas.Bool.{ne_eqb}
 use Rattle.std.proofs.lemmas.List.{drop-map, length-append}
-use Rattle.std.proofs.lemmas.List.Elements.{All-cons, All-nil, All-push}
+use Rattle.std.proofs.lemmas.List.Elements.{All-cons, All-nil}
 use Rattle.fsa_model.specs.Volume.{Change}
 use Rattle.fsa_model.specs.Watching.{is_asked_by, packed_changes, told_from}
 use Rattle.notify_queue.specs.Due.{asks_for_last, due_of, row_of_watch, size_due}
-use Rattle.notify_queue.specs.Log.{AreLaid, Holds, IsLog, IsTrimmed, Log, Part, change_of, changes_before, changes_of, moved, relative, start_of, units_in}
+use Rattle.notify_queue.specs.Log.{AreLaid, Holds, IsLog, IsTrimmed, Log, Part, change_of, changes_before, changes_of, moved, start_of, units_in}
 use Rattle.notify_queue.specs.declared.part.Entry.{Entry}
 use Rattle.notify_queue.specs.declared.watch.Watch.{Watch}
 use Rattle.notify_queue.proofs.DueLaws.{size_due-is}

@@ -12,6 +12,7 @@
 //! log.finish(ADDED, FILE_NAME);       // noted
 //!
 //! let mut watch = Watch { dir: 1, filter: FILE_NAME, tree: true, from: 0 };
+//! watch.is_something_due(&log);       // true
 //! watch.due_size(&log);               // Some(18): one entry with `a\b`
 //! watch.take(alloc, &log, 64)?;       // its bytes; nothing is due now
 //! ```
@@ -28,8 +29,10 @@
 //!   has no bytes, and which only proofs read.
 //! - Once a change is noted, `asks_for_last` tells whether it is due to a watch, so that who keeps the watches to
 //!   which nothing is due needs no look at the changes before.
-//! - `due_size` and `take` take time linear in the changes from the watch's place on and in their ancestors,
-//!   and `take` also in what it gives. Only `take` takes memory, and only where what is due fits the room.
+//! - The changes are looked at from the watch's place on, each by its bits first and then once along its ancestors:
+//!   `due_size` looks at all of them, `is_something_due` no further than to the first that is due, and `take` no further
+//!   than to where what is due exceeds the room, or twice at all of them where it fits. Only `take` takes memory, and
+//!   only where what is due fits the room.
 #![tactic(auto)]
 
 mod log;

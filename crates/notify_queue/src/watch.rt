@@ -1,6 +1,6 @@
 //! Watches of directories.
 
-ghost use Rattle.std.specs.Prelude.{ℕ, List, ◌≡◌, ◌≤◌, ◌<◌, ◌+◌, ◌-◌, ◌*◌, ◌^◌, ◌==◌, ◌++◌, ◌∷◌, [], All, cond, drop, find, length, map, reverse, take, IfOk, OnErr, OnOk};
+ghost use Rattle.std.specs.Prelude.{ℕ, List, ◌≡◌, ◌≤◌, ◌<◌, ◌+◌, ◌-◌, ◌*◌, ◌^◌, ◌==◌, ◌++◌, ◌∷◌, [], All, cond, drop, find, is_some, length, map, nat_le, reverse, take, IfOk, IfSome, OnErr, OnOk};
 ghost use Rattle.std.specs.List.{list_any};
 ghost use Rattle.std.specs.Option.{option_copied};
 ghost use Rattle.fsa_types.specs.Access.{has_any};
@@ -37,6 +37,16 @@ impl Watch {
         let held = log.held();
         let size = size_of_due(&behind(*self, held.gone), held.part);
         if size == 0 { None } else { Some(size) }
+    }
+
+    /// Whether something is due. No change before the log's base is due to the watch. It looks no further than the first
+    /// change that is due, and takes no memory.
+    pub fn is_something_due(&self, log: &ChangeLog) -> bool
+        requires kept { log.now.base ≤ self.now.from }
+        ensures { result ≡ is_some (size_due (due_of log.now.changes self.now)) }
+    {
+        let held = log.held();
+        is_something_due(&behind(*self, held.gone), held.part)
     }
 
     /// Whether the last change, which has to be kept, is one that the watch asks for, wherever its place. It takes
@@ -105,10 +115,28 @@ fn packed_within(
     ensures packed { IfOk result (λ packed. packed ≡ packed_within (due_of log.now.changes watch.now) room) }
     ensures within { OnErr result (length (packed_changes (due_of log.now.changes watch.now)) ≤ room) }
 {
-    if size_of_due(watch, log) > room as u64 {
+    if !fits(watch, log, room as u64) {
         return Ok(None);
     }
     Ok(Some(packed_due(alloc, watch, log)?))
+}
+
+// Whether a report of what is due takes at most so many bytes.
+fn fits(watch: &Watch, log: &LogPart, room: u64) -> bool
+    ensures { result ≡ nat_le (length (packed_changes (due_of log.now.changes watch.now))) room }
+{
+    let pieces = log.pieces();
+    let entries = from_place(pieces.entries, watch.from);
+    fits_among(watch, entries, pieces.units, pieces.dirs, room)
+}
+
+// Whether something is due.
+fn is_something_due(watch: &Watch, log: &LogPart) -> bool
+    ensures { result ≡ is_some (size_due (due_of log.now.changes watch.now)) }
+{
+    let pieces = log.pieces();
+    let entries = from_place(pieces.entries, watch.from);
+    asks_among(watch, entries, pieces.dirs)
 }
 
 // How many bytes a report of what is due takes.
@@ -165,6 +193,46 @@ fn size_among(watch: &Watch, entries: &[Entry], units: &[u16], dirs: &[(u64, usi
     size
 }
 
+// Whether a report of what is due of these entries takes at most so many bytes. It looks no further than to where it
+// takes more.
+fn fits_among(
+    watch: &Watch,
+    entries: &[Entry],
+    units: &[u16],
+    dirs: &[(u64, usize)],
+    room: u64,
+) -> bool
+    requires lie { All (λ entry. (entry.first_unit + entry.units ≤ length units.now) × (entry.first_dir + entry.dirs ≤ length dirs.now)) entries.now }
+    requires few { 15 * length entries.now + 2 * units_in entries.now < 2 ^ 64 }
+    ensures { result ≡ nat_le (size_from 0 (due_among watch.now units.now dirs.now entries.now)) room }
+{
+    let mut rest = entries;
+    let mut size = 0;
+    'entries: while let Some((entry, more)) = rest.split_first() {
+        size = size_with(size, watch, entry, units, dirs);
+        if size > room {
+            return false;
+        }
+        rest = more;
+    }
+    true
+}
+
+// Whether the watch asks for the change of one of these entries.
+fn asks_among(watch: &Watch, entries: &[Entry], dirs: &[(u64, usize)]) -> bool
+    requires lie { All (λ entry. entry.first_dir + entry.dirs ≤ length dirs.now) entries.now }
+    ensures { (units : List ℕ) → result ≡ list_any (asks_for watch.now units dirs.now) entries.now }
+{
+    let mut rest = entries;
+    'entries: while let Some((entry, more)) = rest.split_first() {
+        if asks_for(watch, entry, dirs) {
+            return true;
+        }
+        rest = more;
+    }
+    false
+}
+
 // The rows of what is due of these entries.
 fn rows_among(
     alloc: Global,
@@ -192,10 +260,10 @@ fn size_with(size: u64, watch: &Watch, entry: &Entry, units: &[u16], dirs: &[(u6
     ensures size { result ≡ cond (asks_for watch.now units.now dirs.now entry.now) (rounded size + size_of (told watch.now units.now dirs.now entry.now)) size }
     ensures bound { result ≤ size + 15 + 2 * entry.now.units }
 {
-    if !asks_for(watch, entry, dirs) {
+    let Some(written) = asked_written(watch, entry, dirs) else {
         return size;
-    }
-    let name = path_for(watch.dir, entry, units, dirs);
+    };
+    let name = path_written(entry, units, written);
     (size + 3) / 4 * 4 + 12 + 2 * name.len() as u64
 }
 
@@ -211,10 +279,10 @@ fn push_row(
     requires lies { (entry.now.first_unit + entry.now.units ≤ length units.now) × (entry.now.first_dir + entry.now.dirs ≤ length dirs.now) }
     ensures { OnOk result (rows.new.items ≡ rows.old.items ++ rows_of (cond (asks_for watch.now units.now dirs.now entry.now) (told watch.now units.now dirs.now entry.now ∷ []) [])) }
 {
-    if !asks_for(watch, entry, dirs) {
+    let Some(written) = asked_written(watch, entry, dirs) else {
         return Ok(());
-    }
-    let name = reversed(alloc, path_for(watch.dir, entry, units, dirs))?;
+    };
+    let name = reversed(alloc, path_written(entry, units, written))?;
     rows.push(ChangeRow {
         action: entry.action,
         name,
@@ -227,11 +295,21 @@ fn asks_for(watch: &Watch, entry: &Entry, dirs: &[(u64, usize)]) -> bool
     requires lies { entry.now.first_dir + entry.now.dirs ≤ length dirs.now }
     ensures { (units : List ℕ) → result ≡ asks_for watch.now units dirs.now entry.now }
 {
+    asked_written(watch, entry, dirs).is_some()
+}
+
+// Where the watch asks for the change of this entry, how much of its path was written when the watch's directory was
+// reached.
+fn asked_written(watch: &Watch, entry: &Entry, dirs: &[(u64, usize)]) -> Option<usize>
+    requires lies { entry.now.first_dir + entry.now.dirs ≤ length dirs.now }
+    ensures asked { (units : List ℕ) → is_some result ≡ asks_for watch.now units dirs.now entry.now }
+    ensures written { IfSome result (λ written. written ≡ written_for watch.now.dir (take entry.now.dirs (drop entry.now.first_dir dirs.now))) }
+{
     if !has_any(entry.bits, watch.filter) {
-        return false;
+        return None;
     }
     let seen = &dirs[entry.first_dir..entry.first_dir + entry.dirs];
-    is_seen(seen, watch.dir, watch.tree)
+    seen_written(seen, watch.dir, watch.tree)
 }
 
 // Whether some of these bits are set.
@@ -241,41 +319,32 @@ fn has_any(bits: u32, filter: u32) -> bool
     bits & filter != 0
 }
 
-// Whether the directory is the first of these, or, where the whole tree counts, any of them.
-fn is_seen(seen: &[(u64, usize)], dir: u64, tree: bool) -> bool
-    ensures { result ≡ is_seen_among dir tree seen.now }
+// Where the directory is the first of these, or, where the whole tree counts, any of them, how much of the path was
+// written when it was reached.
+fn seen_written(seen: &[(u64, usize)], dir: u64, tree: bool) -> Option<usize>
+    ensures seen { is_some result ≡ is_seen_among dir tree seen.now }
+    ensures written { IfSome result (λ written. written ≡ written_for dir seen.now) }
 {
-    match seen.split_first() {
-        None => false,
-        Some((parent, above)) => parent.0 == dir || (tree && has_dir(above, dir)),
+    let Some((parent, above)) = seen.split_first() else {
+        return None;
+    };
+    if parent.0 == dir {
+        return Some(parent.1);
     }
+    if !tree {
+        return None;
+    }
+    written_among(above, dir)
 }
 
-// Whether the directory is one of these.
-fn has_dir(seen: &[(u64, usize)], dir: u64) -> bool
-    ensures { result ≡ list_any (λ ancestor. ancestor.0 == dir) seen.now }
-{
-    seen.iter().any(|ancestor| ancestor.0 == dir)
-}
-
-// The path of the entry relative to the directory, from its last unit to its first.
-fn path_for<'a>(dir: u64, entry: &Entry, units: &'a [u16], dirs: &[(u64, usize)]) -> &'a [u16]
-    requires lies { (entry.now.first_unit + entry.now.units ≤ length units.now) × (entry.now.first_dir + entry.now.dirs ≤ length dirs.now) }
-    ensures path { result.now ≡ take (written_for dir (take entry.now.dirs (drop entry.now.first_dir dirs.now))) (take entry.now.units (drop entry.now.first_unit units.now)) }
-    ensures short { length result.now ≤ entry.now.units }
-{
-    let seen = &dirs[entry.first_dir..entry.first_dir + entry.dirs];
-    let path = &units[entry.first_unit..entry.first_unit + entry.units];
-    first_units(path, written_for(seen, dir))
-}
-
-// How much of the path was written when the directory was reached; 0 where it wasn't.
-fn written_for(seen: &[(u64, usize)], dir: u64) -> usize
-    ensures { result ≡ written_for dir seen.now }
+// Where the directory is one of these, how much of the path was written when it was reached.
+fn written_among(seen: &[(u64, usize)], dir: u64) -> Option<usize>
+    ensures seen { is_some result ≡ list_any (λ ancestor. ancestor.0 == dir) seen.now }
+    ensures written { IfSome result (λ written. written ≡ written_for dir seen.now) }
 {
     match find_dir(seen, dir) {
-        None => 0,
-        Some(ancestor) => ancestor.1,
+        None => None,
+        Some(ancestor) => Some(ancestor.1),
     }
 }
 
@@ -284,6 +353,16 @@ fn find_dir(seen: &[(u64, usize)], dir: u64) -> Option<&(u64, usize)>
     ensures { option_copied result ≡ find (λ ancestor. ancestor.0 == dir) seen.now }
 {
     seen.iter().find(|ancestor| ancestor.0 == dir)
+}
+
+// The first units of the path of the entry, so many: from its last unit to its first.
+fn path_written<'a>(entry: &Entry, units: &'a [u16], written: usize) -> &'a [u16]
+    requires lies { entry.now.first_unit + entry.now.units ≤ length units.now }
+    ensures path { result.now ≡ take written (take entry.now.units (drop entry.now.first_unit units.now)) }
+    ensures short { length result.now ≤ entry.now.units }
+{
+    let path = &units[entry.first_unit..entry.first_unit + entry.units];
+    first_units(path, written)
 }
 
 // The first units, as many as there are.

@@ -1,4 +1,4 @@
-use Rattle.std.proofs.Common.{◌≡◌, ◌-◌, ◌∙◌, arith, length}
+use Rattle.std.proofs.Common.{◌-◌, arith}
 use Rattle.std.proofs.lemmas.List.{length-append}
 use Rattle.notify_queue.specs.Log.{changes_before}
 use Rattle.notify_queue.proofs.PartLaws.{IsTrimmed-less, all-same}

@@ -1,8 +1,6 @@
-use Rattle.std.proofs.Common.{◌∙◌, ap, length, List, ℕ}
+use Rattle.std.proofs.Common.{List, ℕ}
 use Rattle.std.specs.Prelude.{Option}
 use Rattle.fsa_types.specs.declared.memory.NoMemory.{NoMemory}
-use Rattle.fsa_model.specs.Watching.{packed_changes}
-use Rattle.notify_queue.specs.Due.{due_of, packed_within}
 use Rattle.notify_queue.proofs.PartLaws.{OnErr-any, due-same}
 use Rattle.notify_queue.proofs.watch.Watch.take.Goals as goal
 
