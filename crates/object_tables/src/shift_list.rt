@@ -1,4 +1,4 @@
-//! Items in order, with spare room, of which the fewer move.
+//! Items in order, with spare room, of which the fewer move as one comes or goes.
 
 ghost use Rattle.std.specs.Prelude.{◌≡◌, ◌≤◌, ◌<◌, ◌+◌, ◌-◌, ◌++◌, ◌∷◌, [], true, false, IsOk, OnOk, drop, length, slice_index_or};
 ghost use Rattle.std.specs.Fn.{CalledAt};
@@ -81,7 +81,7 @@ impl<T: Copy> ShiftList<T> {
     }
 
     /// Puts an item at a place, before the one that stands there, or at the end. There has to be room for it. It
-    /// takes no memory.
+    /// takes no memory. The items before the place move where they are fewer and a slot before them is free.
     pub fn insert(&mut self, place: usize, item: T)
         requires room { 1 ≤ self.old.room }
         requires place { place ≤ length self.old.items }
@@ -149,7 +149,7 @@ impl<T: Copy> ShiftList<T> {
     }
 }
 
-// Moves the items from `start` on down to the first slot, if it shall, and gives where they begin then.
+// Where `now` says so, moves the items from `start` on down to the first slot. Gives where they begin then.
 fn settle<T: Copy>(slots: &mut Vec<T>, start: usize, now: bool) -> usize
     requires { start ≤ vec_len slots.old }
     ensures items { drop result slots.new.items ≡ drop start slots.old.items }
@@ -167,7 +167,8 @@ fn settle<T: Copy>(slots: &mut Vec<T>, start: usize, now: bool) -> usize
     }
 }
 
-// Takes room for `more` items behind those from `start` on. Where there is no memory, the slots before them do.
+// Takes room for `more` items behind those from `start` on. Where there is no memory, the free slots before them count
+// too.
 fn grow<T: Copy>(slots: &mut Vec<T>, start: usize, more: usize) -> Result<(), NoMemory>
     requires { start ≤ vec_len slots.old }
     ensures items { slots.new.items ≡ slots.old.items }
