@@ -1,6 +1,7 @@
 -- What ends with a handle is lost to the calls that wait for it.
 use Rattle.std.proofs.Common.{◌≡◌, ℕ, suc, ◌+◌, ◌<◌, Bool, true, false, not, List, [], ◌∷◌, ◌++◌, length, get_or, take, refl, ap, sym, ◌∙◌, arith}
-use Rattle.std.specs.Prelude.{◌==◌, ◌&&◌, ◌||◌, is_some}
+use Rattle.std.specs.Prelude.{◌==◌, ◌&&◌, ◌||◌, filter, is_some}
+use Rattle.std.specs.List.{list_any}
 use Rattle.std.proofs.Math.Seq.{take-suc}
 use Rattle.std.proofs.lemmas.List.Folds.{list_any-append}
 use Rattle.fsa_types.specs.declared.reply.Blocker.{Blocker}
@@ -8,6 +9,7 @@ use Rattle.fsa_types.specs.declared.reply.Blocker.TheVariants.{Break, Lock as Lo
 use Rattle.fsa_model.specs.Volume.{Lock, Oplock}
 use Rattle.fsa_model.specs.Waiting.{is_breaking}
 use Rattle.fsa_model.proofs.RowLaws.{or-false}
+use Rattle.key_index.proofs.RowLaws.{any-both}
 use Rattle.pending_queue.specs.PendingQueue.{is_same, with_ended}
 use Rattle.pending_queue.proofs.HeldLaws.{among-ended, among-same}
 use Rattle.volume_breaks.specs.Calls.{AreHeld, Calls, LoseBlockers, is_lock_of, is_break_of}
@@ -65,6 +67,19 @@ locks-more old mid new locks place handle lock within read before one =
     let more : take (place + 1) locks ≡ take place locks ++ lock ∷ [] = ap (λ n. take n locks) next ∙ take-suc locks place lock within ∙ ap (λ last. take place locks ++ last ∷ []) (sym read) in
     lose-both old mid new (is_lock_of (take place locks) handle) (is_lock_of (lock ∷ []) handle) (is_lock_of (take (place + 1) locks) handle) before one
     (λ b. ap (λ those. is_lock_of those handle b) more ∙ locks-append (take place locks) (lock ∷ []) handle b)
+
+-- what has the same locks of a handle loses the same
+pub lose-same : (old new : Calls) (some all : List (ℕ × Lock)) (handle : ℕ) → filter (λ entry. entry.1.handle == handle) some ≡ filter (λ entry. entry.1.handle == handle) all
+    → LoseBlockers (is_lock_of some handle) old new → LoseBlockers (is_lock_of all handle) old new
+lose-same old new some all handle own lost = λ alive held.
+    held-equal (λ b. alive b && not (is_lock_of some handle b)) (λ b. alive b && not (is_lock_of all handle b)) new (λ b. ap (λ gone. alive b && not gone) (same b)) (lost alive held)
+  where
+    same : (b : Blocker) → is_lock_of some handle b ≡ is_lock_of all handle b
+    same (LockOf number) =
+        any-both (λ (entry : ℕ × Lock). entry.1.handle == handle) (λ entry. entry.0 == number) some
+        ∙ ap (list_any (λ (entry : ℕ × Lock). entry.0 == number)) own
+        ∙ sym (any-both (λ (entry : ℕ × Lock). entry.1.handle == handle) (λ entry. entry.0 == number) all)
+    same (Break number) = refl
 
 -- ---- breaks
 

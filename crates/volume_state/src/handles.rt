@@ -63,7 +63,7 @@ impl Volume {
         ensures beside { self.new.beside ≡ self.old.beside }
         ensures room { IsNoLess self.old.spare self.new.spare }
     {
-        release_locks(&mut self.pending, self.handles.locks(), handle);
+        release_locks(&mut self.pending, self.handles.locks_beside(handle), handle);
         release_breaks(&mut self.pending, self.oplocks.as_slice(), handle);
         self.oplocks.drop_of(&self.handles, handle);
         self.handles.remove(handle);

@@ -149,6 +149,18 @@ pub none-held : (handles : List (ℕ × Handle)) (locks : List (ℕ × Lock)) (t
 none-held handles locks tables None gone is own none = (let impossible : true ≡ false = none in cc)
 none-held handles locks tables (Some s) gone is own none = none-locked handles locks gone s (sym own) (rw (is.ranges s) at none)
 
+apart-none : {X : Type 0} (p : X → Bool) (xs : List X) → filter p (filter (λ x. not (p x)) xs) ≡ []
+apart-none p [] = refl
+apart-none p (x ∷ xs) = elim (cases_Bool (p x)) [
+  | inl passes ↦ rw passes (apart-none p xs)
+  | inr fails ↦ rw (fails, fails) (apart-none p xs)
+]
+
+pub none-own : (handles : List (ℕ × Handle)) (locks : List (ℕ × Lock)) (tables : List (ℕ × Ranges)) (stream : Option ℕ) (handle : ℕ) → AreTabled handles locks tables → stream ≡ stream_of_handle handles handle
+    → option_map_or (λ own. list_any (is_of handle) (ranges_in tables own)) stream true ≡ false → filter (λ entry. entry.1.handle == handle) locks ≡ []
+none-own handles locks tables stream handle is own none =
+    ap (filter (λ (entry : ℕ × Lock). entry.1.handle == handle)) (sym (none-held handles locks tables stream handle is own none)) ∙ apart-none (λ (entry : ℕ × Lock). entry.1.handle == handle) locks
+
 -- of the stream of a handle that is gone, or of another stream, its locks are taken out
 gone-ranges : (handles : List (ℕ × Handle)) (locks : List (ℕ × Lock)) (old new : List (ℕ × Ranges)) (gone stream : ℕ) → AreTabled handles locks old
     → ((own : ℕ) → stream_of_handle handles gone ≡ Some own → AreSetIn old new own (filter (λ range. not (is_of gone range)) (ranges_in old own)))

@@ -275,6 +275,18 @@ impl HandleTable {
         self.locks.as_slice()
     }
 
+    /// The locks of this handle with their numbers, in the order in which they were granted, and others between them.
+    /// There are none where the stream of the handle has none.
+    pub fn locks_beside(&self, handle: u64) -> &[(u64, LockRow)]
+        ensures { filter (λ entry. entry.1.handle == handle) result.now ≡ filter (λ entry. entry.1.handle == handle) self.now.locks }
+    {
+        if has_no_range(&self.table, &self.ranges, handle) {
+            &[]
+        } else {
+            self.locks()
+        }
+    }
+
     /// Takes the first lock of this handle on exactly this range out, and gives its number; `None`
     /// exactly where there is none. It takes no memory, and leaves the room for locks as it was.
     pub fn remove_lock(&mut self, handle: u64, at: u64, count: u64) -> Option<u64>
@@ -297,6 +309,16 @@ fn stream_of(table: &Table<HandleRow>, handle: u64) -> Option<u64>
 {
     let row = table.get(handle)?;
     row.stream
+}
+
+// Whether it is known that the stream of a handle has no ranges. Where the handle has no stream it isn't.
+fn has_no_range(table: &Table<HandleRow>, ranges: &StreamRanges, handle: u64) -> bool
+    ensures { result ≡ true → option_map_or (λ own. list_any (is_of handle) (ranges_in ranges.now own)) (stream_of_handle table.now.rows handle) true ≡ false }
+{
+    match stream_of(table, handle) {
+        None => false,
+        Some(own) => ranges.of(own).is_empty(),
+    }
 }
 
 // Takes a handle out of the table and of the index.
