@@ -24,11 +24,14 @@
 //! - The call has to be of its verb. Nothing is asked of the volume.
 //! - All memory is taken before the enumeration goes on or a watch begins or reports; nothing else changes. A report
 //!   that exceeds its room takes none.
-//! - Links are taken one after the other, until these alone fill the room. Each costs a binary search among the links
-//!   of the volume, marked or not, and so does each that is passed over; one that is taken costs three more for its
-//!   file and two for its default stream, but for a query of names.
-//! - Where something is due, a Notify looks once over the changes that were noted since its watch began or last
-//!   reported, and a report twice; each change costs its ancestor directories and its name.
+//! - Links are taken one after the other, until these alone fill the room. Each costs a search by its number among the
+//!   links of the volume, marked or not, and so does each that is passed over. One that is taken costs two more among
+//!   the files, and for its default stream a search by the file in the index of streams, one by number for each stream
+//!   of the file up to that one, and two for its length, but for a query of names. A search by number looks at one row
+//!   where no number between its own and the last one is missing, and else is a binary one.
+//! - Of the changes that were noted since its watch began or last reported, a Notify looks no further than to the first
+//!   that is due, and a report no further than to where they exceed its room, or twice at all of them where they fit.
+//!   Each change costs its ancestor directories, and one that is due its name.
 #![tactic(auto)]
 
 mod begun;

@@ -79,7 +79,7 @@ fn notify_due(alloc: Global, volume: &mut Volume, id: u64, room: u32) -> Tried
     ensures room { HasHoldRoom result volume.new.spare }
     ensures ends { KeepsEnds volume.old volume.new }
 {
-    if volume.due_size(id).is_some() {
+    if volume.is_something_due(id) {
         return match report(alloc, volume, id, room) {
             Ok(reply) => Tried::Done(reply),
             Err(NoMemory) => Tried::NoMemory,

@@ -10,7 +10,7 @@ ghost use Rattle.volume_rows.specs.Cursors.{cursor_of};
 
 use crate::places::{DOT, DOT_DOT, Place, parent_directory};
 use fsa_types::{DirKind, Name, NoMemory, TryCopy};
-use op_parts::{length_shown, shown_attributes};
+use op_parts::{length_shown, shown_attributes, space_shown};
 use pack_info::DirRow;
 use std::alloc::Global;
 use volume_state::{Cursor, Volume};
@@ -38,7 +38,7 @@ fn row_of(alloc: Global, volume: &Volume, file: u64, units: &[u16]) -> Result<Di
     ensures { IfOk result (λ row. row ≡ record { numbers = listed_numbers volume.now.content file; name = units.now }) }
 {
     let name = Name::copy_of(alloc, units)?;
-    let length = length_shown(volume, volume.default_stream(file));
+    let stream = volume.default_stream(file);
     let (creation, access, write, change) = match volume.file(file) {
         None => (0, 0, 0, 0),
         Some(row) => (row.creation, row.access, row.write, row.change),
@@ -48,8 +48,8 @@ fn row_of(alloc: Global, volume: &Volume, file: u64, units: &[u16]) -> Result<Di
         access,
         write,
         change,
-        length,
-        room: 4096 * ((length + 4095) / 4096),
+        length: length_shown(volume, stream),
+        room: space_shown(volume, stream),
         attributes: shown_attributes(volume, file),
         file,
         name,

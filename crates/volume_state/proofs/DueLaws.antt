@@ -1,8 +1,7 @@
 -- The least turn of a Notify to which something is due, by the watches.
-use Rattle.std.proofs.Common.{◌≡◌, ℕ, zero, suc, ◌+◌, ◌<◌, ◌≤◌, Bool, true, false, not, List, [], ◌∷◌, length, drop, get_or, refl, ap, sym, subst, ◌∙◌, arith, inl, inr, Option, Some, None, All}
-use Rattle.std.specs.Prelude.{◌==◌, ◌&&◌, ◌||◌, find, filter, map, nat_lt, option_and_then, option_map, slice_get, slice_index_or, if◌then◌else◌}
+use Rattle.std.proofs.Common.{◌≡◌, ℕ, zero, suc, ◌+◌, ◌<◌, ◌≤◌, Bool, true, false, List, [], ◌∷◌, length, drop, get_or, refl, ap, sym, subst, ◌∙◌, arith, inl, inr, Option, Some, None, All}
+use Rattle.std.specs.Prelude.{◌==◌, ◌&&◌, find, filter, map, nat_lt, option_map, slice_get, slice_index_or}
 use Rattle.std.specs.List.{list_any}
-use Rattle.std.specs.Option.{option_map_or}
 use Rattle.std.proofs.lemmas.List.{drop_all}
 use Rattle.std.proofs.lemmas.Bool.{cases_Bool, and_parts, eq-eqb, eqb-true, false≢true}
 use Rattle.fsa_types.specs.Rows.{row_of, IsNumbered}
@@ -10,15 +9,15 @@ use Rattle.fsa_types.specs.Sorting.{in_order}
 use Rattle.fsa_types.specs.declared.request.Request.TheVariants.{Notify}
 use Rattle.fsa_types.specs.declared.request.What.{What}
 use Rattle.fsa_types.specs.declared.request.What.TheVariants.{Ask}
-use Rattle.fsa_model.specs.Lookups.{file_of_link, handle_of, is_opened_by}
-use Rattle.fsa_model.specs.Volume.{Handle, Pending, Volume, Watch}
+use Rattle.fsa_model.specs.Lookups.{handle_of, is_opened_by}
+use Rattle.fsa_model.specs.Volume.{Pending, Volume}
 use Rattle.fsa_model.specs.Waiting.{has_due, is_notify_of, is_notify_on}
-use Rattle.fsa_model.specs.Watching.{dir_of, due, due_to, is_something_due, watch_of}
+use Rattle.fsa_model.specs.Watching.{due, is_something_due, watch_of}
 use Rattle.fsa_model.proofs.RowLaws.{find-all, find-any, option_cases}
 use Rattle.notify_queue.specs.Due.{due_of}
 use Rattle.volume_breaks.proofs.BreakLemmas.{drop-item}
 use Rattle.volume_state.specs.Waits.{asks_for_due, first_turn, is_due, lesser}
-use Rattle.volume_state.specs.Watches.{AreWatched, IsOfHandle, IsWatched, asking, is_due_on, watch_of_row}
+use Rattle.volume_state.specs.Watches.{AreWatched, IsWatched, asking, is_due_on, watch_of_row}
 use Rattle.volume_state.specs.declared.watch_row.WatchRow.{WatchRow}
 use Rattle.volume_state.proofs.HandleLaws.{number-passes}
 use Rattle.volume_state.proofs.OpenLaws.{find-passes}

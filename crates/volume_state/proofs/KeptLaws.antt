@@ -1,11 +1,11 @@
 -- The places from which watches are due lie between the base of the changes and their end.
-use Rattle.std.proofs.Common.{◌≡◌, ℕ, zero, suc, ◌+◌, ◌<◌, ◌≤◌, Bool, true, false, not, List, [], ◌∷◌, ◌++◌, length, get_or, refl, ap, sym, ◌∙◌, arith, inl, inr, Some, All}
-use Rattle.std.specs.Prelude.{◌==◌, ◌||◌, filter, find, map, min, if◌then◌else◌}
+use Rattle.std.proofs.Common.{◌≡◌, ℕ, zero, suc, ◌<◌, ◌≤◌, not, List, [], ◌∷◌, ◌++◌, length, get_or, refl, arith, inl, inr, Some, All}
+use Rattle.std.specs.Prelude.{◌==◌, ◌||◌, filter, find, map, min}
 use Rattle.std.proofs.lemmas.Bool.{cases_Bool}
 use Rattle.std.proofs.lemmas.List.{length-append}
 use Rattle.std.proofs.lemmas.List.Elements.{All-filter, All-map, All-push}
 use Rattle.fsa_types.specs.declared.request.What.{What}
-use Rattle.fsa_model.specs.Volume.{Change, Pending, Watch}
+use Rattle.fsa_model.specs.Volume.{Change, Pending}
 use Rattle.fsa_model.specs.Waiting.{is_notify_of}
 use Rattle.fsa_model.proofs.RowLaws.{find-all}
 use Rattle.notify_queue.specs.Due.{asks_for_last}

@@ -1,11 +1,11 @@
 -- What is known of the watches: what each change of a volume leaves of it, and what it tells of pending calls.
-use Rattle.std.proofs.Common.{◌≡◌, ℕ, suc, ◌+◌, Bool, true, false, not, List, [], ◌∷◌, ◌++◌, length, get_or, refl, ap, sym, subst, ◌∙◌, arith, inl, inr, ◌⊎◌, Option, Some, None, All}
-use Rattle.std.specs.Prelude.{◌==◌, ◌&&◌, ◌||◌, find, filter, fold, map, is_some, option_map, IfSome, if◌then◌else◌}
+use Rattle.std.proofs.Common.{◌≡◌, ℕ, suc, Bool, true, false, not, List, [], ◌∷◌, ◌++◌, length, get_or, refl, ap, sym, subst, ◌∙◌, arith, inl, inr, ◌⊎◌, Option, Some, None, All}
+use Rattle.std.specs.Prelude.{◌==◌, ◌&&◌, ◌||◌, find, filter, fold, map, is_some, option_map, IfSome}
 use Rattle.std.specs.List.{list_any}
 use Rattle.std.specs.Borrow.{Bor}
 use Rattle.std.specs.Option.{option_copied, option_map_or}
-use Rattle.std.proofs.lemmas.Bool.{cases_Bool, and_parts, eq-eqb, eqb-true, false≢true}
-use Rattle.std.proofs.lemmas.List.Elements.{All-cons, All-filter, All-map, All-push, All-weaker}
+use Rattle.std.proofs.lemmas.Bool.{cases_Bool, and_from, and_parts, eq-eqb, eqb-true, false≢true}
+use Rattle.std.proofs.lemmas.List.Elements.{All-cons, All-filter, All-map, All-push}
 use Rattle.fsa_types.specs.Rows.{lives, row_of, with_row_changed, without_row}
 use Rattle.fsa_types.specs.OplockLists.{effect_on}
 use Rattle.fsa_types.specs.Oplocks.{Effect, Stays, Ends, Begins, Lowers}
@@ -14,21 +14,25 @@ use Rattle.fsa_types.specs.declared.oplock.HandleSet.{HandleSet}
 use Rattle.fsa_types.specs.declared.request.Level.{Level}
 use Rattle.fsa_types.specs.declared.request.Level.TheVariants.{Nil}
 use Rattle.fsa_types.specs.declared.request.Request.TheVariants.{Notify}
+use Rattle.fsa_types.specs.declared.request.Call.{Call}
 use Rattle.fsa_types.specs.declared.request.What.{What}
 use Rattle.fsa_types.specs.declared.request.What.TheVariants.{Ask}
 use Rattle.fsa_types.specs.declared.reply.Blocker.{Blocker}
 use Rattle.fsa_types.specs.declared.status.Status.TheVariants.{OplockSwitchedToNewHandle}
-use Rattle.fsa_model.specs.Breaks.{chosen, oplocks_of, with_breaks, with_effect, with_oplocks, with_told, with_told_by}
+use Rattle.fsa_model.specs.Breaks.{chosen, with_breaks, with_effect, with_oplocks, with_told, with_told_by}
+use Rattle.fsa_model.specs.Close.{names}
 use Rattle.fsa_model.specs.Edits.{is_call, without_oplock}
 use Rattle.fsa_model.specs.Grant.{switched, with_call_ended, with_granted, with_switched}
-use Rattle.fsa_model.specs.Lookups.{file_of_link, has_row, is_opened_by}
+use Rattle.fsa_model.specs.Lookups.{file_of_link, has_row}
 use Rattle.fsa_model.specs.Sound.{is_of_living, is_stream_of_link}
 use Rattle.fsa_model.specs.Volume.{Change, Handle, Link, Oplock, Pending, Stream, Volume, Watch}
 use Rattle.fsa_model.specs.Waiting.{is_notify_of, is_notify_on}
 use Rattle.fsa_model.specs.Watching.{begun_at, dir_of, due, watch_of}
-use Rattle.fsa_model.proofs.RowLaws.{change_at, change_at-same, find-all, find-map, found-all, lives-found, none-all, option_cases, option_map-none}
+use Rattle.fsa_model.proofs.RowLaws.{any-weaker, change_at, change_at-same, find-all, find-map, find-none, found-all, lives-found, none-all, option_cases, option_map-none, or_right}
 use Rattle.notify_queue.specs.Due.{asks_for_last, due_of}
 use Rattle.notify_queue.proofs.QuietLaws.{quiet-end, quiet-more}
+use Rattle.volume_breaks.specs.CallIndex.{is_first_naming, is_naming}
+use Rattle.volume_state.proofs.HandleLaws.{no-least}
 use Rattle.volume_state.proofs.OpenLaws.{find-passes}
 use Rattle.volume_state.specs.Watches.{AreWatched, IsOfHandle, IsWatched, asked_by, asking, row_begun, row_noted, watch_of_row}
 use Rattle.volume_state.specs.declared.watch_row.WatchRow.{WatchRow}
@@ -427,4 +431,40 @@ pub linked-home : (links : List (ℕ × Link)) (link : ℕ) → (link == 0 || li
 linked-home links link living none = elim (cases_Bool (link == 0)) [
   | inl root ↦ some-none 1 (rw root at none)
   | inr other ↦ lives-found links link (rw other at living) (option_map-none (λ (row : Link). row.file) (row_of links link) (rw other at none))
+]
+
+-- ---- whether a Notify is pending on a handle
+
+-- a Notify on a handle names it
+notify-names : (handle : ℕ) (what : What) → is_notify_of handle what ≡ true → names what handle ≡ true
+notify-names handle (Ask (Notify other filter tree room)) is = is
+notify-names handle _ is = cc
+
+-- where no call is the first that names the handle, none is a Notify on it
+pub notify-unnamed : (pending : List (ℕ × Pending)) (client handle : ℕ) → None ≡ option_map (λ entry. entry.0) (find (is_first_naming pending client handle) pending)
+    → false ≡ list_any (λ entry. is_notify_on client handle entry.1) pending
+notify-unnamed pending client handle none =
+    let first : find (is_first_naming pending client handle) pending ≡ None = option_map-none (λ (entry : ℕ × Pending). entry.0) (find (is_first_naming pending client handle) pending) (sym none) in
+    let unnamed : list_any (λ (entry : ℕ × Pending). is_naming client handle entry.1) pending ≡ false
+    = no-least (λ (entry : ℕ × Pending). is_naming client handle entry.1) (λ entry. entry.0) pending (none-all (is_first_naming pending client handle) pending (find-none (is_first_naming pending client handle) pending first)) in
+    elim (cases_Bool (list_any (λ (entry : ℕ × Pending). is_notify_on client handle entry.1) pending)) [
+      | inl some ↦ absurd (false≢true (sym unnamed ∙ any-weaker (λ (entry : ℕ × Pending). is_notify_on client handle entry.1) (λ (entry : ℕ × Pending). is_naming client handle entry.1) pending
+          (λ entry is.
+          let parts = and_parts (entry.1.call.client == client) (is_notify_of handle entry.1.call.what) is in
+          and_from (entry.1.call.client == client) (names entry.1.call.what handle) parts.0 (notify-names handle entry.1.call.what parts.1))
+          some))
+      | inr isnt ↦ sym isnt
+    ]
+
+-- a call that is found under its turn is one of those that are pending
+pub notify-under : (pending : List (ℕ × Pending)) (turn client handle : ℕ) (call : Call) → Some call ≡ option_map (λ (row : Pending). row.call) (row_of pending turn)
+    → ((call.client == client) && is_notify_of handle call.what) ≡ true → list_any (λ entry. is_notify_on client handle entry.1) pending ≡ true
+notify-under [] turn client handle call found is = cc
+notify-under (entry ∷ pending) turn client handle call found is = elim (cases_Bool (entry.0 == turn)) [
+  | inl here ↦ (let same : Some call ≡ Some entry.1.call = rw here at found in
+      let own : call ≡ entry.1.call = cc in
+      let passes : is_notify_on client handle entry.1 ≡ true = rw own at is in
+      rw passes refl)
+  | inr other ↦ (let rest = notify-under pending turn client handle call (rw other at found) is in
+      or_right (is_notify_on client handle entry.1) (list_any (λ entry. is_notify_on client handle entry.1) pending) rest)
 ]

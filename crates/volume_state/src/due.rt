@@ -18,7 +18,7 @@ fn has_due(volume: &Volume, client: u32, handle: u32) -> bool
 {
     match volume.handle_of(client, handle) {
         None => false,
-        Some(id) => volume.due_size(id).is_some(),
+        Some(id) => volume.is_something_due(id),
     }
 }
 

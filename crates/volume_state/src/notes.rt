@@ -34,11 +34,7 @@ impl Volume {
         let name = row.name.units();
         self.changes
             .note(links, row.parent, name, suffix, action, bits);
-        pass_change(
-            &mut self.watches,
-            self.changes.log(),
-            self.pending.as_slice(),
-        );
+        pass_change(&mut self.watches, self.changes.log(), &self.pending);
     }
 }
 

@@ -1,6 +1,6 @@
 //! Watches of directories, and what is due to them.
 
-ghost use Rattle.std.specs.Prelude.{ℕ, All, false, ◌≡◌, ◌≤◌, ◌<◌, ◌+◌, ◌==◌, ◌||◌, [], IsTrue, IfOk, IfSome, IfNone, None, Some, OnErr, OnOk, find, is_some, length, map, min, option_map, true};
+ghost use Rattle.std.specs.Prelude.{ℕ, All, false, ◌≡◌, ◌≤◌, ◌<◌, ◌+◌, ◌==◌, ◌&&◌, ◌||◌, [], IsTrue, IfOk, IfSome, IfNone, None, Some, OnErr, OnOk, find, is_some, length, map, min, not, option_map, slice_index_or, slice_set, true};
 ghost use Rattle.std.specs.List.{list_any};
 ghost use Rattle.std.specs.Option.{option_copied};
 ghost use Rattle.fsa_types.specs.Rows.{lives, row_of};
@@ -8,17 +8,18 @@ ghost use Rattle.fsa_model.specs.Edits.{with_watch};
 ghost use Rattle.fsa_model.specs.Lookups.{file_of_link};
 ghost use Rattle.fsa_model.specs.Watching.{begun_at, dir_of, due, due_size, is_something_due, report, watch_of, with_watch_seen};
 ghost use Rattle.fsa_model.specs.Waiting.{is_notify_of, is_notify_on};
-ghost use Rattle.notify_queue.specs.Due.{due_of};
+ghost use Rattle.notify_queue.specs.Due.{asks_for_last, due_of};
 ghost use Rattle.volume_state.specs.Reports.{reply_of};
 ghost use Rattle.volume_state.specs.Room.{IsNoLess};
 ghost use Rattle.volume_state.specs.Watches.{asked_by, asking, least_place, row_begun, row_noted, watch_of_row, IsOfHandle};
 
 use crate::volume::Volume;
 use crate::watch_row::{WatchRow, find_watch};
-use fsa_types::{Bytes, NoMemory, Request, What};
+use fsa_types::{Bytes, Call, NoMemory, Request, What};
 use notify_queue::{ChangeLog, Watch};
 use object_tables::SpareList;
 use std::alloc::Global;
+use volume_breaks::PendingCalls;
 use volume_rows::PendingRow;
 use volume_tables::{HandleTable, LinkTable};
 
@@ -55,6 +56,17 @@ impl Volume {
         match self.watch_on(handle) {
             None => None,
             Some(watch) => watch.due_size(self.changes.log()),
+        }
+    }
+
+    /// Whether something is due to a handle; nothing is to one without a watch. It looks no further than the first
+    /// change that is due, and takes no memory.
+    pub fn is_something_due(&self, handle: u64) -> bool
+        ensures { result ≡ is_something_due self.now.content handle }
+    {
+        match self.watch_on(handle) {
+            None => false,
+            Some(watch) => watch.is_something_due(self.changes.log()),
         }
     }
 
@@ -208,24 +220,32 @@ fn new_row(
     }
 }
 
-// The row, where it is of this handle, from this place on, at which nothing is due.
-fn row_begun(row: WatchRow, handle: u64, place: u64) -> WatchRow
-    ensures { result ≡ row_begun handle place row }
+// The row, from this place on, at which nothing is due.
+fn begun(row: WatchRow, place: u64) -> WatchRow
+    ensures { result ≡ record row { from = place; due = false } }
+{
+    WatchRow {
+        handle: row.handle,
+        filter: row.filter,
+        tree: row.tree,
+        from: place,
+        dir: row.dir,
+        client: row.client,
+        number: row.number,
+        due: false,
+        asked: row.asked,
+    }
+}
+
+// Puts the row at this place from this place of the changes on, where it is of this handle.
+fn begin_row(watches: &mut SpareList<WatchRow>, i: usize, row: WatchRow, handle: u64, place: u64)
+    requires within { i < length watches.old.items }
+    requires row { row ≡ slice_index_or watches.old.items i row }
+    ensures items { watches.new.items ≡ slice_set watches.old.items i (row_begun handle place row) }
+    ensures room { watches.new.room ≡ watches.old.room }
 {
     if row.handle == handle {
-        WatchRow {
-            handle: row.handle,
-            filter: row.filter,
-            tree: row.tree,
-            from: place,
-            dir: row.dir,
-            client: row.client,
-            number: row.number,
-            due: false,
-            asked: row.asked,
-        }
-    } else {
-        row
+        watches.set(i, begun(row, place));
     }
 }
 
@@ -235,8 +255,8 @@ fn begin_at(watches: &mut SpareList<WatchRow>, handle: u64, place: u64)
     ensures room { watches.new.room ≡ watches.old.room }
 {
     for i in 0..watches.as_slice().len() {
-        let row = row_begun(watches.as_slice()[i], handle, place);
-        watches.set(i, row);
+        let row = watches.as_slice()[i];
+        begin_row(watches, i, row, handle, place);
     }
 }
 
@@ -262,15 +282,32 @@ fn is_notify_of(what: &What, handle: u32) -> bool
     }
 }
 
+// Whether a call is a Notify of this client on this handle.
+fn is_notify_by(call: &Call, client: u32, handle: u32) -> bool
+    ensures { result ≡ (call.now.client == client && is_notify_of handle call.now.what) }
+{
+    call.client == client && is_notify_of(&call.what, handle)
+}
+
 // Whether a pending call is a Notify on this handle of this client.
 pub(crate) fn is_notify_on(row: &PendingRow, client: u32, handle: u32) -> bool
     ensures { result ≡ is_notify_on client handle row.now }
 {
-    row.call.client == client && is_notify_of(&row.call.what, handle)
+    is_notify_by(&row.call, client, handle)
 }
 
-// Whether one of these is a Notify on this handle of this client.
-fn has_notify(pending: &[(u64, PendingRow)], client: u32, handle: u32) -> bool
+// Whether the call that is pending under this turn is a Notify on this handle of this client.
+fn is_notify_under(pending: &PendingCalls, turn: u64, client: u32, handle: u32) -> bool
+    ensures { result ≡ true → list_any (λ entry. is_notify_on client handle entry.1) pending.now.items ≡ true }
+{
+    match pending.call_of(turn) {
+        None => false,
+        Some(call) => is_notify_by(call, client, handle),
+    }
+}
+
+// Whether one of these is a Notify on this handle of this client, with a look at each.
+fn seek_notify(pending: &[(u64, PendingRow)], client: u32, handle: u32) -> bool
     ensures { result ≡ list_any (λ entry. is_notify_on client handle entry.1) pending.now }
 {
     pending
@@ -278,14 +315,31 @@ fn has_notify(pending: &[(u64, PendingRow)], client: u32, handle: u32) -> bool
         .any(|entry| is_notify_on(&entry.1, client, handle))
 }
 
-// The row, once the last change of the log was noted.
-fn row_noted(row: WatchRow, log: &ChangeLog, pending: &[(u64, PendingRow)]) -> WatchRow
-    requires kept { log.now.base < length log.now.changes }
-    ensures { result ≡ row_noted log.now.changes pending.now row }
+// The same, where the first call of this client that names the handle tells it.
+fn has_notify(pending: &PendingCalls, client: u32, handle: u32) -> bool
+    ensures { result ≡ list_any (λ entry. is_notify_on client handle entry.1) pending.now.items }
 {
-    if row.due || !asking(&row).asks_for_last(log) {
-        return row;
+    let Some(turn) = pending.first_naming(client, handle) else {
+        return false;
+    };
+    if is_notify_under(pending, turn, client, handle) {
+        return true;
     }
+    seek_notify(pending.as_slice(), client, handle)
+}
+
+// Whether the last change of the log makes something due to a row to which nothing was.
+fn is_newly_due(row: &WatchRow, log: &ChangeLog) -> bool
+    requires kept { log.now.base < length log.now.changes }
+    ensures { result ≡ not (row.now.due || not (asks_for_last (asking row.now) log.now.changes)) }
+{
+    !row.due && asking(row).asks_for_last(log)
+}
+
+// The row, once something is due to it: whether a Notify is pending on its handle.
+fn come_due(row: WatchRow, pending: &PendingCalls) -> WatchRow
+    ensures { result ≡ record row { due = true; asked = list_any (λ entry. is_notify_on row.client row.number entry.1) pending.now.items } }
+{
     WatchRow {
         handle: row.handle,
         filter: row.filter,
@@ -299,30 +353,46 @@ fn row_noted(row: WatchRow, log: &ChangeLog, pending: &[(u64, PendingRow)]) -> W
     }
 }
 
+// The row at this place, once the last change of the log was noted.
+fn note_row(
+    watches: &mut SpareList<WatchRow>,
+    i: usize,
+    row: WatchRow,
+    log: &ChangeLog,
+    pending: &PendingCalls,
+)
+    requires kept { log.now.base < length log.now.changes }
+    requires within { i < length watches.old.items }
+    requires row { row ≡ slice_index_or watches.old.items i row }
+    ensures items { watches.new.items ≡ slice_set watches.old.items i (row_noted log.now.changes pending.now.items row) }
+    ensures room { watches.new.room ≡ watches.old.room }
+{
+    if is_newly_due(&row, log) {
+        watches.set(i, come_due(row, pending));
+    }
+}
+
 // The watches, once the last change of the log was noted: which of them it is due to, and on which of those a Notify
 // is pending.
 pub(crate) fn pass_change(
     watches: &mut SpareList<WatchRow>,
     log: &ChangeLog,
-    pending: &[(u64, PendingRow)],
+    pending: &PendingCalls,
 )
     requires kept { log.now.base < length log.now.changes }
-    ensures items { watches.new.items ≡ map (row_noted log.now.changes pending.now) watches.old.items }
+    ensures items { watches.new.items ≡ map (row_noted log.now.changes pending.now.items) watches.old.items }
     ensures room { watches.new.room ≡ watches.old.room }
 {
     for i in 0..watches.as_slice().len() {
-        let row = row_noted(watches.as_slice()[i], log, pending);
-        watches.set(i, row);
+        let row = watches.as_slice()[i];
+        note_row(watches, i, row, log, pending);
     }
 }
 
-// The row, once this client has asked this.
-fn asked_by(row: WatchRow, client: u32, what: &What) -> WatchRow
-    ensures { result ≡ asked_by client what.now row }
+// The row, once a Notify may be pending on its handle.
+fn asked(row: WatchRow) -> WatchRow
+    ensures { result ≡ record row { asked = true } }
 {
-    if row.client != client || !is_notify_of(what, row.number) {
-        return row;
-    }
     WatchRow {
         handle: row.handle,
         filter: row.filter,
@@ -336,13 +406,25 @@ fn asked_by(row: WatchRow, client: u32, what: &What) -> WatchRow
     }
 }
 
+// The row at this place, once this client has asked this.
+fn ask_row(watches: &mut SpareList<WatchRow>, i: usize, row: WatchRow, client: u32, what: &What)
+    requires within { i < length watches.old.items }
+    requires row { row ≡ slice_index_or watches.old.items i row }
+    ensures items { watches.new.items ≡ slice_set watches.old.items i (asked_by client what.now row) }
+    ensures room { watches.new.room ≡ watches.old.room }
+{
+    if row.client == client && is_notify_of(what, row.number) {
+        watches.set(i, asked(row));
+    }
+}
+
 // The watches, once this call of this client is pending.
 pub(crate) fn ask_by(watches: &mut SpareList<WatchRow>, client: u32, what: &What)
     ensures items { watches.new.items ≡ map (asked_by client what.now) watches.old.items }
     ensures room { watches.new.room ≡ watches.old.room }
 {
     for i in 0..watches.as_slice().len() {
-        let row = asked_by(watches.as_slice()[i], client, what);
-        watches.set(i, row);
+        let row = watches.as_slice()[i];
+        ask_row(watches, i, row, client, what);
     }
 }

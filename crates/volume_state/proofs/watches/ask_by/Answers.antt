@@ -7,5 +7,5 @@ use Rattle.volume_state.proofs.watches.ask_by.Goals as goal
 pub loop-i-preserved : goal.loop-i-preserved
 loop-i-preserved c = record {
   items = grind (arith, common_steps, map_over_more (asked_by c.args.client c.args.what.now));
-  room = c.set.ensures.room ∙ c.loop-i.invariant.room;
+  room = c.ask_row.ensures.room ∙ c.loop-i.invariant.room;
 }

@@ -7,5 +7,5 @@ use Rattle.volume_state.proofs.watches.begin_at.Goals as goal
 pub loop-i-preserved : goal.loop-i-preserved
 loop-i-preserved c = record {
   items = grind (arith, common_steps, map_over_more (row_begun c.args.handle c.args.place));
-  room = c.set.ensures.room ∙ c.loop-i.invariant.room;
+  room = c.begin_row.ensures.room ∙ c.loop-i.invariant.room;
 }

@@ -2,7 +2,7 @@ use Rattle.std.proofs.Common.{List, ap, sym, ◌∙◌, arith}
 use Rattle.std.specs.Prelude.{map, min}
 use Rattle.volume_state.specs.Watches.{least_place, watch_of_row}
 use Rattle.volume_state.specs.declared.watch_row.WatchRow.{WatchRow}
-use Rattle.volume_state.proofs.KeptLaws.{least-end, least-first, least-step}
+use Rattle.volume_state.proofs.KeptLaws.{least-first, least-step}
 use Rattle.volume_state.proofs.watches.least_place.Goals as goal
 
 pub rows-init : goal.rows-init

@@ -6,6 +6,6 @@ use Rattle.volume_state.proofs.watches.pass_change.Goals as goal
 
 pub loop-i-preserved : goal.loop-i-preserved
 loop-i-preserved c = record {
-  items = grind (arith, common_steps, map_over_more (row_noted c.args.log.now.changes c.args.pending.now));
-  room = c.set.ensures.room ∙ c.loop-i.invariant.room;
+  items = grind (arith, common_steps, map_over_more (row_noted c.args.log.now.changes c.args.pending.now.items));
+  room = c.note_row.ensures.room ∙ c.loop-i.invariant.room;
 }

@@ -5,6 +5,6 @@ use Rattle.volume_state.proofs.watches.pass_change.Given as goal
 
 abbrev pub invariant-loop-i : goal.invariant-loop-i
 invariant-loop-i l = record {
-  items : l.watches.items ≡ map (row_noted l.log.changes l.pending) (take l.i l.fn.watches.items) ++ drop l.i l.fn.watches.items;
+  items : l.watches.items ≡ map (row_noted l.log.changes l.pending.items) (take l.i l.fn.watches.items) ++ drop l.i l.fn.watches.items;
   room : l.watches.room ≡ l.fn.watches.room;
 }

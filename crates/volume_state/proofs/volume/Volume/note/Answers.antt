@@ -16,9 +16,9 @@ invariant_of-self c = (
   c.self.invariant.1,
   c.self.invariant.2,
   c.self.invariant.3,
-  rw (c.pass_change.ensures.items, c.log.ensures.changes, c.as_slice.ensures, c.note.ensures.changes)
+  rw (c.pass_change.ensures.items, c.log.ensures.changes, c.note.ensures.changes)
       (watched-noted c.self.inside.handles.rows c.self.inside.links.rows c.self.inside.changes.changes _ c.self.inside.pending.items c.self.inside.watches.items c.self.invariant.4),
-  rw (c.pass_change.ensures.items, c.note.ensures.base, c.note.ensures.changes) (kept-noted c.self.inside.changes.base c.self.inside.changes.changes _ c.self.inside.watches.items c.log.result.now.changes c.as_slice.result.now c.self.invariant.5),
+  rw (c.pass_change.ensures.items, c.note.ensures.base, c.note.ensures.changes) (kept-noted c.self.inside.changes.base c.self.inside.changes.changes _ c.self.inside.watches.items c.log.result.now.changes c.self.inside.pending.items c.self.invariant.5),
 )
 
 pub returns-clause-content : goal.returns-clause-content
