@@ -8,6 +8,7 @@ ghost use Rattle.fsa_types.specs.OplockGrants.{after_answer, target_among};
 ghost use Rattle.fsa_types.specs.OplockLists.{after_breaks, awaited_among, number_of_break, without_oplock_of};
 ghost use Rattle.fsa_types.specs.Oplocks.{in_both};
 ghost use Rattle.oplock_state.specs.State.{Grants, has_oplock, taken_up};
+ghost use Rattle.oplock_state.specs.declared.stream_oplocks.Grant.TheVariants.{Granted};
 ghost use Rattle.volume_breaks.specs.Told.{told_all};
 
 use fsa_types::{Class, Level, NoMemory};
