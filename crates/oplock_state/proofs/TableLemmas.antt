@@ -1,21 +1,26 @@
 -- The tables of streams, where one of them changes.
-use Rattle.std.proofs.Common.{◌≡◌, ℕ, ◌+◌, ◌≤◌, Bool, true, false, not, List, [], ◌∷◌, ◌++◌, refl, ap, ◌∙◌, take, drop, arith, inl, inr, Option, Some, None}
+use Rattle.std.proofs.Common.{◌≡◌, ℕ, zero, suc, length, get_or, ◌+◌, ◌≤◌, Bool, true, false, not, List, [], ◌∷◌, ◌++◌, refl, ap, ◌∙◌, take, drop, arith, inl, inr, Option, Some, None}
 use Rattle.std.specs.Prelude.{◌==◌, ◌&&◌, ◌||◌, filter, if◌then◌else◌, option_map}
 use Rattle.std.specs.List.{list_any}
 use Rattle.std.proofs.lemmas.Bool.{cases_Bool}
-use Rattle.std.proofs.lemmas.List.Elements.{All-append, All-drop, All-take}
+use Rattle.std.specs.List.{All, insert}
+use Rattle.std.proofs.Math.ListN.{set}
+use Rattle.std.proofs.Math.Seq.{take-append_seam}
+use Rattle.std.proofs.lemmas.List.Elements.{All-cons, All-set}
+use Rattle.fsa_types.specs.Places.{IsAt, StandsAt}
+use Rattle.fsa_types.proofs.PlaceLemmas.{AreRising-insert}
 use Rattle.fsa_types.specs.Oplocks.{Oplock, in_both}
 use Rattle.fsa_types.specs.Rows.{row_of}
 use Rattle.fsa_types.specs.Sorting.{in_order}
 use Rattle.fsa_types.specs.declared.request.Level.{Level}
 use Rattle.fsa_model.proofs.RowLaws.{eqb-swap}
 use Rattle.oplock_state.specs.State.{Grants, State, has_oplock, taken_up}
-use Rattle.oplock_state.specs.Tables.{AreQuiet, GrantsAmong, rows_at, room_at, last_at, taken_by, IsStep}
+use Rattle.oplock_state.specs.Tables.{AreTables, GrantsAmong, rows_at, room_at, last_at, taken_by, IsStep}
 use Rattle.oplock_state.specs.declared.stream_oplocks.Grant.{Grant}
 use Rattle.oplock_state.specs.declared.stream_oplocks.Grant.TheVariants as grant
 use Rattle.oplock_state.specs.declared.stream_tables.Asked.{Asked}
 use Rattle.volume_breaks.specs.Marks.{is_marked, is_opened_before}
-use Rattle.volume_tables.proofs.PlaceLemmas.{IsPut}
+use Rattle.volume_tables.proofs.PlaceLemmas.{IsPut, rising-at}
 
 -- ---- what a key has where its table is known, and where it has none
 
@@ -122,10 +127,29 @@ pub first-kept : (level : Level) (number : ℕ) (target : Option Level) → opti
 first-kept level number None = refl
 first-kept level number (Some told) = refl
 
--- ---- no handle is chosen
+-- ---- the keys rise, and no handle is chosen
 
--- what stands in the place of the tables, and what is behind it
-pub quiet-seam : (n m : ℕ) (new old : List (ℕ × State)) → AreQuiet new → AreQuiet old → AreQuiet (take n (new ++ drop m old))
-quiet-seam n m new old quiet_new quiet_old =
-    All-take (λ entry. entry.1.marked ≡ []) n (new ++ drop m old)
-    (All-append (λ entry. entry.1.marked ≡ []) new (drop m old) quiet_new (All-drop (λ entry. entry.1.marked ≡ []) m old quiet_old))
+-- another table at the place of a key
+pub AreTables-put : (tables : List (ℕ × State)) (key i : ℕ) (d : ℕ × State) (table : State) → AreTables tables → IsAt tables key i → table.marked ≡ [] → AreTables (set tables i ((get_or tables i d).0, table))
+AreTables-put tables key i d table are at quiet = record {
+  rising = rising-at tables key i d table are.rising at;
+  quiet = All-set (λ entry. entry.1.marked ≡ []) tables i _ quiet are.quiet;
+}
+
+-- a table put in where its key stands
+quiet-insert : (tables : List (ℕ × State)) (key i : ℕ) (table : State) → i ≤ length tables → table.marked ≡ [] → All (λ entry. entry.1.marked ≡ []) tables → All (λ entry. entry.1.marked ≡ []) (insert tables i (key, table))
+quiet-insert tables key zero table within here quiet = All-cons (λ entry. entry.1.marked ≡ []) (key, table) tables here quiet
+quiet-insert [] key (suc i) table within here quiet = absurd (omega arith)
+quiet-insert (entry ∷ tables) key (suc i) table within here quiet =
+    All-cons (λ entry. entry.1.marked ≡ []) entry (insert tables i (key, table)) (quiet 0 entry (omega arith))
+    (quiet-insert tables key i table (omega arith) here (λ k d w. quiet (suc k) d (omega arith)))
+
+pub AreTables-insert : (tables : List (ℕ × State)) (key i : ℕ) (table : State) → AreTables tables → StandsAt tables key i → table.marked ≡ [] → AreTables (insert tables i (key, table))
+AreTables-insert tables key i table are at quiet = record {
+  rising = AreRising-insert tables key i table are.rising at;
+  quiet = quiet-insert tables key i table at.within quiet are.quiet;
+}
+
+-- what stands in the place of tables of which there are as many
+pub AreTables-seam : (n : ℕ) (new old : List (ℕ × State)) → n ≡ length new → AreTables new → AreTables (take n (new ++ drop (length new) old))
+AreTables-seam n new old as_many are = rw (as_many, take-append_seam new (drop (length new) old)) are

@@ -1,6 +1,6 @@
 -- The oplocks of a volume: one list of all, and for each stream or directory a table of its own, under a key, its
 -- home.
-use Rattle.std.specs.Prelude.{◌≡◌, ℕ, Bool, true, false, List, [], ◌∷◌, ◌+◌, ◌≤◌, ◌==◌, filter, All, AllPairs, IsSome, if◌then◌else◌}
+use Rattle.std.specs.Prelude.{◌≡◌, ℕ, Bool, true, false, List, [], ◌∷◌, ◌+◌, ◌≤◌, ◌<◌, ◌==◌, filter, All, AllPairs, IsSome, if◌then◌else◌}
 use Rattle.std.specs.Option.{option_map_or}
 use Rattle.fsa_types.specs.OplockGrants.{after_grant, is_refused_among, switched_among}
 use Rattle.fsa_types.specs.OplockLists.{without_oplock_of}
@@ -41,9 +41,10 @@ pub record IsStep (old new : List (ℕ × State)) (key : ℕ) (rows : List Oploc
   pub other_lasts : (other : ℕ) → (other == key) ≡ false → last_at new other ≡ last_at old other
   pub other_rooms : (other : ℕ) → (other == key) ≡ false → room_at new other ≡ room_at old other
 
--- no handle is chosen in any of them
-abbrev pub AreQuiet : List (ℕ × State) → Type 0
-AreQuiet tables = All (λ entry. entry.1.marked ≡ []) tables
+-- the keys rise, and no handle is chosen in any of them
+pub record AreTables (tables : List (ℕ × State)) : Type 0 where
+  pub rising : AllPairs (λ a b. a.0 < b.0) tables
+  pub quiet : All (λ entry. entry.1.marked ≡ []) tables
 
 -- of the oplocks that are on a stream by this test, one was granted exactly where it isn't refused, and else nothing
 -- has changed

@@ -1,11 +1,12 @@
 //! The oplocks of streams and directories, for each a table of its own.
 
-ghost use Rattle.std.specs.Prelude.{ℕ, ◌≡◌, ◌≤◌, ◌<◌, ◌-◌, ◌==◌, ◌⊎◌, ◌∷◌, [], true, filter, None, OnOk, option_map, position};
+ghost use Rattle.std.specs.Prelude.{ℕ, AllPairs, ◌≡◌, ◌≤◌, ◌<◌, ◌-◌, ◌==◌, ◌∷◌, [], true, filter, IfOk, IfErr, OnOk, option_map};
 ghost use Rattle.std.specs.Option.{option_map_or};
 ghost use Rattle.fsa_types.specs.OplockGrants.{after_answer, target_among};
 ghost use Rattle.fsa_types.specs.OplockLists.{after_effect, effect_on, last_by, without_oplock_of};
 ghost use Rattle.fsa_types.specs.Oplocks.{in_both};
-ghost use Rattle.oplock_state.specs.Tables.{AreQuiet, IsStep, GrantsAmong, last_at, room_at, rows_at, taken_by};
+ghost use Rattle.fsa_types.specs.Places.{IsAt, StandsAt};
+ghost use Rattle.oplock_state.specs.Tables.{AreTables, IsStep, GrantsAmong, last_at, room_at, rows_at, taken_by};
 
 use crate::stream_oplocks::{Grant, StreamOplocks};
 use fsa_types::{Class, Level, NoMemory};
@@ -31,9 +32,11 @@ pub struct Asked {
 }
 
 /// For each stream or directory its oplocks, under a key of its own, its home. One without oplocks may have no table.
-/// No handle is chosen in any of them.
+/// No handle is chosen in any of them. It finds a table in time logarithmic in them; where one comes, those behind it
+/// are moved.
 #[derive(Drop)]
 pub struct StreamTables {
+    // By rising key.
     tables: Vec<(u64, StreamOplocks)>,
     alloc: Global,
 }
@@ -41,13 +44,13 @@ pub struct StreamTables {
 impl Model for StreamTables {
     ghost use Rattle.std.specs.Prelude.{ℕ, List};
     ghost use Rattle.oplock_state.specs.State.{State};
-    ghost use Rattle.oplock_state.specs.Tables.{AreQuiet};
+    ghost use Rattle.oplock_state.specs.Tables.{AreTables};
 
     ghost Value = { List (ℕ × State) };
 
     ghost view = { λ t. t.tables.items };
 
-    ghost invariant = { λ t. AreQuiet t.tables.items };
+    ghost invariant = { λ t. AreTables t.tables.items };
 }
 
 impl StreamTables {
@@ -66,9 +69,12 @@ impl StreamTables {
         ensures step { IsStep self.old self.new key (rows_at self.old key) (last_at self.old key) 0 }
         ensures room { OnOk result (more ≤ room_at self.new key) }
     {
+        if more == 0 {
+            return Ok(());
+        }
         match place_of(&self.tables, key) {
-            None => push_table(self.alloc, &mut self.tables, key, more),
-            Some(_) => reserve(&mut self.tables, key, more),
+            Ok(place) => reserve_at(&mut self.tables, key, place, more),
+            Err(place) => insert_table(self.alloc, &mut self.tables, key, place, more),
         }
     }
 
@@ -109,42 +115,48 @@ impl StreamTables {
     }
 }
 
-// The place of the table of this key.
-fn place_of(tables: &[(u64, StreamOplocks)], key: u64) -> Option<usize>
-    ensures { result ≡ position (λ entry. entry.0 == key) tables.now }
+// The place of the table of this key, or where it would stand, by binary search.
+fn place_of(tables: &[(u64, StreamOplocks)], key: u64) -> Result<usize, usize>
+    requires rising { AllPairs (λ a b. a.0 < b.0) tables.now }
+    ensures there { IfOk result (λ place. IsAt tables.now key place) }
+    ensures missing { IfErr result (λ place. StandsAt tables.now key place) }
 {
-    tables.iter().position(|entry| entry.0 == key)
+    tables.binary_search_by_key(&key, |entry| entry.0)
 }
 
-// A table with so much room under a key that has none.
-fn push_table(
+// A table with so much room under a key that has none, and that would stand at this place.
+fn insert_table(
     alloc: Global,
     tables: &mut Vec<(u64, StreamOplocks)>,
     key: u64,
+    place: usize,
     room: u32,
 ) -> Result<(), NoMemory>
-    requires none { position (λ entry. entry.0 == key) tables.old.items ≡ None }
-    requires quiet { AreQuiet tables.old.items }
+    requires tables { AreTables tables.old.items }
+    requires missing { StandsAt tables.old.items key place }
     ensures step { IsStep tables.old.items tables.new.items key (rows_at tables.old.items key) (last_at tables.old.items key) 0 }
     ensures room { OnOk result (room ≤ room_at tables.new.items key) }
-    ensures quiet { AreQuiet tables.new.items }
+    ensures tables { AreTables tables.new.items }
 {
     let mut table = StreamOplocks::new(alloc);
     table.reserve(room)?;
-    tables.push((key, table))?;
+    tables.insert(place, (key, table))?;
     Ok(())
 }
 
-// Takes room for so many more under a key with a table.
-fn reserve(tables: &mut [(u64, StreamOplocks)], key: u64, more: u32) -> Result<(), NoMemory>
-    requires quiet { AreQuiet tables.old }
+// Takes room for so many more under a key whose table is at this place.
+fn reserve_at(
+    tables: &mut [(u64, StreamOplocks)],
+    key: u64,
+    place: usize,
+    more: u32,
+) -> Result<(), NoMemory>
+    requires tables { AreTables tables.old }
+    requires there { IsAt tables.old key place }
     ensures step { IsStep tables.old tables.new key (rows_at tables.old key) (last_at tables.old key) 0 }
-    ensures room { OnOk result ((position (λ entry. entry.0 == key) tables.old ≡ None) ⊎ (more ≤ room_at tables.new key)) }
-    ensures quiet { AreQuiet tables.new }
+    ensures room { OnOk result (more ≤ room_at tables.new key) }
+    ensures tables { AreTables tables.new }
 {
-    let Some(place) = place_of(tables, key) else {
-        return Ok(());
-    };
     tables[place].1.reserve(more)?;
     Ok(())
 }
@@ -152,12 +164,12 @@ fn reserve(tables: &mut [(u64, StreamOplocks)], key: u64, more: u32) -> Result<(
 // Grants an oplock under this key, unless it is refused.
 fn grant(tables: &mut [(u64, StreamOplocks)], key: u64, asked: &Asked) -> Grant
     requires room { 1 ≤ room_at tables.old key }
-    requires quiet { AreQuiet tables.old }
+    requires tables { AreTables tables.old }
     ensures grants { GrantsAmong (λ _. true) asked.now (rows_at tables.old key) (rows_at tables.new key) result }
     ensures step { IsStep tables.old tables.new key (rows_at tables.new key) (last_at tables.old key) (taken_by result) }
-    ensures quiet { AreQuiet tables.new }
+    ensures tables { AreTables tables.new }
 {
-    let Some(place) = place_of(tables, key) else {
+    let Ok(place) = place_of(tables, key) else {
         unreachable!()
     };
     let asked = *asked;
@@ -187,13 +199,13 @@ fn begin_one(table: &mut StreamOplocks, oplock: OplockRow, class: Class, first: 
 
 // Breaks this oplock under this key.
 fn begin(tables: &mut [(u64, StreamOplocks)], key: u64, oplock: OplockRow, class: Class, first: u64)
-    requires quiet { AreQuiet tables.old }
+    requires tables { AreTables tables.old }
     requires rising { last_at tables.old key < first }
     requires there { filter (λ other. other.handle == oplock.handle) (rows_at tables.old key) ≡ oplock ∷ [] }
     ensures step { IsStep tables.old tables.new key (after_effect (effect_on class oplock) oplock.handle (record { oplocks = rows_at tables.old key; last_break = first - 1 })).oplocks (last_by (effect_on class oplock) (first - 1)) 0 }
-    ensures quiet { AreQuiet tables.new }
+    ensures tables { AreTables tables.new }
 {
-    let Some(place) = place_of(tables, key) else {
+    let Ok(place) = place_of(tables, key) else {
         unreachable!()
     };
     begin_one(&mut tables[place].1, oplock, class, first);
@@ -207,12 +219,12 @@ fn ack(
     level: Level,
     turn: u64,
 ) -> Option<Level>
-    requires quiet { AreQuiet tables.old }
+    requires tables { AreTables tables.old }
     ensures kept { result ≡ option_map (λ target. in_both level target) (target_among handle (rows_at tables.old key)) }
     ensures step { IsStep tables.old tables.new key (option_map_or (λ target. after_answer handle (in_both level target) turn (rows_at tables.old key)) (target_among handle (rows_at tables.old key)) (rows_at tables.old key)) (last_at tables.old key) 0 }
-    ensures quiet { AreQuiet tables.new }
+    ensures tables { AreTables tables.new }
 {
-    let Some(place) = place_of(tables, key) else {
+    let Ok(place) = place_of(tables, key) else {
         return None;
     };
     level_of(tables[place].1.ack(handle, level, turn))
@@ -230,11 +242,11 @@ fn level_of(answer: Option<(Level, u64)>) -> Option<Level>
 
 // Takes the oplock of a handle under this key out.
 fn drop_handle(tables: &mut [(u64, StreamOplocks)], key: u64, handle: u64)
-    requires quiet { AreQuiet tables.old }
+    requires tables { AreTables tables.old }
     ensures step { IsStep tables.old tables.new key (without_oplock_of handle (rows_at tables.old key)) (last_at tables.old key) 0 }
-    ensures quiet { AreQuiet tables.new }
+    ensures tables { AreTables tables.new }
 {
-    if let Some(place) = place_of(tables, key) {
+    if let Ok(place) = place_of(tables, key) {
         let _ = tables[place].1.drop_handle(handle);
     }
 }

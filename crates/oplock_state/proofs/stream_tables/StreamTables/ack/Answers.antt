@@ -1,5 +1,8 @@
-use Rattle.oplock_state.proofs.TableLemmas.{quiet-seam}
+use Rattle.std.proofs.Common.{◌≡◌, length, arith}
+use Rattle.oplock_state.proofs.TableLemmas.{AreTables-seam}
 use Rattle.oplock_state.proofs.stream_tables.StreamTables.ack.Goals as goal
 
 pub invariant_of-self : goal.invariant_of-self
-invariant_of-self c = quiet-seam _ _ c.ack.new.tables c.self.inside.tables.items c.ack.ensures.quiet c.self.invariant
+invariant_of-self c =
+    let as_many : c.self.inside.tables.len ≡ length c.ack.new.tables = omega (arith, c.deref_mut.ensures.len, c.ack.auto.tables) in
+    AreTables-seam _ c.ack.new.tables _ as_many c.ack.ensures.tables

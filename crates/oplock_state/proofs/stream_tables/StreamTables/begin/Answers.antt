@@ -1,5 +1,8 @@
-use Rattle.oplock_state.proofs.TableLemmas.{quiet-seam}
+use Rattle.std.proofs.Common.{◌≡◌, length, arith}
+use Rattle.oplock_state.proofs.TableLemmas.{AreTables-seam}
 use Rattle.oplock_state.proofs.stream_tables.StreamTables.begin.Goals as goal
 
 pub invariant_of-self : goal.invariant_of-self
-invariant_of-self c = quiet-seam _ _ c.begin.new.tables c.self.inside.tables.items c.begin.ensures.quiet c.self.invariant
+invariant_of-self c =
+    let as_many : c.self.inside.tables.len ≡ length c.begin.new.tables = omega (arith, c.deref_mut.ensures.len, c.begin.auto.tables) in
+    AreTables-seam _ c.begin.new.tables _ as_many c.begin.ensures.tables
