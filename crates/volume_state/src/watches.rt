@@ -315,7 +315,7 @@ fn seek_notify(pending: &[(u64, PendingRow)], client: u32, handle: u32) -> bool
         .any(|entry| is_notify_on(&entry.1, client, handle))
 }
 
-// The same, where the first call of this client that names the handle tells it.
+// The same, by the first call of this client that names the handle, and with a look at each only where that is none.
 fn has_notify(pending: &PendingCalls, client: u32, handle: u32) -> bool
     ensures { result ≡ list_any (λ entry. is_notify_on client handle entry.1) pending.now.items }
 {
