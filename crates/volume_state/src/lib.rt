@@ -27,8 +27,8 @@
 //! changes of one table (`add_..`, `move_link`, `drop_..`, `mark_..`, `put_bytes`, `set_..`, `end`, `leave`,
 //! `advance`); changes noted (`note`); and oplocks: their grant (`grant`), their break
 //! (`begin`, `waited`), the answer to it (`answer_break`), and their end (`give_up`, `drop_oplock`); and watches
-//! (`has_watch`, `start_watch`) with what is due to them (`due_size`, `take_report`), and the changes that they may
-//! still be told (`trim_changes`).
+//! (`has_watch`, `start_watch`) with what is due to them (`due_size`, `is_something_due`, `take_report`), and the
+//! changes that they may still be told (`trim_changes`).
 //!
 //! Contracts see a volume as three things: its content, which is the record of plain lists of
 //! `fsa_model`; what stands beside it, the breaks that the last `begin` waits for among it; and the
