@@ -1,35 +1,11 @@
 //! How a call ended.
 
-ghost use Rattle.std.specs.Prelude.{◌≡◌, ◌<◌, ◌^◌, true, find, length, IfOk, OnErr};
-ghost use Rattle.std.specs.Option.{option_copied};
-ghost use Rattle.fsa_model.specs.Once.{is_end};
+ghost use Rattle.std.specs.Prelude.{◌≡◌, ◌<◌, ◌^◌, true, length, IfOk, OnErr};
 ghost use Rattle.fsa_model.specs.Ended.{ended_with_list, holds_list, reply_in};
 
 use crate::store::Store;
-use fsa_types::{Body, EndOf, NoMemory, Reply, TryCopy};
+use fsa_types::{Body, NoMemory, Reply, TryCopy};
 use std::alloc::Global;
-
-// Whether this is the end of the client's call of this number.
-fn is_end_of(end: &EndOf, client: u32, number: u32) -> bool
-    ensures { result ≡ is_end client number end.now }
-{
-    end.client == client && end.number == number
-}
-
-// The first end of the client's call of this number.
-fn find_end<S: Store>(store: &S, client: u32, number: u32) -> Option<&EndOf>
-    requires few { length (S.content store.now).ended < 2 ^ 32 }
-    ensures { option_copied result ≡ find (is_end client number) (S.content store.now).ended }
-{
-    let mut place = 0;
-    'places: while let Some(end) = store.end_at(place) {
-        if is_end_of(end, client, number) {
-            return Some(end);
-        }
-        place += 1;
-    }
-    None
-}
 
 // A copy of a body; there may be no memory only where it holds a list.
 fn copy_body(alloc: Global, body: &Body) -> Result<Body, NoMemory>
@@ -66,7 +42,7 @@ pub fn reply_from<S: Store>(
     ensures reply { IfOk result (λ reply. reply ≡ reply_in (S.content store.now).ended client number) }
     ensures no_memory { OnErr result (ended_with_list (S.content store.now).ended client number ≡ true) }
 {
-    let Some(end) = find_end(store, client, number) else {
+    let Some(end) = store.end_of(client, number) else {
         return Ok(None);
     };
     match copy_body(alloc, &end.reply.body) {

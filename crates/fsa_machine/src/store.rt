@@ -1,9 +1,10 @@
 //! What a turn asks of the volume.
 
-ghost use Rattle.std.specs.Prelude.{◌≡◌, ◌≤◌, ◌+◌, ℕ, [], true, length, map, slice_get, is_some, option_map, IfOk, IfSome, OnErr, OnOk};
+ghost use Rattle.std.specs.Prelude.{◌≡◌, ◌≤◌, ◌+◌, ℕ, [], true, find, length, map, slice_get, is_some, option_map, IfOk, IfSome, OnErr, OnOk};
 ghost use Rattle.std.specs.Option.{option_copied};
 ghost use Rattle.fsa_types.specs.Rows.{row_of};
 ghost use Rattle.fsa_model.specs.Edits.{with_blockers, with_end, with_pending};
+ghost use Rattle.fsa_model.specs.Once.{is_end};
 ghost use Rattle.fsa_model.specs.Try.{try};
 ghost use Rattle.fsa_model.specs.Volume.{Volume};
 ghost use Rattle.fsa_model.specs.Waiting.{all_wait, next_ready, waits, waits_in_order};
@@ -69,6 +70,10 @@ pub trait Store {
     /// The end at this place.
     fn end_at(&self, i: usize) -> Option<&EndOf>
         ensures { option_copied result ≡ slice_get (content self.now).ended i };
+
+    /// How the client's call of this number ended; `None` exactly where it hasn't.
+    fn end_of(&self, client: u32, number: u32) -> Option<&EndOf>
+        ensures { option_copied result ≡ find (is_end client number) (content self.now).ended };
 
     /// Takes room for so many more ends and pending calls. No room that is there is given up.
     fn reserve(&mut self, ends: usize, pending: usize) -> Result<(), NoMemory>

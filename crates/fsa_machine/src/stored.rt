@@ -1,6 +1,6 @@
 //! The volume, as a turn sees it.
 
-ghost use Rattle.std.specs.Prelude.{◌≡◌, ◌≤◌, ◌+◌, ◌==◌, ℕ, [], Option, IfOk, IfSome, OnErr, OnOk, false, is_some, length, map, option_map, slice_get, true};
+ghost use Rattle.std.specs.Prelude.{◌≡◌, ◌≤◌, ◌+◌, ◌==◌, ℕ, [], Option, IfOk, IfSome, OnErr, OnOk, false, find, is_some, length, map, option_map, slice_get, true};
 ghost use Rattle.std.specs.Option.{option_copied, option_map_or};
 ghost use Rattle.fsa_types.specs.Rows.{row_of};
 ghost use Rattle.fsa_machine.specs.Serves.{HoldsRightly, MayHoldAnew, MayPend, MayTry, Serves};
@@ -9,6 +9,7 @@ ghost use Rattle.fsa_machine.specs.Step.{id_of, ready_of, report_to};
 ghost use Rattle.fsa_machine.specs.Tried.{HasPendRoom};
 ghost use Rattle.fsa_machine.specs.Trimmed.{trimmed_base};
 ghost use Rattle.fsa_model.specs.Edits.{with_blockers, with_end, with_pending};
+ghost use Rattle.fsa_model.specs.Once.{is_end};
 ghost use Rattle.fsa_model.specs.Try.{try};
 ghost use Rattle.fsa_model.specs.Waiting.{all_wait, next_ready, waits, waits_in_order};
 ghost use Rattle.fsa_model.specs.Watching.{due_size, is_something_due, report, with_watch_seen};
@@ -106,6 +107,10 @@ impl Store for Volume {
 
     fn end_at(&self, i: usize) -> Option<&EndOf> {
         self.ended(i as u64)
+    }
+
+    fn end_of(&self, client: u32, number: u32) -> Option<&EndOf> {
+        self.end_of(client, number)
     }
 
     fn reserve(&mut self, ends: usize, pending: usize) -> Result<(), NoMemory> {

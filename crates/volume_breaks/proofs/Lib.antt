@@ -1,5 +1,6 @@
 pub mod BreakLemmas
 pub mod CallLemmas
+pub mod EndLemmas
 pub mod GrantLemmas
 pub mod OrderLemmas
 pub mod ReleaseLemmas

@@ -11,16 +11,16 @@ ghost use Rattle.volume_breaks.specs.Breaks.{with_calls, with_holder_told};
 ghost use Rattle.volume_breaks.specs.Calls.{StayHeld};
 ghost use Rattle.volume_breaks.specs.Told.{has_call};
 
+use crate::end_table::EndTable;
 use crate::pending_calls::PendingCalls;
 use crate::telling::Told;
 use fsa_types::{Body, EndOf, Level, Reply, Status};
-use object_tables::Series;
 use volume_rows::{PendingRow, find_pending};
 
 /// A call has ended with this reply; where it was pending it is so no more.
 pub fn end_call(
     pending: &mut PendingCalls,
-    ended: &mut Series<EndOf>,
+    ended: &mut EndTable,
     client: u32,
     number: u32,
     reply: Reply,
@@ -56,7 +56,7 @@ fn pending_call(pending: &[(u64, PendingRow)], turn: Option<u64>) -> Option<(u32
 /// The call that is pending under this turn ends with this reply, where there is one.
 pub fn end_pending(
     pending: &mut PendingCalls,
-    ended: &mut Series<EndOf>,
+    ended: &mut EndTable,
     turn: Option<u64>,
     reply: Reply,
 )
@@ -77,7 +77,7 @@ pub fn end_pending(
 // that may stay, and whether that has to be acknowledged.
 fn tell(
     pending: &mut PendingCalls,
-    ended: &mut Series<EndOf>,
+    ended: &mut EndTable,
     turn: Option<u64>,
     level: Level,
     ack: bool,
@@ -97,7 +97,7 @@ fn tell(
 }
 
 // The call that was pending as granted to a holder who is told ends so.
-fn end_one(pending: &mut PendingCalls, ended: &mut Series<EndOf>, told: &Told)
+fn end_one(pending: &mut PendingCalls, ended: &mut EndTable, told: &Told)
     requires room { is_some told.now.call ≡ true → 1 ≤ ended.old.room }
     ensures done { (v : Volume) → with_calls v pending.new.items ended.new.items ≡ with_holder_told (with_calls v pending.old.items ended.old.items) told.now }
     ensures held { StayHeld pending.old pending.new }
@@ -110,7 +110,7 @@ fn end_one(pending: &mut PendingCalls, ended: &mut Series<EndOf>, told: &Told)
 
 /// The calls that were pending as granted to those who are told end, one after the other: each is told the level
 /// that may stay, and whether that has to be acknowledged. Room for the ends of as many calls has to be there.
-pub fn end_told(pending: &mut PendingCalls, ended: &mut Series<EndOf>, told: &[Told])
+pub fn end_told(pending: &mut PendingCalls, ended: &mut EndTable, told: &[Told])
     requires room { length (filter has_call told.now) ≤ ended.old.room }
     ensures done { (v : Volume) → with_calls v pending.new.items ended.new.items ≡ fold with_holder_told (with_calls v pending.old.items ended.old.items) told.now }
     ensures held { StayHeld pending.old pending.new }

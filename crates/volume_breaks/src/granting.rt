@@ -10,11 +10,11 @@ ghost use Rattle.volume_breaks.specs.Breaks.{with_calls, with_switch_told};
 ghost use Rattle.volume_breaks.specs.Calls.{StayHeld};
 
 use crate::breaking::end_pending;
+use crate::end_table::EndTable;
 use crate::marking::is_of_key;
 use crate::oplock_list::Oplocks;
 use crate::pending_calls::PendingCalls;
-use fsa_types::{Body, EndOf, Level, Reply, Status};
-use object_tables::Series;
+use fsa_types::{Body, Level, Reply, Status};
 use volume_rows::{OplockRow, has_write, is_within};
 
 // Whether a break is in progress.
@@ -91,7 +91,7 @@ pub fn drop_chosen(oplocks: &mut Oplocks)
 }
 
 // The call of an oplock that ends, since another handle of its key is granted one, is told so.
-fn end_one(pending: &mut PendingCalls, ended: &mut Series<EndOf>, oplock: &OplockRow)
+fn end_one(pending: &mut PendingCalls, ended: &mut EndTable, oplock: &OplockRow)
     requires room { 1 ≤ ended.old.room }
     ensures done { (v : Volume) → with_calls v pending.new.items ended.new.items ≡ with_switch_told (with_calls v pending.old.items ended.old.items) oplock.now }
     ensures held { StayHeld pending.old pending.new }
@@ -108,7 +108,7 @@ fn end_one(pending: &mut PendingCalls, ended: &mut Series<EndOf>, oplock: &Oploc
 
 /// The calls of oplocks that end, since another handle of their key is granted one, are told so, one after the
 /// other. Room for the ends of as many calls has to be there.
-pub fn end_switched(pending: &mut PendingCalls, ended: &mut Series<EndOf>, switched: &[OplockRow])
+pub fn end_switched(pending: &mut PendingCalls, ended: &mut EndTable, switched: &[OplockRow])
     requires room { length switched.now ≤ ended.old.room }
     ensures done { (v : Volume) → with_calls v pending.new.items ended.new.items ≡ fold with_switch_told (with_calls v pending.old.items ended.old.items) switched.now }
     ensures held { StayHeld pending.old pending.new }

@@ -21,8 +21,9 @@
 //! (`telling`), and the calls that end with that (`breaking`); for which breaks the request waits (`awaiting`);
 //! when no oplock is granted, and what a grant ends (`granting`); the list of the oplocks, with what a break or a
 //! grant puts by and with the room that was promised to each stream or directory, under a key that its caller
-//! gives it, its *home* (`Oplocks`); and the pending calls with the queue of those that are held
-//! (`PendingCalls`), which is told what ends where a handle goes (`releasing`).
+//! gives it, its *home* (`Oplocks`); the pending calls with the queue of those that are held
+//! (`PendingCalls`), which is told what ends where a handle goes (`releasing`); and how calls ended, each found by
+//! its client and number (`EndTable`).
 //!
 //! `oplock_state` has the oplocks of one stream by `break_oplocks` and `drop_chosen`, and leaves the calls to its
 //! caller; a volume's break and grant end them after that.
@@ -36,12 +37,15 @@
 //! - The next pending call, and the call of a turn, are found by halves as long as calls came in the order of
 //!   their turns; once one didn't, or where no call has the turn, by a look at each. As long as they did, a call of a
 //!   client, and the first one that names a handle, are found by an index, without a look at the others.
+//! - The end of a call is looked for among those that have the slot of its number, of which there are half as many
+//!   as there is room for ends. Where that room is used up as much again is taken, and all ends are linked anew.
 #![tactic(auto)]
 
 mod awaiting;
 mod breaking;
 mod call_index;
 mod choosing;
+mod end_table;
 mod granting;
 mod marking;
 mod oplock_list;
@@ -53,6 +57,7 @@ pub use awaiting::push_breaks;
 pub use breaking::{end_call, end_told};
 pub use call_index::names;
 pub use choosing::Tree;
+pub use end_table::EndTable;
 pub use granting::{drop_chosen, end_switched, is_refused};
 pub use oplock_list::Oplocks;
 pub use pending_calls::{PendingCalls, is_wait};

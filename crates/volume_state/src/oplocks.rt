@@ -24,10 +24,11 @@ ghost use Rattle.volume_state.specs.Room.{KeepsEnds, stream_of_handle};
 ghost use Rattle.volume_state.specs.VolumeView.{room_for};
 
 use crate::volume::Volume;
-use fsa_types::{BlockerList, Class, EndOf, HandleSet, Level};
-use object_tables::Series;
+use fsa_types::{BlockerList, Class, HandleSet, Level};
 use oplock_state::{Asked, OplockTable};
-use volume_breaks::{PendingCalls, Tree, end_switched, end_told, push_breaks, release_breaks};
+use volume_breaks::{
+    EndTable, PendingCalls, Tree, end_switched, end_told, push_breaks, release_breaks,
+};
 use volume_rows::{find_target, in_both};
 use volume_tables::HandleTable;
 
@@ -237,7 +238,7 @@ fn break_chosen(
     oplocks: &mut OplockTable,
     handles: &HandleTable,
     pending: &mut PendingCalls,
-    ended: &mut Series<EndOf>,
+    ended: &mut EndTable,
     class: Class,
 )
     requires room { length (told_among class oplocks.old.chosen) ≤ ended.old.room }

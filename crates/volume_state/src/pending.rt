@@ -1,12 +1,13 @@
 //! Pending calls.
 
-ghost use Rattle.std.specs.Prelude.{ℕ, ◌≡◌, ◌≤◌, ◌<◌, ◌+◌, ◌^◌, ◌==◌, ◌&&◌, All, IsTrue, IsSome, IfSome, IfNone, true, false, length, nat_lt, option_map, slice_get};
+ghost use Rattle.std.specs.Prelude.{ℕ, ◌≡◌, ◌≤◌, ◌<◌, ◌+◌, ◌^◌, ◌==◌, ◌&&◌, All, IsTrue, IsSome, IfSome, IfNone, true, false, find, length, nat_lt, option_map, slice_get};
 ghost use Rattle.std.specs.List.{list_any};
 ghost use Rattle.std.specs.Option.{option_copied, ForSome};
 ghost use Rattle.fsa_types.specs.Rows.{lives, row_of};
 ghost use Rattle.fsa_types.specs.Pending.{is_held, next_let_go};
 ghost use Rattle.fsa_model.specs.Edits.{is_call, with_blockers, with_end, with_pending};
 ghost use Rattle.fsa_model.specs.Lookups.{has_row, next_pending, number_of};
+ghost use Rattle.fsa_model.specs.Once.{is_end};
 ghost use Rattle.fsa_model.specs.Sound.{ArePending};
 ghost use Rattle.fsa_model.specs.Waiting.{blocker_lives};
 ghost use Rattle.volume_breaks.specs.CallIndex.{is_naming};
@@ -123,6 +124,14 @@ impl Volume {
         ensures { option_copied result ≡ slice_get self.now.content.ended place }
     {
         self.ended.as_slice().get(place as usize)
+    }
+
+    /// How the client's call of this number ended; `None` exactly where it hasn't. It is found without a look at
+    /// most of the others.
+    pub fn end_of(&self, client: u32, number: u32) -> Option<&EndOf>
+        ensures { option_copied result ≡ find (is_end client number) self.now.content.ended }
+    {
+        self.ended.first_of(client, number)
     }
 
     /// A call has ended with this reply; where it was pending it is so no more.

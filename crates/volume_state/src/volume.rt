@@ -15,12 +15,12 @@ ghost use Rattle.volume_tables.specs.Rooms.{room_in};
 
 use crate::growth::space_of_root;
 use crate::watch_row::WatchRow;
-use fsa_types::{Client, ClientList, EndOf, NoMemory, Setup, UpcaseTable};
-use object_tables::{Series, SpareList, Table};
+use fsa_types::{Client, ClientList, NoMemory, Setup, UpcaseTable};
+use object_tables::{SpareList, Table};
 use oplock_state::OplockTable;
 use std::alloc::{AllocError, Global};
 use std::marker::Model;
-use volume_breaks::PendingCalls;
+use volume_breaks::{EndTable, PendingCalls};
 use volume_rows::{Changes, FileRow, Need};
 use volume_tables::{HandleTable, LinkTable, SpaceTally, StreamTable};
 
@@ -38,7 +38,7 @@ pub struct Volume {
     pub(crate) space: SpaceTally,
     pub(crate) handles: HandleTable,
     pub(crate) changes: Changes,
-    pub(crate) ended: Series<EndOf>,
+    pub(crate) ended: EndTable,
     pub(crate) left: Vec<bool>,
     pub(crate) clock: u64,
     pub(crate) oplocks: OplockTable,
@@ -114,7 +114,7 @@ impl Volume {
             space,
             handles: HandleTable::new(alloc),
             changes: Changes::new(alloc),
-            ended: Series::new(alloc),
+            ended: EndTable::new(alloc),
             left,
             clock: 0,
             oplocks: OplockTable::new(alloc),
