@@ -15,8 +15,8 @@
 //! ```
 //!
 //! The calls group so: links (`LinksByFile`, `is_at_or_below`); files (`FileRow::set_basic`,
-//! `set_owner`, `set_dacl`, `set_point`); handles (`is_one_of`, `is_clashing`) and their enumerations (`Enumeration`, `Cursor`); streams
-//! (`is_stream_named`, and `StreamRow` with its bytes in the pages of `stream_pages`); the space that streams
+//! `set_owner`, `set_dacl`, `set_point`); handles (`is_one_of`, `is_clashing`) and their enumerations (`Enumeration`,
+//! `Cursor`); streams (`is_stream_named`, and `StreamRow` with its bytes in the pages of `stream_pages`); the space that streams
 //! take (`clusters_of`) and what an owner may be charged (`find_limit`); oplocks (`effect`, `is_awaited`,
 //! `in_both`, `is_within`, `is_same_key`, `is_oplock_of`, `find_break`, `find_target`); pending calls
 //! (`find_pending`, `find_next_pending`, `is_call`); and changes noted (`Changes`), in the log of

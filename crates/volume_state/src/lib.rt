@@ -43,10 +43,10 @@
 //! table, and so is the least number above another; the handle of a call, and a client's next handle, in time
 //! logarithmic in the handles; an owner's charge in time logarithmic in the owners; the
 //! clusters of all streams are kept. A link is found by its name in time logarithmic in all links, and so is where the
-//! links of a directory stand that are behind a name and begin with given units, which are lent in one piece. The links of a file, and its streams by
-//! name, are found in time logarithmic in all of them, and linear in the file's own; so a note and `is_at_or_below` cost that for each directory above.
-//! Any other look-up costs time linear in the rows; one of the handles below a directory, the way up for each. The
-//! next pending call is found in time logarithmic in those that are pending, as long as they came in the order of
+//! links of a directory stand that are behind a name and begin with given units, which are lent in one piece. The links
+//! of a file, and its streams by name, are found in time logarithmic in all of them, and linear in the file's own; so a
+//! note and `is_at_or_below` cost that for each directory above. Any other look-up costs time linear in the rows; one of
+//! the handles below a directory, a binary search and the way up for each. The next pending call is found in time logarithmic in those that are pending, as long as they came in the order of
 //! their turns, as those of a run do. A break costs what `volume_breaks` and `oplock_state` say, and the bytes of a
 //! stream what `stream_pages` says.
 //!
@@ -54,8 +54,9 @@
 //! in time linear in what they wait for, and `next_held` asks nothing but the queue. `next_over` looks through
 //! the pending calls for each wait among them, and never through the calls that have ended; `list_waits` puts
 //! each wait in its place among the others. Of each watch it is kept whether something may be due, and whether a
-//! Notify may be pending on its handle: a note looks once at each watch to which nothing was due, and through the
-//! pending calls for each to which the change is; `next_due` looks once at each watch, and through the pending calls
+//! Notify may be pending on its handle: a note looks once at each watch to which nothing was due, and for each to
+//! which the change is at the first pending call that names its handle, and at the others only where that is no Notify;
+//! `next_due` looks once at each watch, and through the pending calls
 //! and the changes only for those to which something may be due while a Notify may be pending. A watch is looked for
 //! among all.
 #![tactic(auto)]

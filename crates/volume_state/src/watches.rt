@@ -315,7 +315,8 @@ fn seek_notify(pending: &[(u64, PendingRow)], client: u32, handle: u32) -> bool
         .any(|entry| is_notify_on(&entry.1, client, handle))
 }
 
-// The same, by the first call of this client that names the handle, and with a look at each only where that is none.
+// The same, by the first call of this client that names the handle, and with a look at each only where that is no
+// Notify.
 fn has_notify(pending: &PendingCalls, client: u32, handle: u32) -> bool
     ensures { result ≡ list_any (λ entry. is_notify_on client handle entry.1) pending.now.items }
 {
@@ -336,7 +337,7 @@ fn is_newly_due(row: &WatchRow, log: &ChangeLog) -> bool
     !row.due && asking(row).asks_for_last(log)
 }
 
-// The row, once something is due to it: whether a Notify is pending on its handle.
+// The row, once something is due to it; it is told then whether a Notify is pending on its handle.
 fn come_due(row: WatchRow, pending: &PendingCalls) -> WatchRow
     ensures { result ≡ record row { due = true; asked = list_any (λ entry. is_notify_on row.client row.number entry.1) pending.now.items } }
 {

@@ -11,7 +11,7 @@
 //! let lock = handles.add_lock(handle, at, count, true);
 //! handles.locks_of(stream);               // the ranges of one stream, in the order in which they were granted
 //! handles.opened_by(client, number);      // by binary search
-//! handles.next_of(client, after);         // so is this
+//! handles.next_of(client, after);         // by binary search too
 //! handles.some_clashes(links, on, access, share);     // at those alone on a stream, or by a link
 //! handles.remove(handle);                 // with its locks
 //!
@@ -47,8 +47,9 @@
 //! - Each call takes time linear in the rows or locks that it goes over. The table of a stream's locks is found in
 //!   time logarithmic in the streams to which room for them was ever promised; where one comes, those of streams with
 //!   greater numbers are moved. The handle of a call, and a client's next handle, are found in time
-//!   logarithmic in the handles; to take one out moves only what the table and the indexes keep of those behind it,
-//!   16 bytes each. A call of a tally takes time logarithmic in the owners, and linear where one is
+//!   logarithmic in the handles; to take one out moves only what the table and the indexes keep of those before it or
+//!   of those behind it, whichever are fewer, 16 bytes each. Handles below a directory cost a binary search for each
+//!   handle, beside the way up. A call of a tally takes time logarithmic in the owners, and linear where one is
 //!   admitted. What was promised is found in time logarithmic in the directories or streams that have
 //!   room; where one comes to have some or has none left, the others behind it are moved. A stream's table
 //!   stays once it has been made, and so does an owner.
