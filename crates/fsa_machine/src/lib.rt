@@ -36,7 +36,7 @@
 //!   were begun, or can come of the oplocks that are there, than calls were made.
 //! - What a turn needs of a volume is the trait `Store`.
 //! - A turn costs its tries, a look at the pending calls for each call that is taken up, one at each watch, and a copy
-//!   of what it gives out. A look at how a call ended goes over the ends.
+//!   of what it gives out. How a call ended is looked for among the ends that share the slot of its number.
 #![tactic(auto)]
 
 mod ends;

@@ -23,8 +23,8 @@
 //! entries (`IsMachineHistory`). The rest is as the turn lock says it, in the first page of `history_lock`, whose
 //! caveats are this crate's too.
 //!
-//! A look goes over the ends of calls, and takes the turn for that time; a wait sleeps until the history
-//! gets longer, and looks once for each time.
+//! A look takes the turn while it looks for the end of its call, among those that share the slot of its number, and
+//! copies its reply; a wait sleeps until the history gets longer, and looks once for each time.
 #![tactic(auto)]
 
 mod engine;
