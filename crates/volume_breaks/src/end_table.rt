@@ -52,8 +52,8 @@ impl EndTable {
         }
     }
 
-    /// Takes room for `more` ends beside those that are there, or for as many as are there where these are more.
-    /// `NoMemory` where there is none.
+    /// Takes room for `more` ends beside those that are there, or for as many more as there are ends and room already
+    /// where these are more, so that room is seldom taken. `NoMemory` where there is none.
     pub fn reserve(&mut self, more: usize) -> Result<(), NoMemory>
         ensures items { self.new.items ≡ self.old.items }
         ensures room { OnOk result (more ≤ self.new.room) }
@@ -62,7 +62,7 @@ impl EndTable {
         if more <= self.room {
             return Ok(());
         }
-        let room = room_of(more, self.ends.len());
+        let room = room_of(more, self.ends.len().saturating_add(self.room));
         self.ends.reserve(room)?;
         let alloc = *self.heads.allocator();
         let (heads, links) = linked(alloc, self.ends.as_slice(), room)?;
@@ -105,7 +105,7 @@ impl EndTable {
     }
 }
 
-// Room for no less than `least`, and for as many as are there, so that room is seldom taken.
+// Room for no less than `least`, and for as many as there are ends and room.
 fn room_of(least: usize, there: usize) -> usize
     ensures { least ≤ result }
 {
