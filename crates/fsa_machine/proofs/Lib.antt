@@ -2,6 +2,7 @@ pub mod DueLaws
 pub mod LookLaws
 pub mod ReadyLaws
 pub mod ReleasedLaws
+pub mod ReportLaws
 pub mod ServeLaws
 pub mod SpareLaws
 pub mod StallLaws

@@ -1,5 +1,6 @@
 pub mod Kept
 pub mod MachineView
+pub mod OneTurn
 pub mod Released
 pub mod Serves
 pub mod Spare

@@ -1,15 +1,15 @@
 //! Turns that are made and kept, in new room or in room that was taken for turns to come.
 
-ghost use Rattle.std.specs.Prelude.{◌≡◌, ◌≤◌, ◌<◌, ◌+◌, ◌++◌, ◌∷◌, [], true, false, length, map, Some, IfErr, IfNone, IfOk, IfSome, IsOk, OnErr, OnOk, OnSome};
+ghost use Rattle.std.specs.Prelude.{◌≡◌, ◌≤◌, ◌<◌, ◌+◌, ◌++◌, ◌∷◌, [], true, false, length, map, Ok, Some, IfErr, IfNone, IfOk, IfSome, IsOk, OnErr, OnOk, OnSome};
 ghost use Rattle.std.specs.Vec.{vec_capacity, vec_len};
 ghost use Rattle.fsa_model.specs.Engine.{own_tried};
-ghost use Rattle.fsa_model.specs.Once.{made, times};
+ghost use Rattle.fsa_model.specs.Once.{made};
 ghost use Rattle.fsa_model.specs.Outcome.{out_of};
-ghost use Rattle.fsa_model.specs.Settling.{MayTurn};
 ghost use Rattle.fsa_model.specs.Turn.{turn};
 ghost use Rattle.fsa_machine.specs.Kept.{entry_of, out_kept};
+ghost use Rattle.fsa_machine.specs.OneTurn.{CanTurn, TurnsOrStays, itself};
 ghost use Rattle.fsa_machine.specs.Released.{how_many_let_go};
-ghost use Rattle.fsa_machine.specs.Serves.{MayTry, Serves, ServesOn, most_entries};
+ghost use Rattle.fsa_machine.specs.Serves.{ServesOn, most_entries};
 ghost use Rattle.fsa_machine.specs.Spare.{AreSpare, is_ack_or_cancel};
 
 use crate::kept::KeptTurn;
@@ -76,27 +76,15 @@ fn keep_new<S: Store, L: Ledger>(
     call: Call,
     steps: &mut Steps<L>,
 ) -> Result<Out, (Call, NoMemory)>
-    requires serves { Serves (S.content store.old) }
-    requires may_try { MayTry (S.content store.old) call }
-    requires number { 0 < call.number }
-    requires may { MayTurn (S.content store.old) }
-    requires new { times call.client call.number (S.content store.old) ≡ 0 }
-    requires few { made (S.content store.old) < most_entries }
-    ensures turn { IfOk result (λ out. turn (S.content store.old) call out.starved.items ≡ Some (record { volume = S.content store.new; out = out_of out })) }
-    ensures serves { OnOk result (ServesOn (S.content store.old) (S.content store.new)) }
-    ensures longer { OnOk result (length (S.content store.old).ended ≤ length (S.content store.new).ended) }
-    ensures ends { S.spare_ends store.old + length (S.content store.old).ended ≤ S.spare_ends store.new + length (S.content store.new).ended }
-    ensures pending { OnOk result (S.spare_pending store.old ≤ S.spare_pending store.new + 1) }
-    ensures pending_kept { OnErr result (S.spare_pending store.old ≤ S.spare_pending store.new) }
+    requires can { CanTurn (S.content store.old) call }
+    ensures turned { TurnsOrStays itself (S.content store.old) (S.content store.new) (S.spare_ends store.old) (S.spare_ends store.new) (S.spare_pending store.old) (S.spare_pending store.new) call steps.old steps.new result }
     ensures entries { IfOk result (λ out. map entry_of kept.new.items ≡ map entry_of kept.old.items ++ record { call = call; starved = out.starved.items } ∷ []) }
     ensures outs { IfOk result (λ out. map out_kept kept.new.items ≡ map out_kept kept.old.items ++ out_of out ∷ []) }
     ensures len { OnOk result (vec_len kept.new ≡ vec_len kept.old + 1) }
     ensures len_kept { OnErr result (vec_len kept.new ≡ vec_len kept.old) }
     ensures capacity { vec_capacity kept.old ≤ vec_capacity kept.new }
     ensures spare { spare.new ≡ spare.old }
-    ensures err { IfErr result (λ back. (S.content store.new ≡ S.content store.old) × (kept.new.items ≡ kept.old.items) × (back.0 ≡ call)) }
-    ensures tries { steps.new ≤ steps.old + (1 + how_many_let_go (own_tried (S.content store.old) call)) }
-    ensures rises { steps.old ≤ steps.new }
+    ensures kept_still { OnErr result (kept.new.items ≡ kept.old.items) }
 {
     let Ok(copy) = take_entry(alloc, kept, &call) else {
         return Err((call, NoMemory));
@@ -116,12 +104,7 @@ fn keep_spare<S: Store, L: Ledger>(
     copy: Call,
     steps: &mut Steps<L>,
 ) -> Out
-    requires serves { Serves (S.content store.old) }
-    requires may_try { MayTry (S.content store.old) call }
-    requires number { 0 < call.number }
-    requires may { MayTurn (S.content store.old) }
-    requires new { times call.client call.number (S.content store.old) ≡ 0 }
-    requires few { made (S.content store.old) < most_entries }
+    requires can { CanTurn (S.content store.old) call }
     requires short { is_ack_or_cancel call.what ≡ true }
     requires ends { length (S.content store.old).pending + 1 ≤ S.spare_ends store.old }
     requires pending { 1 ≤ S.spare_pending store.old }
@@ -129,19 +112,13 @@ fn keep_spare<S: Store, L: Ledger>(
     requires lists { length (S.content store.old).pending + 1 ≤ spare.old.calls }
     requires copy { copy ≡ call }
     requires place { vec_len kept.old < vec_capacity kept.old }
-    ensures turn { turn (S.content store.old) call result.starved.items ≡ Some (record { volume = S.content store.new; out = out_of result }) }
-    ensures serves { ServesOn (S.content store.old) (S.content store.new) }
-    ensures longer { length (S.content store.old).ended ≤ length (S.content store.new).ended }
-    ensures ends { S.spare_ends store.old + length (S.content store.old).ended ≤ S.spare_ends store.new + length (S.content store.new).ended }
-    ensures pending { S.spare_pending store.old ≤ S.spare_pending store.new + 1 }
+    ensures turned { TurnsOrStays itself (S.content store.old) (S.content store.new) (S.spare_ends store.old) (S.spare_ends store.new) (S.spare_pending store.old) (S.spare_pending store.new) call steps.old steps.new (Ok result) }
     ensures entries { map entry_of kept.new.items ≡ map entry_of kept.old.items ++ record { call = call; starved = result.starved.items } ∷ [] }
     ensures outs { map out_kept kept.new.items ≡ map out_kept kept.old.items ++ out_of result ∷ [] }
     ensures len { vec_len kept.new ≡ vec_len kept.old + 1 }
     ensures capacity { vec_capacity kept.old ≤ vec_capacity kept.new }
     ensures left { spare.old.turns ≡ spare.new.turns + 1 }
     ensures calls { spare.new.calls ≡ spare.old.calls }
-    ensures tries { steps.new ≤ steps.old + (1 + how_many_let_go (own_tried (S.content store.old) call)) }
-    ensures rises { steps.old ≤ steps.new }
 {
     let Ok((given, out)) = spare.turn_spare(alloc, store, call, steps) else {
         unreachable!()
@@ -174,12 +151,7 @@ pub fn keep_turn<S: Store, L: Ledger>(
     call: Call,
     steps: &mut Steps<L>,
 ) -> Result<Out, (Call, NoMemory)>
-    requires serves { Serves (S.content store.old) }
-    requires may_try { MayTry (S.content store.old) call }
-    requires number { 0 < call.number }
-    requires may { MayTurn (S.content store.old) }
-    requires new { times call.client call.number (S.content store.old) ≡ 0 }
-    requires few { made (S.content store.old) < most_entries }
+    requires can { CanTurn (S.content store.old) call }
     requires spare { AreSpare (S.content store.old) (S.spare_ends store.old) (S.spare_pending store.old) (vec_len kept.old) (vec_capacity kept.old) spare.old }
     ensures turn { IfOk result (λ out. turn (S.content store.old) call out.starved.items ≡ Some (record { volume = S.content store.new; out = out_of out })) }
     ensures serves { OnOk result (ServesOn (S.content store.old) (S.content store.new)) }

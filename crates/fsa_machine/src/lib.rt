@@ -14,13 +14,14 @@
 //! turn of the run gave out; no call goes over the history again.
 //!
 //! - A turn (`turns`) takes its room, tries its own call (`own`), and settles what is pending (`settle`). The
-//!   definitions are `Turn` and `Settle` of `fsa_model`. What a turn gives out it makes twice (`ends`,
-//!   `replies`): the history keeps one copy, and the caller gets the other. It fills lists that the machine keeps, and
-//!   in the end moves what they hold into short ones, or, where there is no memory for these, into lists that stand by
-//!   for that (`lists`).
+//!   definitions are `Turn` and `Settle` of `fsa_model`. What a turn gives out it makes twice (`ends`, `replies`): the
+//!   history keeps one copy, and the caller gets the other; bytes of a reply, of 128 or more, are shared where they can
+//!   be. It fills lists that the machine keeps, and in the end moves what they hold into short ones, or, where there is
+//!   no memory for these, into lists that stand by for that (`lists`).
 //! - Room first: an end and a name for each pending call and for the turn's own, two copies of the own
 //!   reply, and the entry. A held call takes a copy of itself and two of its reply before it is tried
-//!   again, and a Notify two of a report that has bytes; where that finds no memory it ends `NO_MEMORY`, and
+//!   again, and a Notify two of as many bytes as it has room for or, where there is no memory for
+//!   these, as are due; where that finds no memory it ends `NO_MEMORY`, and
 //!   is named, and what is due stays so. Calls that end besides have replies without bytes, which take no
 //!   memory, and so has a Notify to which more is due than it has room for.
 //! - `reserve` takes room for turns to come (`spare`): an entry, an end for each call that can be pending by

@@ -80,42 +80,18 @@ pub fn lists_for(alloc: Global, there: Option<TurnLists>, calls: u32) -> Result<
     }
 }
 
-// Empty lists with room for so many ends, and for no call that starves.
-fn short_lists(alloc: Global, ends: u32) -> Result<GivenLists, NoMemory>
+// Empty lists with room for so many ends, and for so many calls that starve.
+fn short_lists(alloc: Global, ends: u32, calls: u32) -> Result<GivenLists, NoMemory>
     ensures given { IfOk result (λ lists. lists.given ≡ record { items = []; room = ends }) }
     ensures kept { IfOk result (λ lists. lists.kept ≡ record { items = []; room = ends }) }
-    ensures starved { IfOk result (λ lists. lists.starved ≡ record { items = []; room = 0 }) }
-    ensures kept_starved { IfOk result (λ lists. lists.kept_starved ≡ record { items = []; room = 0 }) }
+    ensures starved { IfOk result (λ lists. lists.starved ≡ record { items = []; room = calls }) }
+    ensures kept_starved { IfOk result (λ lists. lists.kept_starved ≡ record { items = []; room = calls }) }
 {
     Ok(GivenLists {
         given: EndList::with_room(alloc, ends)?,
         kept: EndList::with_room(alloc, ends)?,
-        starved: CallIdList::with_room(alloc, 0)?,
-        kept_starved: CallIdList::with_room(alloc, 0)?,
-    })
-}
-
-// The ends in short lists, where no call starves; `None` where there is no memory for these.
-fn given_short(alloc: Global, ended: &mut EndLists) -> Option<GivenLists>
-    ensures given { IfSome result (λ lists. AreGiven ended.old.items [] lists) }
-    ensures emptied { OnSome result (ended.new ≡ record { items = []; room = ended.old.room }) }
-    ensures none { IfNone result (ended.new ≡ ended.old) }
-{
-    let Ok(lists) = short_lists(alloc, ended.len()) else {
-        return None;
-    };
-    let GivenLists {
-        given,
-        kept,
-        starved,
-        kept_starved,
-    } = lists;
-    let (given, kept) = ended.move_into(given, kept);
-    Some(GivenLists {
-        given,
-        kept,
-        starved,
-        kept_starved,
+        starved: CallIdList::with_room(alloc, calls)?,
+        kept_starved: CallIdList::with_room(alloc, calls)?,
     })
 }
 
@@ -130,6 +106,43 @@ fn copied(calls: &[CallId], mut kept: CallIdList) -> CallIdList
         kept.push(*call);
     }
     kept
+}
+
+// How many calls there are in a list.
+fn count_of(calls: &CallIdList) -> u32
+    requires few { length calls.now.items ≤ calls.now.room }
+    ensures { result ≡ length calls.now.items }
+{
+    // `room` tells that the count is below 2^32.
+    let _room = calls.room();
+    calls.len() as u32
+}
+
+// The ends and these calls that starve, in short lists; `None` where there is no memory for these.
+fn given_short(alloc: Global, ended: &mut EndLists, calls: &CallIdList) -> Option<GivenLists>
+    requires few { length calls.now.items ≤ calls.now.room }
+    ensures given { IfSome result (λ lists. AreGiven ended.old.items calls.now.items lists) }
+    ensures emptied { OnSome result (ended.new ≡ record { items = []; room = ended.old.room }) }
+    ensures none { IfNone result (ended.new ≡ ended.old) }
+{
+    let Ok(lists) = short_lists(alloc, ended.len(), count_of(calls)) else {
+        return None;
+    };
+    let GivenLists {
+        given,
+        kept,
+        starved,
+        kept_starved,
+    } = lists;
+    let (given, kept) = ended.move_into(given, kept);
+    let starved = copied(calls.as_slice(), starved);
+    let kept_starved = copied(calls.as_slice(), kept_starved);
+    Some(GivenLists {
+        given,
+        kept,
+        starved,
+        kept_starved,
+    })
 }
 
 // The ends and the calls that starve, in the lists that stand by.
@@ -155,22 +168,21 @@ fn given_whole(ended: &mut EndLists, lists: TurnLists) -> GivenLists
     }
 }
 
-// The lists, where no wait stands in them.
+// The lists, where neither a call that starved nor a wait stands in them.
 fn still_empty(lists: TurnLists) -> Option<TurnLists>
     requires lists { StandBy 0 lists }
-    requires none { lists.starved.items ≡ [] }
     ensures { IfSome result (λ empty. AreLists 0 empty) }
 {
-    if lists.waits.is_empty() {
+    if lists.starved.is_empty() && lists.waits.is_empty() {
         Some(lists)
     } else {
         None
     }
 }
 
-/// What a turn gives out: its ends, and the calls that starved, which stand in the lists that stood by. Where none
-/// starved and there is memory for short lists it is given in these, and the lists that stood by come back, unless a
-/// wait stands in them. Else they are what is given.
+/// What a turn gives out: its ends, and the calls that starved, which stand in the lists that stood by. Where there is
+/// memory for lists with just that room it is given in these, and the lists that stood by come back, unless a call that
+/// starved or a wait stands in them. Else they are what is given.
 pub fn give(
     alloc: Global,
     ended: &mut EndLists,
@@ -181,10 +193,8 @@ pub fn give(
     ensures lists { IfSome result.1 (λ empty. AreLists 0 empty) }
     ensures emptied { ended.new ≡ record { items = []; room = ended.old.room } }
 {
-    if lists.starved.is_empty() {
-        if let Some(given) = given_short(alloc, ended) {
-            return (given, still_empty(lists));
-        }
+    match given_short(alloc, ended, &lists.starved) {
+        Some(given) => (given, still_empty(lists)),
+        None => (given_whole(ended, lists), None),
     }
-    (given_whole(ended, lists), None)
 }

@@ -45,7 +45,7 @@ fn own_ends<S: Store>(
     ensures told_room { ended.new.room ≡ ended.old.room }
 {
     tell(alloc, store, from, ended);
-    let (kept, given) = copy_twice(&reply, &call.what, rooms);
+    let (kept, given, reply) = copy_twice(reply, &call.what, rooms);
     store.end(call.client, call.number, kept);
     (Answer::Ended(given), Answer::Ended(reply))
 }

@@ -70,16 +70,19 @@ pub fn take_rooms(alloc: Global, what: &What) -> Result<ReplyRooms, NoMemory>
     })
 }
 
-/// Two copies of a reply, in room that was taken before: one to keep, and one to give out.
-pub fn copy_twice(reply: &Reply, what: &What, rooms: ReplyRooms) -> (Reply, Reply)
-    requires fits { FitsReply what.now reply.now }
+/// Two copies of a reply, in room that was taken before, one to keep and one to give out; and the reply. Where it has
+/// many bytes and there is memory to count the owners of their list, all three share that list.
+pub fn copy_twice(reply: Reply, what: &What, rooms: ReplyRooms) -> (Reply, Reply, Reply)
+    requires fits { FitsReply what.now reply }
     requires room { HasReplyRoom what.now rooms }
-    ensures kept { result.0 ≡ reply.now }
-    ensures given { result.1 ≡ reply.now }
+    ensures kept { result.0 ≡ reply }
+    ensures given { result.1 ≡ reply }
+    ensures own { result.2 ≡ reply }
 {
     let _what = what;
     let ReplyRooms { kept, given } = rooms;
-    (reply.copy_into(kept), reply.copy_into(given))
+    let reply = reply.shared();
+    (reply.copy_into(kept), reply.copy_into(given), reply)
 }
 
 /// Takes the room for two copies of a report of so many bytes.
@@ -92,15 +95,19 @@ pub fn take_report_rooms(alloc: Global, size: usize) -> Result<ReplyRooms, NoMem
     })
 }
 
-/// Two copies of a report of so many bytes, in room that was taken before: one to keep, and one to give out.
-pub fn copy_report(reply: &Reply, size: usize, rooms: ReplyRooms) -> (Reply, Reply)
-    requires bytes { bytes_of_body reply.now.body ≤ size }
-    requires units { units_of_body reply.now.body ≡ 0 }
+/// Two copies of a report of at most so many bytes, in room that was taken before, one to keep and one to give out;
+/// and the report. Where it has many bytes and there is memory to count the owners of their list, all three share that
+/// list.
+pub fn copy_report(reply: Reply, size: usize, rooms: ReplyRooms) -> (Reply, Reply, Reply)
+    requires bytes { bytes_of_body reply.body ≤ size }
+    requires units { units_of_body reply.body ≡ 0 }
     requires room { HasReportRoom size rooms }
-    ensures kept { result.0 ≡ reply.now }
-    ensures given { result.1 ≡ reply.now }
+    ensures kept { result.0 ≡ reply }
+    ensures given { result.1 ≡ reply }
+    ensures own { result.2 ≡ reply }
 {
     let _size = size;
     let ReplyRooms { kept, given } = rooms;
-    (reply.copy_into(kept), reply.copy_into(given))
+    let reply = reply.shared();
+    (reply.copy_into(kept), reply.copy_into(given), reply)
 }

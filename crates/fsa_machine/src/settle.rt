@@ -117,7 +117,7 @@ fn retry<S: Store, L: Ledger>(
         Tried::Done(reply) => {
             tell(alloc, store, from, ended);
             let Ready { client, number, .. } = ready;
-            let (kept, given) = copy_twice(&reply, &call.what, rooms);
+            let (kept, given, reply) = copy_twice(reply, &call.what, rooms);
             store.end(client, number, kept);
             ended.push_end(client, number, given, reply);
             true
@@ -191,9 +191,9 @@ fn report_none<S: Store>(
     end_so(store, client, number, Status::NotifyEnumDir, ended);
 }
 
-// A Notify is told all that is due, with room for two copies of that; `false` where there is no memory, and
-// nothing has changed then.
-fn report_all<S: Store>(
+// A Notify is reported to, with room for two copies of what is due where it has room for that; `false` where there is
+// no memory, and nothing has changed then.
+fn report_in<S: Store>(
     alloc: Global,
     store: &mut S,
     ready: Ready,
@@ -202,13 +202,13 @@ fn report_all<S: Store>(
     rooms: ReplyRooms,
     ended: &mut EndLists,
 ) -> bool
-    requires size { size ≡ due_size (S.content store.old) asked.handle }
-    requires fits { size ≤ asked.room }
+    requires size { due_size (S.content store.old) asked.handle ≤ asked.room → due_size (S.content store.old) asked.handle ≤ size }
     requires rooms { HasReportRoom size rooms }
     requires room { 1 ≤ S.spare_ends store.old }
     requires told { length ended.old.items < ended.old.room }
     ensures content { result ≡ true → S.content store.new ≡ with_end (with_watch_seen (S.content store.old) asked.handle) ready.client ready.number (report (S.content store.old) asked.handle asked.room) }
     ensures none { result ≡ false → (S.content store.new ≡ S.content store.old) × (ended.new ≡ ended.old) }
+    ensures starves { result ≡ false → due_size (S.content store.old) asked.handle ≤ asked.room }
     ensures left { result ≡ true → S.spare_ends store.old ≤ S.spare_ends store.new + 1 }
     ensures unused { result ≡ false → S.spare_ends store.old ≤ S.spare_ends store.new }
     ensures told { result ≡ true → ended.new.items ≡ ended.old.items ++ record { client = ready.client; number = ready.number; reply = report (S.content store.old) asked.handle asked.room } ∷ [] }
@@ -219,7 +219,7 @@ fn report_all<S: Store>(
     match store.report(alloc, asked.handle, asked.room) {
         Err(NoMemory) => false,
         Ok(reply) => {
-            let (kept, given) = copy_report(&reply, size, rooms);
+            let (kept, given, reply) = copy_report(reply, size, rooms);
             store.end(client, number, kept);
             ended.push_end(client, number, given, reply);
             true
@@ -227,9 +227,9 @@ fn report_all<S: Store>(
     }
 }
 
-// The watch of its handle reports to a Notify. `false` where there is no memory for a report that has bytes,
-// and nothing has changed then.
-fn report_to<S: Store>(
+// A Notify is reported to, with room for as many bytes as are due, which are counted. `false` where there is no memory
+// for a report that has bytes, and nothing has changed then.
+fn report_counted<S: Store>(
     alloc: Global,
     store: &mut S,
     ready: Ready,
@@ -256,7 +256,35 @@ fn report_to<S: Store>(
     let Ok(rooms) = take_report_rooms(alloc, size) else {
         return false;
     };
-    report_all(alloc, store, ready, asked, size, rooms, ended)
+    report_in(alloc, store, ready, asked, size, rooms, ended)
+}
+
+// The watch of its handle reports to a Notify. Room for copies is taken for as many bytes as the Notify allows; where
+// there is no memory for so many, what is due is counted and room taken for that. `false` where there is none for a
+// report that has bytes, and nothing has changed then.
+fn report_to<S: Store>(
+    alloc: Global,
+    store: &mut S,
+    ready: Ready,
+    asked: Report,
+    ended: &mut EndLists,
+) -> bool
+    requires room { 1 ≤ S.spare_ends store.old }
+    requires told { length ended.old.items < ended.old.room }
+    ensures content { result ≡ true → S.content store.new ≡ with_end (with_watch_seen (S.content store.old) asked.handle) ready.client ready.number (report (S.content store.old) asked.handle asked.room) }
+    ensures none { result ≡ false → (S.content store.new ≡ S.content store.old) × (ended.new ≡ ended.old) }
+    ensures starves { result ≡ false → due_size (S.content store.old) asked.handle ≤ asked.room }
+    ensures left { result ≡ true → S.spare_ends store.old ≤ S.spare_ends store.new + 1 }
+    ensures unused { result ≡ false → S.spare_ends store.old ≤ S.spare_ends store.new }
+    ensures told { result ≡ true → ended.new.items ≡ ended.old.items ++ record { client = ready.client; number = ready.number; reply = report (S.content store.old) asked.handle asked.room } ∷ [] }
+    ensures pending_kept { S.spare_pending store.old ≤ S.spare_pending store.new }
+    ensures told_room { ended.new.room ≡ ended.old.room }
+{
+    let size = asked.room as usize;
+    match take_report_rooms(alloc, size) {
+        Ok(rooms) => report_in(alloc, store, ready, asked, size, rooms, ended),
+        Err(NoMemory) => report_counted(alloc, store, ready, asked, ended),
+    }
 }
 
 // A Notify that is ready is reported to; `false` where there is no memory for it, and nothing has changed then.

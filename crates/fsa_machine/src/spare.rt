@@ -1,14 +1,11 @@
 //! Rooms for turns, and turns that are made in them.
 
-ghost use Rattle.std.specs.Prelude.{◌≡◌, ◌≤◌, ◌<◌, ◌+◌, ◌-◌, [], true, length, All, IfErr, IfOk, IfSome, IsOk, OnErr, OnOk, Some};
+ghost use Rattle.std.specs.Prelude.{◌≡◌, ◌≤◌, ◌<◌, ◌+◌, ◌-◌, [], true, length, All, IfOk, IfSome, IsOk, OnErr, OnOk, Some};
 ghost use Rattle.std.specs.Vec.{vec_len};
-ghost use Rattle.fsa_model.specs.Engine.{own_tried};
-ghost use Rattle.fsa_model.specs.Once.{made, times};
-ghost use Rattle.fsa_model.specs.Outcome.{out_of};
-ghost use Rattle.fsa_model.specs.Settling.{MayTurn};
+ghost use Rattle.fsa_model.specs.Once.{made};
 ghost use Rattle.fsa_model.specs.Turn.{turn};
-ghost use Rattle.fsa_machine.specs.Released.{how_many_let_go};
-ghost use Rattle.fsa_machine.specs.Serves.{MayTry, Serves, ServesOn, most_entries};
+ghost use Rattle.fsa_machine.specs.OneTurn.{CanTurn, TurnsOrStays, first_of};
+ghost use Rattle.fsa_machine.specs.Serves.{most_entries};
 ghost use Rattle.fsa_machine.specs.Spare.{AreLists, HasLists, is_ack_or_cancel};
 ghost use Rattle.fsa_machine.specs.Step.{HasReplyRoom};
 
@@ -169,23 +166,10 @@ impl SpareRooms {
         call: Call,
         steps: &mut Steps<L>,
     ) -> Result<(Out, Out), (Call, NoMemory)>
-        requires serves { Serves (S.content store.old) }
-        requires may_try { MayTry (S.content store.old) call }
-        requires number { 0 < call.number }
-        requires may { MayTurn (S.content store.old) }
-        requires new { times call.client call.number (S.content store.old) ≡ 0 }
-        requires few { made (S.content store.old) < most_entries }
-        ensures ok { IfOk result (λ outs. turn (S.content store.old) call outs.0.starved.items ≡ Some (record { volume = S.content store.new; out = out_of outs.0 })) }
+        requires can { CanTurn (S.content store.old) call }
+        ensures turned { TurnsOrStays first_of (S.content store.old) (S.content store.new) (S.spare_ends store.old) (S.spare_ends store.new) (S.spare_pending store.old) (S.spare_pending store.new) call steps.old steps.new result }
         ensures same { IfOk result (λ outs. outs.1 ≡ outs.0) }
-        ensures serves { OnOk result (ServesOn (S.content store.old) (S.content store.new)) }
-        ensures longer { OnOk result (length (S.content store.old).ended ≤ length (S.content store.new).ended) }
-        ensures ends { S.spare_ends store.old + length (S.content store.old).ended ≤ S.spare_ends store.new + length (S.content store.new).ended }
-        ensures pending { OnOk result (S.spare_pending store.old ≤ S.spare_pending store.new + 1) }
-        ensures pending_kept { OnErr result (S.spare_pending store.old ≤ S.spare_pending store.new) }
         ensures turns { self.new ≡ self.old }
-        ensures err { IfErr result (λ back. (S.content store.new ≡ S.content store.old) × (back.0 ≡ call)) }
-        ensures tries { steps.new ≤ steps.old + (1 + how_many_let_go (own_tried (S.content store.old) call)) }
-        ensures rises { steps.old ≤ steps.new }
     {
         let Ok(room) = take_room(alloc, store, &mut self.ended, &mut self.lists, &call) else {
             return Err((call, NoMemory));
@@ -204,29 +188,16 @@ impl SpareRooms {
         call: Call,
         steps: &mut Steps<L>,
     ) -> Result<(Out, Out), (Call, NoMemory)>
-        requires serves { Serves (S.content store.old) }
-        requires may_try { MayTry (S.content store.old) call }
-        requires number { 0 < call.number }
-        requires may { MayTurn (S.content store.old) }
-        requires new { times call.client call.number (S.content store.old) ≡ 0 }
-        requires few { made (S.content store.old) < most_entries }
+        requires can { CanTurn (S.content store.old) call }
         requires ends { length (S.content store.old).pending + 1 ≤ S.spare_ends store.old }
         requires short { is_ack_or_cancel call.what ≡ true }
         requires some { 0 < self.old.turns }
         requires lists { length (S.content store.old).pending + 1 ≤ self.old.calls }
-        ensures ok { IfOk result (λ outs. turn (S.content store.old) call outs.0.starved.items ≡ Some (record { volume = S.content store.new; out = out_of outs.0 })) }
+        ensures turned { TurnsOrStays first_of (S.content store.old) (S.content store.new) (S.spare_ends store.old) (S.spare_ends store.new) (S.spare_pending store.old) (S.spare_pending store.new) call steps.old steps.new result }
         ensures same { IfOk result (λ outs. outs.1 ≡ outs.0) }
-        ensures serves { OnOk result (ServesOn (S.content store.old) (S.content store.new)) }
-        ensures longer { OnOk result (length (S.content store.old).ended ≤ length (S.content store.new).ended) }
-        ensures ends { S.spare_ends store.old + length (S.content store.old).ended ≤ S.spare_ends store.new + length (S.content store.new).ended }
-        ensures pending { OnOk result (S.spare_pending store.old ≤ S.spare_pending store.new + 1) }
-        ensures pending_kept { OnErr result (S.spare_pending store.old ≤ S.spare_pending store.new) }
         ensures memory { is_ack_or_cancel call.what ≡ true → 1 ≤ S.spare_pending store.old → IsOk result }
         ensures left { self.old.turns ≡ self.new.turns + 1 }
         ensures calls { self.new.calls ≡ self.old.calls }
-        ensures err { IfErr result (λ back. (S.content store.new ≡ S.content store.old) × (back.0 ≡ call)) }
-        ensures tries { steps.new ≤ steps.old + (1 + how_many_let_go (own_tried (S.content store.old) call)) }
-        ensures rises { steps.old ≤ steps.new }
     {
         let Some(room) = self.rooms.pop() else {
             unreachable!()

@@ -1,13 +1,9 @@
 //! One turn.
 
-ghost use Rattle.std.specs.Prelude.{◌≡◌, ◌≤◌, ◌<◌, ◌+◌, [], true, length, Some, IfOk, IfErr, IfSome, IsOk, OnErr, OnOk};
-ghost use Rattle.fsa_model.specs.Engine.{own_tried};
-ghost use Rattle.fsa_model.specs.Once.{made, times};
-ghost use Rattle.fsa_model.specs.Outcome.{out_of};
-ghost use Rattle.fsa_model.specs.Settling.{MayTurn};
+ghost use Rattle.std.specs.Prelude.{◌≡◌, ◌≤◌, ◌<◌, ◌+◌, [], true, length, IfOk, IfSome, IsOk};
+ghost use Rattle.fsa_model.specs.Once.{made};
 ghost use Rattle.fsa_model.specs.Turn.{turn};
-ghost use Rattle.fsa_machine.specs.Released.{how_many_let_go};
-ghost use Rattle.fsa_machine.specs.Serves.{MayTry, Serves, ServesOn, most_entries};
+ghost use Rattle.fsa_machine.specs.OneTurn.{CanTurn, TurnsOrStays, given_by};
 ghost use Rattle.fsa_machine.specs.Spare.{AreLists, HasLists, is_ack_or_cancel};
 ghost use Rattle.fsa_machine.specs.Step.{HasReplyRoom};
 
@@ -59,31 +55,18 @@ pub fn turn_in_room<S: Store, L: Ledger>(
     ended: &mut EndLists,
     steps: &mut Steps<L>,
 ) -> Result<MadeTurn, (Call, NoMemory)>
-    requires serves { Serves (S.content store.old) }
-    requires may_try { MayTry (S.content store.old) call }
-    requires number { 0 < call.number }
-    requires may { MayTurn (S.content store.old) }
-    requires new { times call.client call.number (S.content store.old) ≡ 0 }
-    requires few { made (S.content store.old) < most_entries }
+    requires can { CanTurn (S.content store.old) call }
     requires ends { length (S.content store.old).pending + 1 ≤ S.spare_ends store.old }
     requires rooms { HasReplyRoom call.what room.rooms }
     requires lists { HasLists (length (S.content store.old).pending + 1) room }
     requires none { ended.old.items ≡ [] }
     requires told { length (S.content store.old).pending + 1 ≤ ended.old.room }
-    ensures ok { IfOk result (λ made. turn (S.content store.old) call made.given.starved.items ≡ Some (record { volume = S.content store.new; out = out_of made.given })) }
+    ensures turned { TurnsOrStays given_by (S.content store.old) (S.content store.new) (S.spare_ends store.old) (S.spare_ends store.new) (S.spare_pending store.old) (S.spare_pending store.new) call steps.old steps.new result }
     ensures same { IfOk result (λ made. made.kept ≡ made.given) }
     ensures lists { IfOk result (λ made. IfSome made.lists (λ lists. AreLists 0 lists)) }
     ensures emptied { ended.new.items ≡ [] }
     ensures ended_room { ended.new.room ≡ ended.old.room }
-    ensures serves { OnOk result (ServesOn (S.content store.old) (S.content store.new)) }
-    ensures longer { OnOk result (length (S.content store.old).ended ≤ length (S.content store.new).ended) }
-    ensures ends { S.spare_ends store.old + length (S.content store.old).ended ≤ S.spare_ends store.new + length (S.content store.new).ended }
-    ensures pending { OnOk result (S.spare_pending store.old ≤ S.spare_pending store.new + 1) }
-    ensures pending_kept { OnErr result (S.spare_pending store.old ≤ S.spare_pending store.new) }
     ensures memory { is_ack_or_cancel call.what ≡ true → 1 ≤ S.spare_pending store.old → IsOk result }
-    ensures err { IfErr result (λ back. (S.content store.new ≡ S.content store.old) × (back.0 ≡ call)) }
-    ensures tries { steps.new ≤ steps.old + (1 + how_many_let_go (own_tried (S.content store.old) call)) }
-    ensures rises { steps.old ≤ steps.new }
 {
     let TurnRoom { rooms, none, lists } = room;
     let TurnLists {

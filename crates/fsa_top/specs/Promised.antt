@@ -24,6 +24,17 @@ pub record SinkView (K : Type 0) : Type 0 where
   pub written : K → Written
   pub faults : K → ℕ
 
+-- what holds of the status with which a script that was read is run, and of the sink, where the run writes this whole
+-- text, or this part of one
+pub record EndsRun {K : Type 0} (on : SinkView K) (whole piece : Script → Written → Written → Type 0) (script : Script) (sink sink_now : K) (status : ℕ) : Type 0 where
+  pub done : status ≡ 0 → whole script (on.written sink) (on.written sink_now)
+  pub part : status ≡ 4 → piece script (on.written sink) (on.written sink_now)
+  pub write : status ≡ 4 → FailsLast (on.faults sink) (on.faults sink_now) (on.written sink_now).since_fault
+  pub memory : status ≡ 5 → (sink_now ≡ sink) ⊎ piece script (on.written sink) (on.written sink_now)
+  pub unfailed : status ≢ 4 → on.faults sink_now ≡ on.faults sink
+  pub known : (status ≡ 0) ⊎ ((status ≡ 4) ⊎ (status ≡ 5))
+  pub later : on.faults sink ≤ on.faults sink_now
+
 -- what holds of the status that the program answers, of the source and of the sink: where the words are a list that
 -- it takes, and a run of a script writes this whole text, or this part of one
 pub record Promised {S K : Type 0} (of : SourceView S) (on : SinkView K) (is_list : Bool) (whole part : Script → Written → Written → Type 0) (source source_now : S) (sink sink_now : K) (status : ℕ) : Type 0 where

@@ -6,7 +6,7 @@ ghost use Rattle.script_read.specs.ScriptView.{contents};
 ghost use Rattle.wire_io.specs.Faults.{FailsLast, StopsAtFault};
 ghost use Rattle.wire_io.specs.Source.{HasReadAtMost, TakesLittle};
 ghost use Rattle.fsa_top.specs.Limits.{limit_of, most_script_bytes};
-ghost use Rattle.fsa_top.specs.Promised.{Promised, PromisedSummary};
+ghost use Rattle.fsa_top.specs.Promised.{EndsRun, Promised, PromisedSummary};
 ghost use Rattle.fsa_top.specs.Runs.{FoundBad, FoundLimit, IsOfBytes, NamesFault, NamesLimit, Ran, ReadsScript, WritesBegun, WritesPart, WritesText, WritesWhole, WritesWholePart};
 ghost use Rattle.fsa_top.specs.Words.{is_race, is_run, seed_of};
 
@@ -98,13 +98,7 @@ fn read_source<S: Source, K: Sink>(
 // Runs a script: 0, or 4 or 5 where the sink failed or there was no memory.
 fn run_read<K: Sink>(alloc: Global, script: &Script, sink: &mut K) -> u8
     requires read { IsOfBytes (contents script.now) }
-    ensures done { result ≡ 0 → WritesText (contents script.now) (K.written sink.old) (K.written sink.new) }
-    ensures part { result ≡ 4 → WritesPart (contents script.now) (K.written sink.old) (K.written sink.new) }
-    ensures write { result ≡ 4 → FailsLast (K.faults sink.old) (K.faults sink.new) (K.written sink.new).since_fault }
-    ensures memory { result ≡ 5 → (sink.new ≡ sink.old) ⊎ WritesPart (contents script.now) (K.written sink.old) (K.written sink.new) }
-    ensures unfailed { result ≢ 4 → K.faults sink.new ≡ K.faults sink.old }
-    ensures known { (result ≡ 0) ⊎ ((result ≡ 4) ⊎ (result ≡ 5)) }
-    ensures later { K.faults sink.old ≤ K.faults sink.new }
+    ensures ends { EndsRun (record { written = K.written; faults = K.faults }) WritesText WritesPart (contents script.now) sink.old sink.new result }
 {
     match run_script(alloc, script, sink) {
         Ok(()) => 0,
@@ -123,13 +117,7 @@ fn race_read<R: Threads + Wait + Clock + Sync, K: Sink, G: Gate + Sync>(
 ) -> u8
     requires read { IsOfBytes (contents script.now) }
     requires gate { (client number : ℕ) → G.is_for gate.now client number }
-    ensures done { result ≡ 0 → WritesWhole (contents script.now) (K.written sink.old) (K.written sink.new) }
-    ensures part { result ≡ 4 → WritesWholePart (contents script.now) (K.written sink.old) (K.written sink.new) }
-    ensures write { result ≡ 4 → FailsLast (K.faults sink.old) (K.faults sink.new) (K.written sink.new).since_fault }
-    ensures memory { result ≡ 5 → (sink.new ≡ sink.old) ⊎ WritesWholePart (contents script.now) (K.written sink.old) (K.written sink.new) }
-    ensures unfailed { result ≢ 4 → K.faults sink.new ≡ K.faults sink.old }
-    ensures known { (result ≡ 0) ⊎ ((result ≡ 4) ⊎ (result ≡ 5)) }
-    ensures later { K.faults sink.old ≤ K.faults sink.new }
+    ensures ends { EndsRun (record { written = K.written; faults = K.faults }) WritesWhole WritesWholePart (contents script.now) sink.old sink.new result }
 {
     match race_script(rt, alloc, script, sink, gate) {
         Ok(()) => 0,
@@ -140,20 +128,7 @@ fn race_read<R: Threads + Wait + Clock + Sync, K: Sink, G: Gate + Sync>(
 
 // Reads a script whole and runs it.
 fn run_source<S: Source, K: Sink>(alloc: Global, source: &mut S, sink: &mut K) -> u8
-    ensures done { result ≡ 0 → Ran WritesText (S.left source.old) (S.left source.new) (K.written sink.old) (K.written sink.new) }
-    ensures bad { result ≡ 2 → FoundBad (S.left source.old) (S.left source.new) (K.written sink.old) (K.written sink.new) (K.faults sink.old) (K.faults sink.new) }
-    ensures read { result ≡ 3 → FailsLast (S.faults source.old) (S.faults source.new) (S.taken source.new).since × (sink.new ≡ sink.old) }
-    ensures write { result ≡ 4 → FailsLast (K.faults sink.old) (K.faults sink.new) (K.written sink.new).since_fault × Ran WritesPart (S.left source.old) (S.left source.new) (K.written sink.old) (K.written sink.new) }
-    ensures memory { result ≡ 5 → (sink.new ≡ sink.old) ⊎ Ran WritesPart (S.left source.old) (S.left source.new) (K.written sink.old) (K.written sink.new) }
-    ensures limit { result ≡ 6 → FoundLimit (S.left source.old) (K.written sink.old) (K.written sink.new) (K.faults sink.old) (K.faults sink.new) }
-    ensures known { (result ≢ 1) × (result ≤ 6) }
-    ensures unfailed { result ≡ 5 → (S.faults source.new ≡ S.faults source.old) × (K.faults sink.new ≡ K.faults sink.old) }
-    ensures turns { S.takes source.new ≤ S.takes source.old + (most_script_bytes + 1) }
-    ensures bytes { HasReadAtMost (most_script_bytes + 1) (S.left source.old) (S.left source.new) }
-    ensures little { TakesLittle (most_script_bytes + 1) (S.taken source.old) (S.taken source.new) }
-    ensures ended { (result ≡ 0) ⊎ (result ≡ 2) → (S.taken source.new).since ≡ 0 }
-    ensures stops { StopsAtFault (K.faults sink.old) (K.faults sink.new) (K.written sink.new).since_fault }
-    ensures later { (S.faults source.old ≤ S.faults source.new) × (K.faults sink.old ≤ K.faults sink.new) }
+    ensures promised { Promised (record { left = S.left; faults = S.faults; takes = S.takes; taken = S.taken }) (record { written = K.written; faults = K.faults }) true WritesText WritesPart source.old source.new sink.old sink.new result }
 {
     match read_source(alloc, source, sink) {
         Ok(script) => run_read(alloc, &script, sink),
@@ -170,20 +145,7 @@ fn race_source<R: Threads + Wait + Clock + Sync, S: Source, K: Sink, G: Gate + S
     gate: &G,
 ) -> u8
     requires gate { (client number : ℕ) → G.is_for gate.now client number }
-    ensures done { result ≡ 0 → Ran WritesWhole (S.left source.old) (S.left source.new) (K.written sink.old) (K.written sink.new) }
-    ensures bad { result ≡ 2 → FoundBad (S.left source.old) (S.left source.new) (K.written sink.old) (K.written sink.new) (K.faults sink.old) (K.faults sink.new) }
-    ensures read { result ≡ 3 → FailsLast (S.faults source.old) (S.faults source.new) (S.taken source.new).since × (sink.new ≡ sink.old) }
-    ensures write { result ≡ 4 → FailsLast (K.faults sink.old) (K.faults sink.new) (K.written sink.new).since_fault × Ran WritesWholePart (S.left source.old) (S.left source.new) (K.written sink.old) (K.written sink.new) }
-    ensures memory { result ≡ 5 → (sink.new ≡ sink.old) ⊎ Ran WritesWholePart (S.left source.old) (S.left source.new) (K.written sink.old) (K.written sink.new) }
-    ensures limit { result ≡ 6 → FoundLimit (S.left source.old) (K.written sink.old) (K.written sink.new) (K.faults sink.old) (K.faults sink.new) }
-    ensures known { (result ≢ 1) × (result ≤ 6) }
-    ensures unfailed { result ≡ 5 → (S.faults source.new ≡ S.faults source.old) × (K.faults sink.new ≡ K.faults sink.old) }
-    ensures turns { S.takes source.new ≤ S.takes source.old + (most_script_bytes + 1) }
-    ensures bytes { HasReadAtMost (most_script_bytes + 1) (S.left source.old) (S.left source.new) }
-    ensures little { TakesLittle (most_script_bytes + 1) (S.taken source.old) (S.taken source.new) }
-    ensures ended { (result ≡ 0) ⊎ (result ≡ 2) → (S.taken source.new).since ≡ 0 }
-    ensures stops { StopsAtFault (K.faults sink.old) (K.faults sink.new) (K.written sink.new).since_fault }
-    ensures later { (S.faults source.old ≤ S.faults source.new) × (K.faults sink.old ≤ K.faults sink.new) }
+    ensures promised { Promised (record { left = S.left; faults = S.faults; takes = S.takes; taken = S.taken }) (record { written = K.written; faults = K.faults }) true WritesWhole WritesWholePart source.old source.new sink.old sink.new result }
 {
     match read_source(alloc, source, sink) {
         Ok(script) => race_read(rt, alloc, &script, sink, gate),

@@ -4,6 +4,7 @@ pub mod CaseTable
 pub mod CaseTableBody
 pub mod Masks
 pub mod FixedBuffers
+pub mod Held
 pub mod LittleEndian
 pub mod Match
 pub mod OplockGrants

@@ -5,8 +5,9 @@
 //!   reply is a status and a body; `Out` is all that one turn gives out.
 //! - Names and numbers of statuses, masks, actions and filters are those of [MS-ERREF], [MS-FSCC] and [MS-FSA].
 //! - A name is a list of 16-bit units, and `UpcaseTable` says which of two names are the same.
-//! - What takes memory answers a `Result`, with `NoMemory` where there is none; a `BoundedList` takes its room once, and
-//!   a `ReplyRoom` is what a reply is copied into.
+//! - What takes memory answers a `Result`, with `NoMemory` where there is none; `shared` answers none, and without
+//!   memory the value isn't shared. A `BoundedList` takes its room once, and a `ReplyRoom` is what a reply is copied
+//!   into, where its bytes aren't shared.
 #![tactic(auto)]
 
 mod case;

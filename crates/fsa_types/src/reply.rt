@@ -158,40 +158,44 @@ impl ReplyRoom {
         Ok(ReplyRoom { bytes, units })
     }
 
-    // These bytes, in this room.
-    fn bytes_in(self, bytes: &[u8]) -> Bytes
+    // A copy of these bytes, in this room where they aren't shared.
+    fn bytes_in(self, bytes: &Bytes) -> Bytes
         requires { length bytes.now ≤ self.bytes }
         ensures { result ≡ bytes.now }
     {
-        let mut made = self.bytes;
-        let Ok(()) = made.extend_from_slice(bytes) else {
-            unreachable!()
-        };
-        Bytes::from(made)
+        bytes.copy_into(self.bytes)
     }
 
-    // These bytes and units, in this room.
-    fn both_in(self, bytes: &[u8], units: &[u16]) -> (Bytes, Name)
+    // A copy of these bytes, in this room where they aren't shared, and of these units, in this room.
+    fn both_in(self, bytes: &Bytes, units: &[u16]) -> (Bytes, Name)
         requires bytes { length bytes.now ≤ self.bytes }
         requires units { length units.now ≤ self.units }
         ensures bytes { result.0 ≡ bytes.now }
         ensures units { result.1 ≡ units.now }
     {
-        let mut made = self.bytes;
-        let Ok(()) = made.extend_from_slice(bytes) else {
-            unreachable!()
-        };
         let mut name = self.units;
         let Ok(()) = name.extend_from_slice(units) else {
             unreachable!()
         };
-        (Bytes::from(made), Name::from(name))
+        (bytes.copy_into(self.bytes), Name::from(name))
     }
 }
 
 impl Reply {
-    /// An equal reply, in room that was taken before. The body may have at most that many bytes and
-    /// units. It takes no memory.
+    /// The same reply. Where its body has 128 bytes at least and there is memory to count the owners of
+    /// their list, copies of the reply share that list from now on.
+    pub fn shared(self) -> Reply
+        ensures { result ≡ self }
+    {
+        let Reply { status, body } = self;
+        Reply {
+            status,
+            body: body.shared(),
+        }
+    }
+
+    /// An equal reply, in room that was taken before, but for bytes that are shared. The body may have
+    /// at most that many bytes and units. It takes no memory, and gives back room that it doesn't use.
     pub fn copy_into(&self, room: ReplyRoom) -> Reply
         requires bytes { bytes_of_body self.now.body ≤ room.bytes }
         requires units { units_of_body self.now.body ≤ room.units }
@@ -205,6 +209,22 @@ impl Reply {
 }
 
 impl Body {
+    // The same body, its bytes shared where they are many and there is memory for that.
+    fn shared(self) -> Body
+        ensures { result ≡ self }
+    {
+        match self {
+            Body::Got(bytes) => Body::Got(bytes.shared()),
+            Body::Packed(kind, bytes) => Body::Packed(kind, bytes.shared()),
+            Body::Stopped { tag, bytes, rest } => Body::Stopped {
+                tag,
+                bytes: bytes.shared(),
+                rest,
+            },
+            body => body,
+        }
+    }
+
     // An equal body, in room that was taken before.
     fn copy_into(&self, room: ReplyRoom) -> Body
         requires bytes { bytes_of_body self.now ≤ room.bytes }
@@ -214,16 +234,16 @@ impl Body {
         match self {
             Body::Nothing => Body::Nothing,
             Body::Opened(action) => Body::Opened(*action),
-            Body::Got(bytes) => Body::Got(room.bytes_in(bytes.bytes())),
+            Body::Got(bytes) => Body::Got(room.bytes_in(bytes)),
             Body::Count(count) => Body::Count(*count),
-            Body::Packed(kind, bytes) => Body::Packed(*kind, room.bytes_in(bytes.bytes())),
+            Body::Packed(kind, bytes) => Body::Packed(*kind, room.bytes_in(bytes)),
             Body::Broken { level, ack } => Body::Broken {
                 level: *level,
                 ack: *ack,
             },
             Body::Left(level) => Body::Left(*level),
             Body::Stopped { tag, bytes, rest } => {
-                let (bytes, rest) = room.both_in(bytes.bytes(), rest.units());
+                let (bytes, rest) = room.both_in(bytes, rest.units());
                 Body::Stopped {
                     tag: *tag,
                     bytes,

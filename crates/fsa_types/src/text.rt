@@ -1,11 +1,15 @@
 //! Names of UTF-16 units and strings of bytes.
 
-ghost use Rattle.std.specs.Prelude.{◌≡◌, IfOk};
+ghost use Rattle.std.specs.Prelude.{◌≡◌, ◌≤◌, [], length, IfOk, IfSome};
+ghost use Rattle.std.specs.Vec.{vec_capacity};
+ghost use Rattle.fsa_types.specs.Held.{bytes_held};
 
 use crate::copy::TryCopy;
 use crate::memory::NoMemory;
 use std::alloc::Global;
+use std::fmt;
 use std::marker::Model;
+use std::sync::Arc;
 
 /// A name, a path or an expression: a list of UTF-16 units, any of them, after [MS-FSCC]
 /// 'Pathname'.
@@ -55,10 +59,19 @@ impl TryCopy for Name {
     }
 }
 
-/// A string of bytes.
-#[derive(Debug, Drop)]
+/// A string of bytes. Strings that are equal may share one list.
+#[derive(Drop)]
 pub struct Bytes {
-    bytes: Vec<u8>,
+    held: Held,
+}
+
+// Where the bytes of a string stand.
+#[derive(Drop)]
+enum Held {
+    // In a list of its own.
+    Own(Vec<u8>),
+    // In a list that other strings may share.
+    Shared(Arc<Vec<u8>>),
 }
 
 impl Model for Bytes {
@@ -66,7 +79,37 @@ impl Model for Bytes {
 
     ghost Value = { List ℕ };
 
-    ghost view = { λ b. b.bytes.items };
+    ghost use Rattle.fsa_types.specs.Held.{bytes_held};
+
+    ghost view = { λ b. bytes_held b.held };
+}
+
+impl fmt::Debug for Bytes {
+    fn fmt<W: fmt::Write>(&self, f: &mut fmt::Formatter<W>) -> fmt::Result {
+        f.debug_struct("Bytes")
+            .field("bytes", &self.bytes())
+            .finish()
+    }
+}
+
+// How many bytes a string has at least whose list is shared: to count the owners of a list takes a
+// block of memory for itself.
+const FEWEST_SHARED: usize = 128;
+
+// These bytes in a list without spare room, which is one to be shared where they are many and there
+// is memory to count its owners.
+fn share(mut bytes: Vec<u8>) -> Held
+    ensures { bytes_held result ≡ bytes.items }
+{
+    bytes.shrink_to_fit();
+    if bytes.len() < FEWEST_SHARED {
+        return Held::Own(bytes);
+    }
+    let alloc = *bytes.allocator();
+    match Arc::new(alloc, bytes) {
+        Ok(bytes) => Held::Shared(bytes),
+        Err(failed) => Held::Own(failed.value),
+    }
 }
 
 impl Bytes {
@@ -75,14 +118,61 @@ impl Bytes {
         ensures { IfOk result (λ made. made ≡ bytes.now) }
     {
         let bytes = Vec::from_slice(alloc, bytes)?;
-        Ok(Bytes { bytes })
+        Ok(Bytes::from(bytes))
     }
 
     /// The bytes.
     pub fn bytes(&self) -> &[u8]
         ensures { result.now ≡ self.now }
     {
-        self.bytes.as_slice()
+        match &self.held {
+            Held::Own(bytes) => bytes.as_slice(),
+            Held::Shared(bytes) => bytes.as_slice(),
+        }
+    }
+
+    /// The same string. Where it has 128 bytes at least and there is memory to count the owners of
+    /// their list, its copies share that list from now on.
+    pub fn shared(self) -> Bytes
+        ensures { result ≡ self }
+    {
+        match self.held {
+            Held::Own(bytes) => Bytes { held: share(bytes) },
+            held => Bytes { held },
+        }
+    }
+
+    // An equal string that shares the list; `None` where that isn't one to be shared, or has as many
+    // owners as can be counted. It takes no memory.
+    fn sharing(&self) -> Option<Bytes>
+        ensures { IfSome result (λ made. made ≡ self.now) }
+    {
+        match &self.held {
+            Held::Own(_) => None,
+            Held::Shared(bytes) => match Arc::try_clone(bytes) {
+                Ok(bytes) => Some(Bytes {
+                    held: Held::Shared(bytes),
+                }),
+                Err(_) => None,
+            },
+        }
+    }
+
+    // An equal string: one that shares the list, or else one in this empty list, which has room for
+    // the bytes. Room that isn't used is given back.
+    pub(crate) fn copy_into(&self, mut room: Vec<u8>) -> Bytes
+        requires none { room.items ≡ [] }
+        requires room { length self.now ≤ vec_capacity room }
+        ensures { result ≡ self.now }
+    {
+        if let Some(made) = self.sharing() {
+            return made;
+        }
+        let Ok(()) = room.extend_from_slice(self.bytes()) else {
+            unreachable!()
+        };
+        room.shrink_to_fit();
+        Bytes::from(room)
     }
 }
 
@@ -92,12 +182,17 @@ impl From<Vec<u8>> for Bytes {
     ghost from_gives = { λ v b. b ≡ v.items };
 
     fn from(bytes: Vec<u8>) -> Bytes {
-        Bytes { bytes }
+        Bytes {
+            held: Held::Own(bytes),
+        }
     }
 }
 
 impl TryCopy for Bytes {
     fn copy(&self, alloc: Global) -> Result<Bytes, NoMemory> {
-        Bytes::copy_of(alloc, self.bytes())
+        match self.sharing() {
+            Some(made) => Ok(made),
+            None => Bytes::copy_of(alloc, self.bytes()),
+        }
     }
 }

@@ -1,10 +1,10 @@
 -- Entries in the order of keys: those of one key stand together, and stay so where one comes or goes.
-use Rattle.std.proofs.Common.{◌≡◌, ℕ, zero, suc, ◌<◌, ◌≤◌, ◌+◌, ◌++◌, true, false, Bool, cond, List, [], ◌∷◌, length, get_or, refl, ap, sym, ◌∙◌, arith, inl, inr, Option, Some, None, eq-eqb}
-use Rattle.std.specs.Prelude.{take, drop, filter, find, insert, remove, position, option_map, slice_get, nat_lt, ◌==◌}
+use Rattle.std.proofs.Common.{◌≡◌, ℕ, zero, suc, ◌<◌, ◌≤◌, ◌+◌, ◌-◌, ◌++◌, true, false, Bool, cond, List, [], ◌∷◌, length, get_or, refl, ap, sym, ◌∙◌, arith, inl, inr, Option, Some, None, eq-eqb}
+use Rattle.std.specs.Prelude.{take, drop, filter, find, insert, not, remove, position, option_map, slice_get, nat_lt, ◌==◌}
 use Rattle.std.specs.List.{All, AllWithin, position_or_len}
-use Rattle.std.proofs.lemmas.List.{append-nil}
+use Rattle.std.proofs.lemmas.List.{append-nil, get_or-drop, get_or-take, length-drop, length-take-le}
 use Rattle.fsa_types.specs.Ranges.{without_first}
-use Rattle.std.specs.List.Sorted.{IsPartitionPoint}
+use Rattle.std.specs.List.Sorted.{IsNonDecreasingBy, IsPartitionPoint}
 use Rattle.std.proofs.lemmas.Bool.{cases_Bool, cases_lt, and_left, ne_eqb, lt-ltb, le-ltb, eqb-true}
 use Rattle.std.proofs.lemmas.List.Elements.{filter-append}
 use Rattle.std.proofs.lemmas.List.Folds.{find_at}
@@ -72,6 +72,36 @@ position-back p (x ∷ xs) (suc i) fails =
     ∙ ap (option_map suc) (position-back p xs i (λ k d from below. fails (suc k) d (omega arith) (omega arith)))
     ∙ sym (position-fails p x xs (fails 0 x (omega arith) (omega arith)))
 
+-- ---- where the entries of lower keys end, and those of keys up to one
+
+-- lower keys end where the entry before has one and that there hasn't
+pub begin-here : (xs : List (ℕ × ℕ)) (i key : ℕ) → IsNonDecreasingBy (λ e. e.0) xs → i ≤ length xs → (0 < i → (d : ℕ × ℕ) → (get_or xs (i - 1) d).0 < key) → (i < length xs → (d : ℕ × ℕ) → key ≤ (get_or xs i d).0)
+    → IsPartitionPoint (λ e. e.0 < key) (λ e. key ≤ e.0) xs i
+begin-here xs i key rising bound low high = (
+  (λ k d from below.
+      let step : (get_or xs k d).0 ≤ (get_or xs (i - 1) d).0 = rising k (i - 1) d (omega arith) (omega arith) in
+      let least : (get_or xs (i - 1) d).0 < key = low (omega arith) d in
+      omega arith),
+  (λ k d from within.
+      let step : (get_or xs i d).0 ≤ (get_or xs k d).0 = rising i k d from within in
+      let most : key ≤ (get_or xs i d).0 = high (omega arith) d in
+      omega arith),
+)
+
+-- keys up to one end where they do among the first ones, if none is behind these
+pub end-near : (xs : List (ℕ × ℕ)) (n j key : ℕ) → IsNonDecreasingBy (λ e. e.0) xs → n ≤ length xs → j ≤ n → (n < length xs → (d : ℕ × ℕ) → key < (get_or xs n d).0)
+    → IsPartitionPoint (λ e. e.0 ≤ key) (λ e. key < e.0) (take n xs) j → IsPartitionPoint (λ e. e.0 ≤ key) (λ e. key < e.0) xs j
+end-near xs n j key rising bound within behind near = (
+  (λ k d from below. let same = near.0 k d from below in rw (get_or-take n xs k d (omega arith)) at same),
+  (λ k d from inside. elim (cases_lt k n) [
+    | inl less ↦ (let same = near.1 k d from (omega (arith, length-take-le n xs bound)) in rw (get_or-take n xs k d less) at same)
+    | inr more ↦ (
+        let step : (get_or xs n d).0 ≤ (get_or xs k d).0 = rising n k d more inside in
+        let past : key < (get_or xs n d).0 = behind (omega arith) d in
+        omega arith)
+  ]),
+)
+
 -- ---- the entries of a key
 
 -- those that begin behind the lower keys, and end before the greater ones
@@ -106,6 +136,74 @@ place-here xs i j key number low high =
 
     under : (e : ℕ × ℕ) → e.0 < key → is_entry key number e ≡ false
     under e less = and_left (e.0 == key) (e.1 == number) (ne_eqb e.0 key (λ same. absurd (omega (arith, same))))
+
+-- the entries up to a key end where its part ends
+pub end-here : (xs : List (ℕ × ℕ)) (i j key : ℕ) → IsPartitionPoint (λ e. e.0 < key) (λ e. key ≤ e.0) xs i → IsPartitionPoint (λ e. e.0 ≤ key) (λ e. key < e.0) (drop i xs) j
+    → IsPartitionPoint (λ e. e.0 ≤ key) (λ e. key < e.0) xs (i + j)
+end-here xs i j key low high = (
+  (λ k d from below. elim (cases_lt k i) [
+    | inl less ↦ (let under : (get_or xs k d).0 < key = low.0 k d (omega arith) less in omega arith)
+    | inr more ↦ (let upto : (get_or (drop i xs) (k - i) d).0 ≤ key = high.0 (k - i) d (omega arith) (omega arith) in rw (moved k d more) at upto)
+  ]),
+  (λ k d from within.
+      let above : key < (get_or (drop i xs) (k - i) d).0 = high.1 (k - i) d (omega arith) (omega (arith, length-drop i xs)) in
+      rw (moved k d (omega arith)) at above),
+)
+  where
+    moved : (k : ℕ) (d : ℕ × ℕ) → i ≤ k → get_or (drop i xs) (k - i) d ≡ get_or xs k d
+    moved k d more = let back : i + (k - i) ≡ k = omega arith in get_or-drop i xs (k - i) d ∙ ap (λ n. get_or xs n d) back
+
+-- what stands before the part of a key and behind it are those of other keys
+filter-others : (key : ℕ) (xs : List (ℕ × ℕ)) → All (λ e. (e.0 == key) ≡ false) xs → filter (λ e. not (has_key key e)) xs ≡ xs
+filter-others key [] other = refl
+filter-others key (x ∷ xs) other =
+    let here : (x.0 == key) ≡ false = other 0 x (omega arith) in
+    rw here (ap (λ (rest : List (ℕ × ℕ)). x ∷ rest) (filter-others key xs (λ k d within. other (suc k) d (omega arith))))
+
+pub part-others : (xs : List (ℕ × ℕ)) (i j key : ℕ) → IsPartitionPoint (λ e. e.0 < key) (λ e. key ≤ e.0) xs i → IsPartitionPoint (λ e. e.0 ≤ key) (λ e. key < e.0) (drop i xs) j
+    → take i xs ++ drop j (drop i xs) ≡ filter (λ e. not (has_key key e)) xs
+part-others [] zero zero key low high = refl
+part-others [] zero (suc j) key low high = refl
+part-others [] (suc i) zero key low high = refl
+part-others [] (suc i) (suc j) key low high = refl
+part-others (x ∷ xs) zero zero key low high = sym (filter-others key (x ∷ xs) (λ k d within. ne_eqb _ key (λ e. absurd (omega (arith, e, high.1 k d (omega arith) within)))))
+part-others (x ∷ xs) zero (suc j) key low high =
+    let below : x.0 ≤ key = high.0 0 x (omega arith) (omega arith) in
+    let above : key ≤ x.0 = low.1 0 x (omega arith) (omega arith) in
+    let here : (x.0 == key) ≡ true = eq-eqb x.0 key (omega arith) in
+    rw here (part-others xs zero j key
+    (λ k d from within. absurd (omega arith), λ k d from within. low.1 (suc k) d (omega arith) (omega arith))
+    (λ k d from within. high.0 (suc k) d (omega arith) (omega arith), λ k d from within. high.1 (suc k) d (omega arith) (omega arith)))
+part-others (x ∷ xs) (suc i) j key low high =
+    let below : x.0 < key = low.0 0 x (omega arith) (omega arith) in
+    let other : (x.0 == key) ≡ false = ne_eqb x.0 key (λ e. absurd (omega arith)) in
+    rw other (ap (λ (rest : List (ℕ × ℕ)). x ∷ rest)
+    (part-others xs i j key (λ k d from within. low.0 (suc k) d (omega arith) (omega arith), λ k d from within. low.1 (suc k) d (omega arith) (omega arith)) high))
+
+-- the first of a key stands where the lower ones end, if there is one
+pub first-here : (xs : List (ℕ × ℕ)) (i key : ℕ) (e : ℕ × ℕ) → IsPartitionPoint (λ e. e.0 < key) (λ e. key ≤ e.0) xs i → slice_get xs i ≡ Some e → e.0 ≡ key → slice_get (entries_of xs key) 0 ≡ Some e
+first-here [] zero key e low there is = cc
+first-here [] (suc i) key e low there is = cc
+first-here (x ∷ xs) zero key e low there is =
+    let same : x ≡ e = cc in
+    let here : (x.0 == key) ≡ true = eq-eqb x.0 key (ap (λ (y : ℕ × ℕ). y.0) same ∙ is) in
+    rw here there
+first-here (x ∷ xs) (suc i) key e low there is =
+    let below : x.0 < key = low.0 0 x (omega arith) (omega arith) in
+    let other : (x.0 == key) ≡ false = ne_eqb x.0 key (λ e. absurd (omega arith)) in
+    rw other (first-here xs i key e (λ k d from within. low.0 (suc k) d (omega arith) (omega arith), λ k d from within. low.1 (suc k) d (omega arith) (omega arith)) there is)
+
+pub first-past : (xs : List (ℕ × ℕ)) (i key : ℕ) → IsNonDecreasingBy (λ e. e.0) xs → IsPartitionPoint (λ e. e.0 < key) (λ e. key ≤ e.0) xs i → (i < length xs → (d : ℕ × ℕ) → ((get_or xs i d).0 ≡ key → ⊥))
+    → slice_get (entries_of xs key) 0 ≡ None
+first-past xs i key rising low past =
+    let none : entries_of xs key ≡ [] = filter-none (has_key key) xs (λ k d within. ne_eqb _ key (λ same. elim (cases_lt k i) [
+      | inl less ↦ absurd (omega (arith, same, low.0 k d (omega arith) less))
+      | inr more ↦ (
+          let step : (get_or xs i d).0 ≤ (get_or xs k d).0 = rising i k d more within in
+          let least : key ≤ (get_or xs i d).0 = low.1 i d (omega arith) (omega arith) in
+          past (omega arith) d (omega (arith, same)))
+    ])) in
+    rw none refl
 
 -- the first of a greater key stands where those up to this one end
 pub after-here : (xs : List (ℕ × ℕ)) (i key : ℕ) → i ≤ length xs → IsPartitionPoint (λ e. e.0 ≤ key) (λ e. key < e.0) xs i → slice_get xs i ≡ find (is_after key) xs

@@ -1,11 +1,11 @@
 //! Numbers under keys.
 
-ghost use Rattle.std.specs.Prelude.{◌≡◌, ◌≤◌, ◌+◌, ◌++◌, ◌∷◌, [], not, OnOk, filter, find, slice_get};
+ghost use Rattle.std.specs.Prelude.{◌≡◌, ◌≤◌, ◌+◌, ◌++◌, ◌∷◌, [], not, OnOk, filter, find, option_map, slice_get};
 ghost use Rattle.std.specs.List.Sorted.{IsNonDecreasingBy};
 ghost use Rattle.key_index.specs.Index.{IsSameByKey, entries_of, has_key, is_after, is_entry};
 ghost use Rattle.fsa_types.specs.Ranges.{without_first};
 
-use crate::search::{end_of, part_of, place_of, stays_rising};
+use crate::search::{end_of, first_number, part_at, part_of, place_of, stays_rising};
 use fsa_types::NoMemory;
 use object_tables::ShiftList;
 use std::alloc::Global;
@@ -60,6 +60,13 @@ impl KeyIndex {
         part_of(self.entries.as_slice(), key)
     }
 
+    /// The number of the first entry of a key; `None` exactly where the key has none.
+    pub fn first(&self, key: u64) -> Option<u64>
+        ensures { result ≡ option_map (λ entry. entry.1) (slice_get (entries_of self.now.entries key) 0) }
+    {
+        first_number(self.entries.as_slice(), key)
+    }
+
     /// The first entry of a greater key; `None` exactly where no key is greater. This key need not be there.
     pub fn after(&self, key: u64) -> Option<(u64, u64)>
         ensures entry { result ≡ find (is_after key) self.now.entries }
@@ -75,8 +82,9 @@ impl KeyIndex {
         ensures added { IsSameByKey self.new.entries (self.old.entries ++ (key, number) ∷ []) }
         ensures left { self.old.room ≤ self.new.room + 1 }
     {
-        self.rising = stays_rising(part_of(self.entries.as_slice(), key), number, self.rising);
-        let place = end_of(self.entries.as_slice(), key);
+        let (begin, part) = part_at(self.entries.as_slice(), key);
+        self.rising = stays_rising(part, number, self.rising);
+        let place = begin + part.len();
         self.entries.insert(place, (key, number));
     }
 
@@ -106,10 +114,13 @@ impl KeyIndex {
 
 // Takes all entries of a key out.
 fn remove_all(entries: &mut ShiftList<(u64, u64)>, key: u64)
+    requires rising { IsNonDecreasingBy (λ e. e.0) entries.old.items }
     ensures entries { entries.new.items ≡ filter (λ e. not (has_key key e)) entries.old.items }
     ensures room { entries.old.room ≤ entries.new.room }
 {
-    entries.retain(|entry| entry.0 != key);
+    let (begin, part) = part_at(entries.as_slice(), key);
+    let count = part.len();
+    entries.remove_part(begin, count);
 }
 
 // The entry at this place.

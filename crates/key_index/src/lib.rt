@@ -4,6 +4,7 @@
 //! index.reserve(1)?;
 //! index.add(key, number);             // behind the numbers that the key has
 //! index.of(key);                      // the key's entries, in the order in which they were added
+//! index.first(key);                   // the number of the first of these
 //! index.after(key);                   // the first entry of a greater key
 //! index.remove(key, number);
 //! index.remove_all(key);
@@ -13,10 +14,13 @@
 //! after `add`: `IsSameByKey` is what a caller keeps. `index_of_rows` has the laws for a table whose rows are
 //! added with rising numbers and keep their key: the entries of a key are then those of its rows, in order.
 //!
-//! `of` and `after` take time logarithmic in the entries. `add` and `remove` move the entries before the place or those
-//! behind it, of 16 bytes each, whichever are fewer; `add` those behind it where none was taken out before it. Where
-//! there is no room behind the entries, all move, and `remove_all` goes over all. `remove` finds the number by halves as
-//! long as none was added behind a greater one of its key, and else looks through those of the key.
+//! `of`, `first` and `after` take time logarithmic in the entries. Where each number from the least key up to this one,
+//! or from this one up to the greatest key, is a key with one entry, `of` and `first` find its first entry at once;
+//! where the others of the key end takes time logarithmic in these, by exponential search. `add`, `remove` and
+//! `remove_all` move the entries before the place or those behind it, of 16 bytes each, whichever are fewer; `add`
+//! always moves those behind it where no slot is free before the first entry. Where there is no room behind the
+//! entries, all move. `remove` finds the number by halves as long as none was added behind a greater one of its key,
+//! and else looks through those of the key.
 #![tactic(auto)]
 
 mod index;

@@ -1,11 +1,13 @@
 //! The tries of turns, counted.
 
-ghost use Rattle.std.specs.Prelude.{◌≡◌, ◌<◌, IfOk, length};
+ghost use Rattle.std.specs.Prelude.{◌≡◌, ◌<◌, length};
 ghost use Rattle.machine_example.specs.Asks.{CanBeMade};
 
-use crate::session::{next_number, three_clients};
+use crate::asking::next_number;
+use crate::clients::three_clients;
+use crate::lock_requests::{close_first, lock_by_first, open_shared, unlock_by_first};
 use fsa_machine::{MOST_ENTRIES, Steps, VolumeMachine};
-use fsa_types::{Call, Disposition, Name, NoMemory, Out, Request, What, Why};
+use fsa_types::{Call, Out, What, Why};
 use std::alloc::Global;
 use std::sync::ledger::{Blank, Ledger};
 
@@ -36,53 +38,6 @@ pub fn ask_counted<L: Ledger>(
     }
 }
 
-// An open of `\L` for reading and writing, which shares all.
-fn open(alloc: Global) -> Result<What, NoMemory>
-    ensures { IfOk result CanBeMade }
-{
-    let path = Name::copy_of(alloc, &[92, 76])?;
-    Ok(What::Ask(Request::Create {
-        path,
-        wanted: 0x3,
-        share: 0x7,
-        disposition: Disposition::OpenIf,
-        options: 0,
-        attributes: 0,
-        key: 0,
-    }))
-}
-
-// A lock by the handle of the client's first call.
-fn lock(at: u64, count: u64, exclusive: bool, wait: bool) -> What
-    ensures { CanBeMade result }
-{
-    What::Ask(Request::Lock {
-        handle: 1,
-        at,
-        count,
-        exclusive,
-        wait,
-    })
-}
-
-// The unlock of the first ten bytes by that handle.
-fn unlock() -> What
-    ensures { CanBeMade result }
-{
-    What::Ask(Request::Unlock {
-        handle: 1,
-        at: 0,
-        count: 10,
-    })
-}
-
-// The close of that handle.
-fn close() -> What
-    ensures { CanBeMade result }
-{
-    What::Ask(Request::Close { handle: 1 })
-}
-
 // All three clients open the file by their first calls.
 fn open_all<L: Ledger>(
     alloc: Global,
@@ -93,7 +48,7 @@ fn open_all<L: Ledger>(
     ensures setup { machine.new.setup ≡ machine.old.setup }
 {
     for client in 0..3 {
-        let Ok(what) = open(alloc) else {
+        let Ok(what) = open_shared(alloc) else {
             return Err(Why::NoMemory);
         };
         ask_counted(alloc, machine, client, what, steps)?;
@@ -110,11 +65,11 @@ fn lock_all<L: Ledger>(
 ) -> Result<(), Why>
     requires three { length machine.old.setup.clients ≡ 3 }
 {
-    ask_counted(alloc, machine, 0, lock(0, 10, true, false), steps)?;
-    ask_counted(alloc, machine, 1, lock(0, 20, true, true), steps)?;
-    ask_counted(alloc, machine, 2, lock(15, 5, false, false), steps)?;
-    ask_counted(alloc, machine, 0, unlock(), steps)?;
-    ask_counted(alloc, machine, 2, close(), steps)?;
+    ask_counted(alloc, machine, 0, lock_by_first(0, 10, true, false), steps)?;
+    ask_counted(alloc, machine, 1, lock_by_first(0, 20, true, true), steps)?;
+    ask_counted(alloc, machine, 2, lock_by_first(15, 5, false, false), steps)?;
+    ask_counted(alloc, machine, 0, unlock_by_first(), steps)?;
+    ask_counted(alloc, machine, 2, close_first(), steps)?;
     Ok(())
 }
 

@@ -1,7 +1,7 @@
 //! How the engine is called from Rattle, for tests of one's own.
 //!
 //! - A `Setup` has a case table, and clients with their names and SIDs; each client has at least one SID.
-//!   `VolumeMachine::new` makes a machine of it, over a volume with the root alone (`two_clients`).
+//!   `VolumeMachine::new` makes a machine of it, over a volume with the root alone (`setup_of_two`, `two_clients`).
 //! - `VolumeMachine::turn` takes a call: the place of its client in the setup, its number, and what it does.
 //!   The calls of each client are numbered from 1 in the order of their turns. `ask` finds the number, by
 //!   the calls that the machine keeps.
@@ -20,14 +20,18 @@
 //! counts a client's numbers itself.
 #![tactic(auto)]
 
+mod asking;
+mod clients;
 mod counted;
+mod lock_requests;
 mod many_turns;
 mod reserved;
-mod session;
 mod waiting_lock;
 
+pub use asking::{ask, next_number};
+pub use clients::{setup_of_three, setup_of_two, three_clients, two_clients};
 pub use counted::{ask_counted, tries_of_a_lock_that_waits_twice};
+pub use lock_requests::{close_first, lock_by_first, open_shared, unlock_by_first};
 pub use many_turns::tick_times;
 pub use reserved::{KeptAnswer, answer_in_room, ask_in_room};
-pub use session::{ask, next_number, three_clients, two_clients};
 pub use waiting_lock::{WaitingLock, lock_that_waits};

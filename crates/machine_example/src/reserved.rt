@@ -7,7 +7,8 @@ ghost use Rattle.fsa_machine.specs.Spare.{is_ack_or_cancel};
 ghost use Rattle.fsa_machine.specs.MachineView.{GaveOut};
 ghost use Rattle.machine_example.specs.Asks.{CanBeMade, next_call};
 
-use crate::session::{ask, next_number, two_clients};
+use crate::asking::{ask, next_number};
+use crate::clients::two_clients;
 use crate::waiting_lock::{own_status, status_of};
 use fsa_machine::VolumeMachine;
 use fsa_types::{

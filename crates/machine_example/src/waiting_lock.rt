@@ -1,11 +1,13 @@
 //! A lock that waits for another one.
 
-ghost use Rattle.std.specs.Prelude.{◌≡◌, ◌<◌, IfOk, length};
+ghost use Rattle.std.specs.Prelude.{◌≡◌, ◌<◌, length};
 ghost use Rattle.machine_example.specs.Asks.{CanBeMade};
 
-use crate::session::{ask, two_clients};
+use crate::asking::ask;
+use crate::clients::two_clients;
+use crate::lock_requests::{lock_by_first, open_shared, unlock_by_first};
 use fsa_machine::VolumeMachine;
-use fsa_types::{Answer, Disposition, Interim, Name, NoMemory, Out, Request, Status, What, Why};
+use fsa_types::{Answer, Interim, Out, Status, What, Why};
 use std::alloc::Global;
 
 /// How the locks of two clients on one range were answered.
@@ -20,45 +22,12 @@ pub struct WaitingLock {
     pub second: Option<Status>,
 }
 
-// An open of `\f` for reading and writing, which shares all.
-fn open(alloc: Global) -> Result<What, NoMemory>
-    ensures { IfOk result CanBeMade }
-{
-    let path = Name::copy_of(alloc, &[92, 102])?;
-    Ok(What::Ask(Request::Create {
-        path,
-        wanted: 0x3,
-        share: 0x7,
-        disposition: Disposition::OpenIf,
-        options: 0,
-        attributes: 0,
-        key: 0,
-    }))
-}
-
 // An exclusive lock of the first ten bytes by the handle of the client's first call, which waits where
 // they are locked.
 fn lock() -> What
     ensures { CanBeMade result }
 {
-    What::Ask(Request::Lock {
-        handle: 1,
-        at: 0,
-        count: 10,
-        exclusive: true,
-        wait: true,
-    })
-}
-
-// The unlock of that range.
-fn unlock() -> What
-    ensures { CanBeMade result }
-{
-    What::Ask(Request::Unlock {
-        handle: 1,
-        at: 0,
-        count: 10,
-    })
+    lock_by_first(0, 10, true, true)
 }
 
 /// The status with which the turn's own call ended; `None` where it is pending.
@@ -86,7 +55,7 @@ fn open_both(alloc: Global, machine: &mut VolumeMachine) -> Result<(), Why>
     ensures setup { machine.new.setup ≡ machine.old.setup }
 {
     for client in 0..2 {
-        let Ok(what) = open(alloc) else {
+        let Ok(what) = open_shared(alloc) else {
             return Err(Why::NoMemory);
         };
         ask(alloc, machine, client, what)?;
@@ -100,7 +69,7 @@ fn lock_both(alloc: Global, machine: &mut VolumeMachine) -> Result<WaitingLock, 
 {
     let locked = ask(alloc, machine, 0, lock())?;
     let waiting = ask(alloc, machine, 1, lock())?;
-    let unlocked = ask(alloc, machine, 0, unlock())?;
+    let unlocked = ask(alloc, machine, 0, unlock_by_first())?;
     Ok(WaitingLock {
         first: own_status(&locked),
         waited: matches!(waiting.answer, Answer::Pending(Interim::LockWait)),

@@ -1,5 +1,5 @@
 -- Among rows whose numbers rise the first number above another is the least.
-use Rattle.std.proofs.Common.{◌≡◌, ℕ, zero, suc, ◌<◌, ◌≤◌, true, List, Option, [], ◌∷◌, length, get_or, refl, ap, sym, ◌∙◌, arith, inl, inr, Some, None, eq-eqb}
+use Rattle.std.proofs.Common.{◌≡◌, ℕ, zero, suc, ◌<◌, ◌≤◌, ◌-◌, true, List, Option, [], ◌∷◌, length, get_or, refl, ap, sym, ◌∙◌, arith, inl, inr, Some, None, eq-eqb}
 use Rattle.std.specs.Prelude.{find, map, nat_lt, slice_get, ◌==◌}
 use Rattle.std.specs.List.{All, position_or_len}
 use Rattle.std.specs.List.Sorted.{IsNonDecreasingBy, IsPartitionPoint}
@@ -28,6 +28,20 @@ rising-steps xs rising i j d le within = elim (cases_lt i j) [
   | inl less ↦ (let step = rising i j d less within in omega arith)
   | inr not_less ↦ (let same : i ≡ j = omega arith in rw same (omega arith))
 ]
+
+-- rows up to a number end where the one before is up to it and the one there is above
+pub end-here : {T : Type 0} (xs : List (ℕ × T)) (i after : ℕ) → AreRising xs → (0 < i → (d : ℕ × T) → (get_or xs (i - 1) d).0 ≤ after) → (i < length xs → (d : ℕ × T) → after < (get_or xs i d).0)
+    → i ≤ length xs → IsPartitionPoint (λ e. e.0 ≤ after) (λ e. after < e.0) xs i
+end-here xs i after rising low high bound = (
+  (λ k d from below.
+      let step : (get_or xs k d).0 ≤ (get_or xs (i - 1) d).0 = rising-steps xs rising k (i - 1) d (omega arith) (omega arith) in
+      let least : (get_or xs (i - 1) d).0 ≤ after = low (omega arith) d in
+      omega arith),
+  (λ k d from within.
+      let step : (get_or xs i d).0 ≤ (get_or xs k d).0 = rising-steps xs rising i k d from within in
+      let most : after < (get_or xs i d).0 = high (omega arith) d in
+      omega arith),
+)
 
 -- a row that lives among rows above a number is above it
 lives-above : {T : Type 0} (xs : List (ℕ × T)) (least other : ℕ) → All (λ y. least < y.0) xs → lives xs other ≡ true → least < other

@@ -1,12 +1,13 @@
 -- The rows that a slab has under the keys of rising numbers: as one comes, changes, and goes.
 use Rattle.std.proofs.Common.{◌≡◌, ◌≢◌, ℕ, zero, suc, ◌+◌, ◌<◌, ◌≤◌, true, false, not, List, [], ◌∷◌, ◌++◌, length, get_or, set, Option, Some, None, is_some, cond, refl, ap, sym, ◌∙◌, arith, inl, inr}
-use Rattle.std.specs.Prelude.{IsSome, nat_lt, option_map, ◌==◌}
+use Rattle.std.specs.Prelude.{IsSome, nat_lt, option_map, slice_get, ◌==◌}
 use Rattle.std.specs.List.{All, AllPairs, position, position_or_len, remove}
 use Rattle.std.proofs.lemmas.Bool.{cases_Bool, cases_eq, false≢true}
 use Rattle.std.proofs.lemmas.List.Elements.{All-filter, All-push, filter_map-append}
 use Rattle.std.proofs.lemmas.List.Kept.{AllPairs-filter}
 use Rattle.std.proofs.lemmas.List.Quantifiers.{all_pairs_push}
 use Rattle.std.proofs.lemmas.List.Sums.{sum_by-set}
+use Rattle.std.proofs.lemmas.Option.{slice_get_past}
 use Rattle.fsa_types.specs.Rows.{IsNumbered, row_of, with_row_changed, without_row}
 use Rattle.fsa_types.proofs.RowLemmas.{IsAt-position, IsNumbered-remove, remove-at, row_of-at, row_of-none, set-at, without_row-none}
 use Rattle.slab.specs.Slab.{Slab, ContainsKey, slab_len, with_value}
@@ -65,6 +66,18 @@ module _ {T : Type 0} where
     row-at (p ∷ places) there (suc i) d e within =
         let here = some-row (found p.1) (there 0 p (omega arith)) in
         rw here.1 (row-at places (later-there found p places there) i d e (omega arith))
+
+    -- the entry at a place is the row under its key, with its number
+    pub entry-here : (places : List (ℕ × ℕ)) → AreThere found places → (i : ℕ) (e : ℕ × ℕ) (row : T) → i < length places → found (get_or places i e).1 ≡ Some row
+        → slice_get (rows_by found places) i ≡ Some ((get_or places i e).0, row)
+    entry-here [] there i e row within under = absurd (omega arith)
+    entry-here (p ∷ places) there zero e row within under = rw under refl
+    entry-here (p ∷ places) there (suc i) e row within under =
+        let here = some-row (found p.1) (there 0 p (omega arith)) in
+        rw here.1 (entry-here places (later-there found p places there) i e row (omega arith) under)
+
+    pub entry-past : (places : List (ℕ × ℕ)) → AreThere found places → (i : ℕ) → length places ≤ i → slice_get (rows_by found places) i ≡ None
+    entry-past places there i past = slice_get_past (rows_by found places) i (omega (arith, rows-length places there))
 
     -- the rows have the numbers
     pub rows-numbered : (places : List (ℕ × ℕ)) (last : ℕ) → ArePlaced found places last → IsNumbered (rows_by found places) last

@@ -1,6 +1,6 @@
 -- Items that begin at a slot: what an edit of the slots is to them.
-use Rattle.std.proofs.Common.{ℕ, List, ◌≡◌, ◌<◌, ◌≤◌, ◌+◌, ◌++◌, ◌∷◌, ◌∙◌, suc, ap, arith, drop, length, length-drop, set, sym, take}
-use Rattle.std.proofs.lemmas.List.{append_assoc, drop-append-le, drop-drop, drop-set-add, drop-take, drop_at, drop_more, length-take-le, set_at}
+use Rattle.std.proofs.Common.{ℕ, List, ◌≡◌, ◌<◌, ◌≤◌, ◌+◌, ◌-◌, ◌++◌, ◌∷◌, ◌∙◌, suc, ap, arith, drop, length, length-append, length-drop, set, sym, take}
+use Rattle.std.proofs.lemmas.List.{append_assoc, drop-append-le, drop-drop, drop-set-add, drop-take, drop_at, drop_more, length-take-le, set_at, take_at, take_rest}
 use Rattle.std.specs.List.{insert, remove}
 use lib.Seq.{paste}
 
@@ -45,3 +45,25 @@ module _ {T : Type 0} (xs : List T) where
       let all : suc (start + place) ≡ start + suc place = omega arith in
       behind start place (drop (suc (start + place)) xs) (omega arith)
       ∙ ap (λ (ys : List T). take place (drop start xs) ++ ys) (ap (λ k. drop k xs) all ∙ sym (drop-drop (suc place) start xs))
+
+  -- those before a part go up over it
+  pub part-before : (start place count : ℕ) → start + place + count ≤ length xs
+      → drop (start + count) (paste xs (start + count) (drop start xs) place) ≡ take place (drop start xs) ++ drop (place + count) (drop start xs)
+  part-before start place count within =
+      let all : start + count + place ≡ start + (place + count) = omega arith in
+      pasted (start + count) start place (omega arith)
+      ∙ ap (λ (ys : List T). take place (drop start xs) ++ ys) (ap (λ k. drop k xs) all ∙ sym (drop-drop (place + count) start xs))
+
+  -- those behind a part go down over it, and as many slots at the end are taken out
+  pub part-behind : (start place count : ℕ) → start + place + count ≤ length xs
+      → drop start (take (length xs - count) (paste xs (start + place) (drop (start + place + count) xs) (length xs - (start + place + count))))
+      ≡ take place (drop start xs) ++ drop (place + count) (drop start xs)
+  part-behind start place count within =
+      let from = start + place + count in
+      let rest : take (length xs - from) (drop from xs) ≡ drop from xs = take_rest xs from in
+      let long : length (take (start + place) xs ++ drop from xs) ≡ length xs - count
+      = omega (arith, length-append (take (start + place) xs) (drop from xs), length-take-le (start + place) xs (omega arith), length-drop from xs) in
+      let all : start + place + count ≡ start + (place + count) = omega arith in
+      rw rest (ap (drop start) (take_at (take (start + place) xs ++ drop from xs) (drop (start + place + (length xs - from)) xs) (length xs - count) long)
+      ∙ behind start place (drop from xs) (omega arith)
+      ∙ ap (λ (ys : List T). take place (drop start xs) ++ ys) (ap (λ k. drop k xs) all ∙ sym (drop-drop (place + count) start xs)))

@@ -1,5 +1,4 @@
 pub mod Lends
-pub mod ListLends
 pub mod Next
 pub mod Places
 pub mod Series

@@ -12,12 +12,14 @@
 //! The lists are [`Series`], whose room may grow as items go, [`SpareList`], whose room stays, and [`ShiftList`],
 //! where an item that comes or goes moves those before its place or those behind it, whichever are fewer.
 //!
-//! It asks of its caller that fewer than 2^64 - 1 numbers were given. Adding takes constant time on average, and
-//! `get` and `get_mut` time logarithmic in the rows. `remove` moves no row of a `Table`, since those stand in a slab: it
-//! moves the numbers, of 16 bytes each with their keys, of the rows before it or of those behind it, whichever are
-//! fewer. Where there is no room behind the numbers, `reserve` moves all of them: into the room before them if it is at
-//! least as large as what they take, and else into new memory. The rows of a `RowList` stand in one list, which is lent
-//! whole; its `remove` and `retain` take time linear in the rows.
+//! It asks of its caller that fewer than 2^64 - 1 numbers were given. Adding takes constant time on average, and `get`
+//! and `get_mut` time logarithmic in the rows: a row is found at once where no number between its own and the first
+//! row's is missing, or the last row's. `entry_at` takes constant time. `remove` moves no row of a `Table`, since those
+//! stand in a slab: it moves the numbers, of 16 bytes each with their keys, of the rows before it or of those behind
+//! it, whichever are fewer. Where there is no room behind the numbers, `reserve` moves all of them: into the room
+//! before them if it is at least as large as what they take, and else into new memory. The rows of a `RowList` stand in
+//! one list, which is lent whole; its `remove` moves the rows before the one that goes or those behind it, whichever
+//! are fewer, and its `retain` goes over all.
 #![tactic(auto)]
 
 mod row_list;

@@ -1,6 +1,6 @@
 //! Items in order, with spare room, of which the fewer move as one comes or goes.
 
-ghost use Rattle.std.specs.Prelude.{◌≡◌, ◌≤◌, ◌<◌, ◌+◌, ◌-◌, ◌++◌, ◌∷◌, [], true, false, IsOk, OnOk, drop, length, slice_index_or};
+ghost use Rattle.std.specs.Prelude.{◌≡◌, ◌≤◌, ◌<◌, ◌+◌, ◌-◌, ◌++◌, ◌∷◌, [], true, false, IsOk, OnOk, drop, length, slice_index_or, take};
 ghost use Rattle.std.specs.Fn.{CalledAt};
 ghost use Rattle.std.specs.List.{insert, remove};
 ghost use Rattle.std.specs.List.Retain.{IsFiltered};
@@ -10,7 +10,7 @@ use fsa_types::NoMemory;
 use std::alloc::Global;
 use std::marker::Model;
 
-/// Items in order, with spare room. Putting an item in or taking one out moves the items before its place or
+/// Items in order, with spare room. Putting an item in or taking some out moves the items before the place or
 /// those behind it, whichever are fewer: where most go from the front, little moves.
 #[derive(Debug, Drop)]
 pub struct ShiftList<T> {
@@ -137,6 +137,25 @@ impl<T: Copy> ShiftList<T> {
         }
     }
 
+    /// Takes so many items from a place on out, which have to be there. It takes no memory, and leaves the room as it
+    /// was or larger.
+    pub fn remove_part(&mut self, place: usize, count: usize)
+        requires { place + count ≤ length self.old.items }
+        ensures items { self.new.items ≡ take place self.old.items ++ drop (place + count) self.old.items }
+        ensures room { self.old.room ≤ self.new.room }
+    {
+        if count == 0 {
+            return;
+        }
+        let behind = self.slots.len() - self.start - place - count;
+        if place < behind {
+            take_part_before(&mut self.slots, self.start, place, count);
+            self.start += count;
+        } else {
+            take_part_behind(&mut self.slots, self.start, place, count);
+        }
+    }
+
     /// Keeps the items at which `keep` answers `true`. It takes no memory, and leaves the room as it was or larger.
     pub fn retain<F: FnMut(&T) -> bool>(&mut self, keep: F)
         requires { F.IsAlwaysCallable keep }
@@ -244,4 +263,26 @@ fn take_behind<T: Copy>(slots: &mut Vec<T>, start: usize, place: usize) -> T
     ensures capacity { vec_capacity slots.new ≡ vec_capacity slots.old }
 {
     slots.remove(start + place)
+}
+
+// Takes out so many items at a place from `start` on, and moves those before them up, so that all begin so many behind.
+fn take_part_before<T: Copy>(slots: &mut Vec<T>, start: usize, place: usize, count: usize)
+    requires { start + place + count ≤ vec_len slots.old }
+    ensures items { drop (start + count) slots.new.items ≡ take place (drop start slots.old.items) ++ drop (place + count) (drop start slots.old.items) }
+    ensures len { vec_len slots.new ≡ vec_len slots.old }
+    ensures capacity { vec_capacity slots.new ≡ vec_capacity slots.old }
+{
+    slots.copy_within(start..start + place, start + count);
+}
+
+// Takes out so many items at a place from `start` on, and moves those behind them down.
+fn take_part_behind<T: Copy>(slots: &mut Vec<T>, start: usize, place: usize, count: usize)
+    requires { start + place + count ≤ vec_len slots.old }
+    ensures items { drop start slots.new.items ≡ take place (drop start slots.old.items) ++ drop (place + count) (drop start slots.old.items) }
+    ensures len { vec_len slots.new + count ≡ vec_len slots.old }
+    ensures capacity { vec_capacity slots.new ≡ vec_capacity slots.old }
+{
+    let len = slots.len();
+    slots.copy_within(start + place + count..len, start + place);
+    slots.truncate(len - count);
 }

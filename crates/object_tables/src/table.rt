@@ -1,6 +1,6 @@
 //! Rows under numbers that rise and are never given twice.
 
-ghost use Rattle.std.specs.Prelude.{◌≡◌, ◌≤◌, ◌<◌, ◌+◌, ◌^◌, ◌++◌, ◌∷◌, [], OnOk, OnErr, IsOk, IfOk, IfErr, length, position, ◌==◌};
+ghost use Rattle.std.specs.Prelude.{◌≡◌, ◌≤◌, ◌<◌, ◌+◌, ◌^◌, ◌++◌, ◌∷◌, [], OnOk, OnErr, IsOk, IfOk, IfErr, length, option_map, position, slice_get, ◌==◌};
 ghost use Rattle.std.specs.Borrow.{sem};
 ghost use Rattle.std.specs.Option.{option_copied, option_copied_mut, option_map_or};
 ghost use Rattle.fsa_types.specs.Rows.{row_of, without_row, with_row_changed, IsNumbered};
@@ -114,6 +114,18 @@ impl<T: Drop> Table<T> {
     {
         let places = self.places.as_slice();
         number_at(places, end_of(places, after))
+    }
+
+    /// The row at this place, by rising number, with its number; `None` exactly where the place isn't below the number
+    /// of rows.
+    pub fn entry_at(&self, place: usize) -> Option<(u64, &T)>
+        ensures { option_map (λ entry. (entry.0, entry.1.now)) result ≡ slice_get self.now.rows place }
+    {
+        if self.places.len() <= place {
+            return None;
+        }
+        let (id, key) = self.places.at(place);
+        Some((id, &self.rows[key]))
     }
 
     /// The row of this number; `None` exactly where there is none.

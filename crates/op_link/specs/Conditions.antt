@@ -10,7 +10,10 @@ use Rattle.fsa_types.specs.declared.status.Status.{Status}
 use Rattle.fsa_model.specs.Changes.{units_noted, dirs_noted}
 use Rattle.fsa_model.specs.Lookups.{child_of, has_row, is_at_or_below, is_directory, is_named, is_one_of, linked_file, number_of}
 use Rattle.fsa_model.specs.Outcome.{Outcome, Hold, ends_with}
+use Rattle.fsa_model.specs.Rename.{replaced_link}
+use Rattle.fsa_model.specs.Replacement.{Naming, new_name}
 use Rattle.fsa_model.specs.Volume.{File, Link, Handle, Volume}
+use Rattle.volume_state.specs.Living.{CanHold}
 use Rattle.volume_state.specs.Paths.{units_in, dirs_in}
 use Rattle.volume_state.specs.VolumeView.{Spare, room_for}
 
@@ -73,6 +76,28 @@ Frees table files links handles link dir name (Some replaced) = Replaces table f
 -- a file doesn't go into itself, nor below itself
 abbrev pub StaysOut : List (ℕ × File) → List (ℕ × Link) → ℕ → ℕ → Type 0
 StaysOut files links file dir = (is_directory files file && is_at_or_below links file dir) ≡ false
+
+-- the link can go to this name in this directory, where its client may: there is room for so many breaks, for the change
+-- and for the link
+pub record CanRename (v : Volume) (spare : Spare) (list : Bounded Blocker) (count : ℕ) (named : Naming) (dir : ℕ) (units : List ℕ) : Type 0 where
+  pub breaks : HasBreaksRoom v spare list count
+  pub room : HasRenameRoom v spare (replaced_link v named dir) named.link dir (length (new_name named))
+  pub holds : CanHold v dir
+  pub file : named.file ≡ linked_file v named.link
+  pub name : units ≡ new_name named
+  pub client : named.client < length v.clients
+
+-- the link of a file can go to this name in this directory, where it replaces another link of a file
+pub record CanReplace (v : Volume) (spare : Spare) (list : Bounded Blocker) (count : ℕ) (named : Naming) (dir replaced : ℕ) (units : List ℕ) : Type 0 where
+  pub breaks : HasBreaksRoom v spare list count
+  pub room : HasRenameRoom v spare (Some replaced) named.link dir (length (new_name named))
+  pub holds : CanHold v dir
+  pub out : StaysOut v.files v.links named.file dir
+  pub file : named.file ≡ linked_file v named.link
+  pub name : units ≡ new_name named
+  pub link : IsReplaceable v replaced dir (new_name named)
+  pub other : (replaced == named.link) ≡ false
+  pub moves_file : is_directory v.files named.file ≡ false
 
 -- a try ends with this status, or is held by these, and leaves the volume so
 abbrev pub EndsOrHolds : Outcome → Volume → List Blocker → Option Status → Type 0

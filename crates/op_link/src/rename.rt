@@ -10,7 +10,7 @@ ghost use Rattle.fsa_model.specs.Outcome.{ends_with};
 ghost use Rattle.fsa_model.specs.Rename.{entry_right, keeps_name, lacks_entry_right, naming_by, rename_at, rename_below_closed, rename_by, rename_directory, rename_done, rename_free, rename_into, rename_link, rename_named, rename_over, rename_over_broken, rename_over_closed, rename_walked, replaced_link, try_rename};
 ghost use Rattle.fsa_model.specs.Replacement.{is_any_open, new_name};
 ghost use Rattle.op_link.specs.Calls.{IsRename, asked_rename};
-ghost use Rattle.op_link.specs.Conditions.{EndsOrHolds, Frees, HasBreaksRoom, HasRoomIfHeld, HasRenameRoom, IsReplaceable, MayName, StaysOut};
+ghost use Rattle.op_link.specs.Conditions.{CanRename, CanReplace, EndsOrHolds, Frees, HasBreaksRoom, HasRoomIfHeld, HasRenameRoom, IsReplaceable, MayName, StaysOut};
 ghost use Rattle.op_parts.specs.Walks.{IsIn, ReachesHolder, walked_of};
 ghost use Rattle.volume_state.specs.Living.{CanHold};
 ghost use Rattle.volume_state.specs.Room.{KeepsEnds};
@@ -93,15 +93,7 @@ fn rename_over_closed(
     name: Name,
     blockers: &mut BlockerList,
 ) -> Option<Status>
-    requires breaks { HasBreaksRoom volume.old.content volume.old.spare blockers.old 1 }
-    requires room { HasRenameRoom volume.old.content volume.old.spare (Some replaced) named.now.link dir (length (new_name named.now)) }
-    requires holds { CanHold volume.old.content dir }
-    requires out { StaysOut volume.old.content.files volume.old.content.links named.now.file dir }
-    requires file { named.now.file ≡ linked_file volume.old.content named.now.link }
-    requires name { name ≡ new_name named.now }
-    requires link { IsReplaceable volume.old.content replaced dir (new_name named.now) }
-    requires other { (replaced == named.now.link) ≡ false }
-    requires moves_file { is_directory volume.old.content.files named.now.file ≡ false }
+    requires can { CanReplace volume.old.content volume.old.spare blockers.old 1 named.now dir replaced name }
     ensures gives { EndsOrHolds (rename_over_closed volume.old.content named.now dir replaced) volume.new.content blockers.new.items result }
     ensures room { HasRoomIfHeld result volume.new.spare blockers.new.items }
     ensures ends { KeepsEnds volume.old volume.new }
@@ -122,15 +114,7 @@ fn rename_over_broken(
     name: Name,
     blockers: &mut BlockerList,
 ) -> Option<Status>
-    requires breaks { HasBreaksRoom volume.old.content volume.old.spare blockers.old 2 }
-    requires room { HasRenameRoom volume.old.content volume.old.spare (Some replaced) named.now.link dir (length (new_name named.now)) }
-    requires holds { CanHold volume.old.content dir }
-    requires out { StaysOut volume.old.content.files volume.old.content.links named.now.file dir }
-    requires file { named.now.file ≡ linked_file volume.old.content named.now.link }
-    requires name { name ≡ new_name named.now }
-    requires link { IsReplaceable volume.old.content replaced dir (new_name named.now) }
-    requires other { (replaced == named.now.link) ≡ false }
-    requires moves_file { is_directory volume.old.content.files named.now.file ≡ false }
+    requires can { CanReplace volume.old.content volume.old.spare blockers.old 2 named.now dir replaced name }
     ensures gives { EndsOrHolds (rename_over_broken volume.old.content named.now dir replaced) volume.new.content blockers.new.items result }
     ensures room { HasRoomIfHeld result volume.new.spare blockers.new.items }
     ensures ends { KeepsEnds volume.old volume.new }
@@ -211,13 +195,8 @@ fn rename_named(
     name: Name,
     blockers: &mut BlockerList,
 ) -> Option<Status>
-    requires breaks { HasBreaksRoom volume.old.content volume.old.spare blockers.old 2 }
-    requires room { HasRenameRoom volume.old.content volume.old.spare (replaced_link volume.old.content named.now dir) named.now.link dir (length (new_name named.now)) }
-    requires holds { CanHold volume.old.content dir }
+    requires can { CanRename volume.old.content volume.old.spare blockers.old 2 named.now dir name }
     requires out { StaysOut volume.old.content.files volume.old.content.links named.now.file dir }
-    requires file { named.now.file ≡ linked_file volume.old.content named.now.link }
-    requires name { name ≡ new_name named.now }
-    requires client { named.now.client < length volume.old.content.clients }
     ensures gives { EndsOrHolds (rename_named volume.old.content named.now dir) volume.new.content blockers.new.items result }
     ensures room { HasRoomIfHeld result volume.new.spare blockers.new.items }
     ensures ends { KeepsEnds volume.old volume.new }
@@ -240,13 +219,8 @@ fn rename_below_closed(
     name: Name,
     blockers: &mut BlockerList,
 ) -> Option<Status>
-    requires breaks { HasBreaksRoom volume.old.content volume.old.spare blockers.old 2 }
-    requires room { HasRenameRoom volume.old.content volume.old.spare (replaced_link volume.old.content named.now dir) named.now.link dir (length (new_name named.now)) }
-    requires holds { CanHold volume.old.content dir }
+    requires can { CanRename volume.old.content volume.old.spare blockers.old 2 named.now dir name }
     requires out { StaysOut volume.old.content.files volume.old.content.links named.now.file dir }
-    requires file { named.now.file ≡ linked_file volume.old.content named.now.link }
-    requires name { name ≡ new_name named.now }
-    requires client { named.now.client < length volume.old.content.clients }
     ensures gives { EndsOrHolds (rename_below_closed volume.old.content named.now dir) volume.new.content blockers.new.items result }
     ensures room { HasRoomIfHeld result volume.new.spare blockers.new.items }
     ensures ends { KeepsEnds volume.old volume.new }
@@ -266,12 +240,7 @@ fn rename_directory(
     name: Name,
     blockers: &mut BlockerList,
 ) -> Option<Status>
-    requires breaks { HasBreaksRoom volume.old.content volume.old.spare blockers.old 3 }
-    requires room { HasRenameRoom volume.old.content volume.old.spare (replaced_link volume.old.content named.now dir) named.now.link dir (length (new_name named.now)) }
-    requires holds { CanHold volume.old.content dir }
-    requires file { named.now.file ≡ linked_file volume.old.content named.now.link }
-    requires name { name ≡ new_name named.now }
-    requires client { named.now.client < length volume.old.content.clients }
+    requires can { CanRename volume.old.content volume.old.spare blockers.old 3 named.now dir name }
     ensures gives { EndsOrHolds (rename_directory volume.old.content named.now dir) volume.new.content blockers.new.items result }
     ensures room { HasRoomIfHeld result volume.new.spare blockers.new.items }
     ensures ends { KeepsEnds volume.old volume.new }
@@ -294,12 +263,7 @@ fn rename_in_room(
     name: Name,
     blockers: &mut BlockerList,
 ) -> Option<Status>
-    requires breaks { HasBreaksRoom volume.old.content volume.old.spare blockers.old 3 }
-    requires room { HasRenameRoom volume.old.content volume.old.spare (replaced_link volume.old.content named.now dir) named.now.link dir (length (new_name named.now)) }
-    requires holds { CanHold volume.old.content dir }
-    requires file { named.now.file ≡ linked_file volume.old.content named.now.link }
-    requires name { name ≡ new_name named.now }
-    requires client { named.now.client < length volume.old.content.clients }
+    requires can { CanRename volume.old.content volume.old.spare blockers.old 3 named.now dir name }
     ensures gives { EndsOrHolds (rename_into volume.old.content named.now dir) volume.new.content blockers.new.items result }
     ensures room { HasRoomIfHeld result volume.new.spare blockers.new.items }
     ensures ends { KeepsEnds volume.old volume.new }

@@ -13,7 +13,7 @@ use Rattle.fsa_types.specs.Oplocks.{Begins, Effect, Ends, Lowers, Oplock, Stays,
 use Rattle.fsa_types.specs.declared.oplock.Class.{Class}
 use Rattle.fsa_types.specs.declared.request.Level.{Level}
 use Rattle.fsa_model.proofs.RowLaws.{any-filter, none-all}
-use Rattle.oplock_state.specs.State.{AreChosen, has_oplock}
+use Rattle.oplock_state.specs.State.{AreMarked, has_oplock}
 
 -- ---- how many stay
 
@@ -68,7 +68,7 @@ without-fewer handle (o ∷ rows) there = elim (cases_Bool (o.handle == handle))
   | inr other ↦ rw other (let rest = without-fewer handle rows (rw other at there) in omega arith)
 ]
 
-marks-few : (marked : List ℕ) (rows : List Oplock) → AreChosen marked rows → length marked ≤ length rows
+marks-few : (marked : List ℕ) (rows : List Oplock) → AreMarked marked rows → length marked ≤ length rows
 marks-few [] rows are = omega arith
 marks-few (m ∷ marked) rows are =
     let fewer = without-fewer m rows (are.each 0 m (omega arith)) in
@@ -86,14 +86,14 @@ marks-few (m ∷ marked) rows are =
     omega arith
 
 -- a handle more, which isn't chosen yet
-pub marks-more : (marked : List ℕ) (rows : List Oplock) (handle : ℕ) → AreChosen marked rows → has_oplock handle rows ≡ true → list_any (λ other. other == handle) marked ≡ false
-    → AreChosen (marked ++ handle ∷ []) rows
+pub marks-more : (marked : List ℕ) (rows : List Oplock) (handle : ℕ) → AreMarked marked rows → has_oplock handle rows ≡ true → list_any (λ other. other == handle) marked ≡ false
+    → AreMarked (marked ++ handle ∷ []) rows
 marks-more marked rows handle are there new = record {
   differ = all_pairs_push (λ a b. (a == b) ≡ false) marked handle are.differ (none-all (λ other. other == handle) marked new);
   each = All-push (λ h. has_oplock h rows ≡ true) marked handle are.each there;
 }
 
-pub marks-fit : (marked : List ℕ) (rows : List Oplock) (handle : ℕ) → AreChosen marked rows → has_oplock handle rows ≡ true → list_any (λ other. other == handle) marked ≡ false
+pub marks-fit : (marked : List ℕ) (rows : List Oplock) (handle : ℕ) → AreMarked marked rows → has_oplock handle rows ≡ true → list_any (λ other. other == handle) marked ≡ false
     → length marked < length rows
 marks-fit marked rows handle are there new =
     let most = marks-few (marked ++ handle ∷ []) rows (marks-more marked rows handle are there new) in
@@ -109,5 +109,5 @@ fresh-parts true false fresh = (refl, refl)
 fresh-parts true true fresh = cc
 fresh-parts false b fresh = cc
 
-pub marks-none : (rows : List Oplock) → AreChosen [] rows
+pub marks-none : (rows : List Oplock) → AreMarked [] rows
 marks-none rows = record { differ = λ i j d below within. absurd (omega arith); each = λ k d within. absurd (omega arith) }

@@ -1,8 +1,6 @@
 -- The tables of streams, where one of them changes.
-use Rattle.std.proofs.Common.{◌≡◌, ℕ, zero, suc, length, get_or, ◌+◌, ◌≤◌, Bool, true, false, not, List, [], ◌∷◌, ◌++◌, refl, ap, ◌∙◌, take, drop, arith, inl, inr, Option, Some, None}
-use Rattle.std.specs.Prelude.{◌==◌, ◌&&◌, ◌||◌, filter, if◌then◌else◌, option_map}
-use Rattle.std.specs.List.{list_any}
-use Rattle.std.proofs.lemmas.Bool.{cases_Bool}
+use Rattle.std.proofs.Common.{◌≡◌, ℕ, zero, suc, length, get_or, ◌+◌, ◌≤◌, true, List, [], ◌∷◌, ◌++◌, refl, ap, ◌∙◌, take, drop, arith, Option, Some, None}
+use Rattle.std.specs.Prelude.{option_map}
 use Rattle.std.specs.List.{All, insert}
 use Rattle.std.proofs.Math.ListN.{set}
 use Rattle.std.proofs.Math.Seq.{take-append_seam}
@@ -11,15 +9,12 @@ use Rattle.fsa_types.specs.Places.{IsAt, StandsAt}
 use Rattle.fsa_types.proofs.PlaceLemmas.{AreRising-insert}
 use Rattle.fsa_types.specs.Oplocks.{Oplock, in_both}
 use Rattle.fsa_types.specs.Rows.{row_of}
-use Rattle.fsa_types.specs.Sorting.{in_order}
 use Rattle.fsa_types.specs.declared.request.Level.{Level}
-use Rattle.fsa_model.proofs.RowLaws.{eqb-swap}
-use Rattle.oplock_state.specs.State.{Grants, State, has_oplock, taken_up}
+use Rattle.oplock_state.specs.State.{Grants, State}
 use Rattle.oplock_state.specs.Tables.{AreTables, GrantsAmong, rows_at, room_at, last_at, taken_by, IsStep}
 use Rattle.oplock_state.specs.declared.stream_oplocks.Grant.{Grant}
 use Rattle.oplock_state.specs.declared.stream_oplocks.Grant.TheVariants as grant
 use Rattle.oplock_state.specs.declared.stream_tables.Asked.{Asked}
-use Rattle.volume_breaks.specs.Marks.{is_marked, is_opened_before}
 use Rattle.volume_tables.proofs.PlaceLemmas.{IsPut, rising-at}
 
 -- ---- what a key has where its table is known, and where it has none
@@ -66,48 +61,6 @@ step-same tables key rows last taken same_rows same_last = record {
   other_lasts = λ other differ. refl;
   other_rooms = λ other differ. refl;
 }
-
--- ---- one handle is chosen
-
-filter-alike : (p q : Oplock → Bool) (rows : List Oplock) → ((o : Oplock) → p o ≡ q o) → filter p rows ≡ filter q rows
-filter-alike p q [] same = refl
-filter-alike p q (o ∷ rows) same = elim (cases_Bool (q o)) [
-  | inl passes ↦ rw (same o, passes) (rw (filter-alike p q rows same) refl)
-  | inr fails ↦ rw (same o, fails) (filter-alike p q rows same)
-]
-
-marked-alone : (handle : ℕ) (o : Oplock) → is_marked (handle ∷ []) None 0 o ≡ (o.handle == handle)
-marked-alone handle o = no_key (handle == o.handle) (o.key == 0) ∙ eqb-swap handle o.handle
-  where
-    no_key : (a b : Bool) → ((a || false) && not (false || (b && not b))) ≡ a
-    no_key true true = refl
-    no_key true false = refl
-    no_key false b = refl
-
--- of the oplocks of a table a break that chooses one handle, and has none of its own, takes up that handle's
-pub taken-alone : (handle : ℕ) (rows : List Oplock) → filter (is_marked (handle ∷ []) None 0) rows ≡ filter (λ (o : Oplock). o.handle == handle) rows
-taken-alone handle rows = filter-alike (is_marked (handle ∷ []) None 0) (λ (o : Oplock). o.handle == handle) rows (marked-alone handle)
-
--- what is there has an oplock
-pub has-there : (handle : ℕ) (o : Oplock) (rows : List Oplock) → filter (λ (x : Oplock). x.handle == handle) rows ≡ o ∷ [] → has_oplock handle rows ≡ true
-has-there handle o [] there = cc
-has-there handle o (x ∷ rows) there = elim (cases_Bool (x.handle == handle)) [
-  | inl here ↦ rw here refl
-  | inr other ↦ rw other (has-there handle o rows (rw other at there))
-]
-
--- a break that chooses it takes it up alone
-pub taken-there : (old new : State) (handle : ℕ) (o : Oplock) (room : ℕ) → old.marked ≡ [] → filter (λ (x : Oplock). x.handle == handle) old.rows ≡ o ∷ []
-    → new ≡ record old { marked = if has_oplock handle old.rows && not (list_any (λ other. other == handle) old.marked) then old.marked ++ handle ∷ [] else old.marked; room = room }
-    → taken_up new None 0 ≡ o ∷ []
-taken-there old new handle o room quiet there is =
-    let has : has_oplock handle old.rows ≡ true = has-there handle o old.rows there in
-    let marked : new.marked ≡ handle ∷ [] = ap (λ (s : State). s.marked) is ∙ rw (quiet, has) refl in
-    let rows : new.rows ≡ old.rows = ap (λ (s : State). s.rows) is in
-    ap (λ (m : List ℕ). in_order is_opened_before (filter (is_marked m None 0) new.rows)) marked
-    ∙ ap (λ (r : List Oplock). in_order is_opened_before (filter (is_marked (handle ∷ []) None 0) r)) rows
-    ∙ ap (in_order is_opened_before) (taken-alone handle old.rows)
-    ∙ ap (in_order is_opened_before) there
 
 -- ---- what a table gives
 

@@ -11,14 +11,14 @@ use Rattle.volume_breaks.specs.Marks.{is_marked, is_opened_before}
 use Rattle.volume_breaks.specs.declared.telling.Told.{Told}
 
 -- the oplocks, in the order in which they were granted; the number of the last break that began; how many more
--- oplocks can be put in without taking memory; the handles that are chosen for the next break; the oplocks that
--- the last break or grant took up, as they were; whom the last break told, and for which breaks it waits
+-- oplocks can be put in without taking memory; the handles that are marked for the next break; the oplocks that
+-- the last break or grant chose, as they were; whom the last break told, and for which breaks it waits
 pub record State : Type 0 where
   pub rows : List Oplock
   pub last : ℕ
   pub room : ℕ
   pub marked : List ℕ
-  pub taken : List Oplock
+  pub chosen : List Oplock
   pub told : List Told
   pub waited : List ℕ
 
@@ -26,12 +26,12 @@ pub record State : Type 0 where
 abbrev pub has_oplock : ℕ → List Oplock → Bool
 has_oplock handle rows = list_any (λ oplock. oplock.handle == handle) rows
 
--- the oplocks that a break takes up, in order
-abbrev pub taken_up : State → Option ℕ → ℕ → List Oplock
-taken_up state acting key = in_order is_opened_before (filter (is_marked state.marked acting key) state.rows)
+-- the oplocks that the next break breaks, in order
+abbrev pub broken_next : State → Option ℕ → ℕ → List Oplock
+broken_next state acting key = in_order is_opened_before (filter (is_marked state.marked acting key) state.rows)
 
--- chosen handles differ, and each has an oplock
-pub record AreChosen (marked : List ℕ) (rows : List Oplock) : Type 0 where
+-- marked handles differ, and each has an oplock
+pub record AreMarked (marked : List ℕ) (rows : List Oplock) : Type 0 where
   pub differ : AllPairs (λ a b. (a == b) ≡ false) marked
   pub each : All (λ handle. IsTrue (has_oplock handle rows)) marked
 
@@ -40,6 +40,6 @@ abbrev pub Grants : State → ℕ → ℕ → Level → ℕ → Bool → Bool �
 Grants old handle key level turn others locked new grant.Granted =
     (is_refused_among (λ _. true) handle key level others locked old.rows ≡ false)
     × (new.rows ≡ after_grant (λ _. true) handle key level turn old.rows)
-    × (new.taken ≡ switched_among (λ _. true) handle key old.rows)
+    × (new.chosen ≡ switched_among (λ _. true) handle key old.rows)
 Grants old handle key level turn others locked new grant.Refused =
     (is_refused_among (λ _. true) handle key level others locked old.rows ≡ true) × (new ≡ old)

@@ -41,7 +41,7 @@ pub record IsStep (old new : List (ℕ × State)) (key : ℕ) (rows : List Oploc
   pub other_lasts : (other : ℕ) → (other == key) ≡ false → last_at new other ≡ last_at old other
   pub other_rooms : (other : ℕ) → (other == key) ≡ false → room_at new other ≡ room_at old other
 
--- the keys rise, and no handle is chosen in any of them
+-- the keys rise, and no handle is marked in any of them
 pub record AreTables (tables : List (ℕ × State)) : Type 0 where
   pub rising : AllPairs (λ a b. a.0 < b.0) tables
   pub quiet : All (λ entry. entry.1.marked ≡ []) tables
@@ -62,7 +62,7 @@ taken_by grant.Refused = 0
 
 -- ---- the list beside them
 
--- all oplocks, in the order in which they were granted; those that the last break or grant took up, whom the last
+-- all oplocks, in the order in which they were granted; those that the last break or grant chose, whom the last
 -- break told and for which breaks it waits; the number of the last break that began; how many more oplocks can be
 -- granted on each stream without taking memory, none where it isn't told; and the tables
 pub record Tabled : Type 0 where
@@ -107,7 +107,7 @@ abbrev pub KeepSorted : Tabled → Tabled → Type 0
 KeepSorted old new = (handles : List (ℕ × Handle)) → AreSorted handles old.rows old.tables → AreSorted handles new.rows new.tables
 
 -- of the oplocks that are on a stream by this test, one was granted exactly where it isn't refused, and those of its
--- key were taken up; and else none has changed
+-- key were chosen; and else none has changed
 abbrev pub GrantsTabled : (Oplock → Bool) → Asked → Tabled → Tabled → Grant → Type 0
 GrantsTabled on asked old new grant.Granted =
     (is_refused_among on asked.handle asked.key asked.level asked.others asked.locked old.rows ≡ false)

@@ -94,7 +94,7 @@ impl OplockTable {
         self.list.len()
     }
 
-    /// Those that the last break or grant took up, as they were, in order. Those that a grant took up it switched.
+    /// Those that the last break or grant chose, as they were, in order. Those that a grant chose it switched.
     pub fn chosen(&self) -> &[OplockRow]
         ensures { result.now ≡ self.now.chosen }
     {
@@ -151,7 +151,7 @@ impl OplockTable {
     }
 
     /// Grants an oplock to a handle on this stream, unless the stream's table refuses it. Oplocks of its key on the
-    /// stream end, and are those that were taken up last. There has to be room for one on the stream; that of all
+    /// stream end, and are those that were chosen last. There has to be room for one on the stream; that of all
     /// others stays.
     pub fn grant(&mut self, tree: &Tree, stream: u64, asked: &Asked) -> Grant
         requires fit { HomesFit tree.now.handles }

@@ -1,13 +1,13 @@
 //! The oplocks of one stream or directory.
 
-ghost use Rattle.std.specs.Prelude.{◌≡◌, ◌≤◌, ◌<◌, ◌+◌, ◌-◌, ◌^◌, ◌++◌, ◌∷◌, ◌==◌, ◌&&◌, not, [], length, option_map, slice_index_or, OnOk, if◌then◌else◌};
+ghost use Rattle.std.specs.Prelude.{◌≡◌, ◌≤◌, ◌<◌, ◌+◌, ◌-◌, ◌^◌, ◌++◌, ◌∷◌, ◌==◌, ◌&&◌, not, [], filter, length, option_map, slice_index_or, OnOk, if◌then◌else◌};
 ghost use Rattle.std.specs.Option.{option_map_or};
 ghost use Rattle.std.specs.List.{list_any};
 ghost use Rattle.std.specs.Vec.{vec_capacity};
 ghost use Rattle.fsa_types.specs.OplockGrants.{after_answer, target_among};
 ghost use Rattle.fsa_types.specs.OplockLists.{after_breaks, awaited_among, number_of_break, without_oplock_of};
 ghost use Rattle.fsa_types.specs.Oplocks.{in_both};
-ghost use Rattle.oplock_state.specs.State.{Grants, has_oplock, taken_up};
+ghost use Rattle.oplock_state.specs.State.{Grants, has_oplock, broken_next};
 ghost use Rattle.oplock_state.specs.declared.stream_oplocks.Grant.TheVariants.{Granted};
 ghost use Rattle.volume_breaks.specs.Told.{told_all};
 
@@ -20,18 +20,18 @@ use volume_rows::{OplockRow, find_break, find_target, in_both, is_oplock_of};
 /// Whether an oplock was granted.
 #[derive(Clone, Copy, Debug, PartialEq, Eq)]
 pub enum Grant {
-    /// It was; those of its key that it switched are those that were taken up last.
+    /// It was; those of its key that it switched are those that were chosen last.
     Granted,
     /// It wasn't, and nothing has changed.
     Refused,
 }
 
-/// The oplocks of one stream or directory, in the order in which they were granted; the handles that are chosen
+/// The oplocks of one stream or directory, in the order in which they were granted; the handles that are marked
 /// for the next break; and what the last break or grant put by.
 #[derive(Drop)]
 pub struct StreamOplocks {
     list: Oplocks,
-    // The handles that are chosen, each once, and each with an oplock.
+    // The handles that are marked, each once, and each with an oplock.
     marked: Vec<u64>,
 }
 
@@ -41,7 +41,7 @@ const OWN: u64 = 0;
 impl Model for StreamOplocks {
     ghost use Rattle.std.specs.Prelude.{◌-◌, ◌≤◌, length, min};
     ghost use Rattle.std.specs.Vec.{vec_capacity};
-    ghost use Rattle.oplock_state.specs.State.{AreChosen, State};
+    ghost use Rattle.oplock_state.specs.State.{AreMarked, State};
     ghost use Rattle.volume_tables.specs.Rooms.{room_in};
 
     ghost Value = { State };
@@ -51,12 +51,12 @@ impl Model for StreamOplocks {
       last = o.list.last;
       room = min (room_in o.list.rooms 0) (vec_capacity o.marked - length o.list.rows);
       marked = o.marked.items;
-      taken = o.list.chosen;
+      chosen = o.list.chosen;
       told = o.list.told;
       waited = o.list.waited;
     } };
 
-    ghost invariant = { λ o. (length o.list.rows ≤ vec_capacity o.marked) × AreChosen o.marked.items o.list.rows };
+    ghost invariant = { λ o. (length o.list.rows ≤ vec_capacity o.marked) × AreMarked o.marked.items o.list.rows };
 }
 
 impl StreamOplocks {
@@ -120,19 +120,19 @@ impl StreamOplocks {
         Grant::Granted
     }
 
-    /// Chooses the oplock of a handle for the next break; where there is none, or it is chosen, nothing changes.
-    pub fn choose(&mut self, handle: u64)
-        ensures chosen { self.new ≡ record self.old { marked = if has_oplock handle self.old.rows && not (list_any (λ other. other == handle) self.old.marked) then self.old.marked ++ handle ∷ [] else self.old.marked; room = self.new.room } }
+    /// Marks a handle, so that the next break may choose its oplock; where it has none, or is marked, nothing changes.
+    pub fn mark(&mut self, handle: u64)
+        ensures marked { self.new ≡ record self.old { marked = if has_oplock handle self.old.rows && not (list_any (λ other. other == handle) self.old.marked) then self.old.marked ++ handle ∷ [] else self.old.marked; room = self.new.room } }
         ensures room { self.old.room ≤ self.new.room }
     {
-        if !self.can_be_chosen(handle) {
+        if !self.can_be_marked(handle) {
             return;
         }
         mark(&mut self.marked, handle);
     }
 
-    // Whether a handle has an oplock, and isn't chosen yet.
-    fn can_be_chosen(&self, handle: u64) -> bool
+    // Whether a handle has an oplock, and isn't marked yet.
+    fn can_be_marked(&self, handle: u64) -> bool
         ensures { result ≡ (has_oplock handle self.now.rows && not (list_any (λ other. other == handle) self.now.marked)) }
     {
         self.has(handle) && !is_among(&self.marked, handle)
@@ -148,18 +148,18 @@ impl StreamOplocks {
             .any(|oplock| is_oplock_of(oplock, handle))
     }
 
-    /// Breaks the oplocks that are chosen, as a request of this class does: those of other keys than the acting
-    /// handle's, which a Create doesn't have yet, in the order in which their handles were opened. Breaks that
-    /// begin are numbered from `first`, which is above all numbers given here. None is chosen then.
+    /// Breaks the oplocks of the handles that are marked, as a request of this class does: those of other keys than the
+    /// acting handle's, which a Create doesn't have yet, in the order in which their handles were opened. Breaks that
+    /// begin are numbered from `first`, which is above all numbers given here. No handle is marked then.
     pub fn begin(&mut self, class: Class, key: u64, acting: Option<u64>, first: u64)
         requires rising { self.old.last < first }
-        requires numbers { first + length (taken_up self.old acting key) ≤ 2 ^ 64 }
-        ensures rows { self.new.rows ≡ (after_breaks class (record { oplocks = self.old.rows; last_break = first - 1 }) (taken_up self.old acting key)).oplocks }
-        ensures last { self.new.last ≡ (after_breaks class (record { oplocks = self.old.rows; last_break = first - 1 }) (taken_up self.old acting key)).last_break }
+        requires numbers { first + length (broken_next self.old acting key) ≤ 2 ^ 64 }
+        ensures rows { self.new.rows ≡ (after_breaks class (record { oplocks = self.old.rows; last_break = first - 1 }) (broken_next self.old acting key)).oplocks }
+        ensures last { self.new.last ≡ (after_breaks class (record { oplocks = self.old.rows; last_break = first - 1 }) (broken_next self.old acting key)).last_break }
         ensures marked { self.new.marked ≡ [] }
-        ensures taken { self.new.taken ≡ taken_up self.old acting key }
-        ensures told { self.new.told ≡ told_all class (taken_up self.old acting key) }
-        ensures waited { self.new.waited ≡ awaited_among class (taken_up self.old acting key) self.new.rows }
+        ensures chosen { self.new.chosen ≡ broken_next self.old acting key }
+        ensures told { self.new.told ≡ told_all class (broken_next self.old acting key) }
+        ensures waited { self.new.waited ≡ awaited_among class (broken_next self.old acting key) self.new.rows }
         ensures room { self.old.room ≤ self.new.room }
     {
         self.list.number_from(first);
@@ -169,18 +169,37 @@ impl StreamOplocks {
         self.list.await_breaks(class);
     }
 
-    /// How many oplocks the last break or grant took up.
-    pub fn taken_len(&self) -> usize
-        ensures { result ≡ length self.now.taken }
+    /// Breaks the oplock of a handle alone, as a request of this class does. A break that begins has the number `first`,
+    /// which is above all numbers given here. No handle is marked then.
+    pub fn begin_alone(&mut self, handle: u64, class: Class, first: u64)
+        requires rising { self.old.last < first }
+        ensures rows { self.new.rows ≡ (after_breaks class (record { oplocks = self.old.rows; last_break = first - 1 }) (filter (λ oplock. oplock.handle == handle) self.old.rows)).oplocks }
+        ensures last { self.new.last ≡ (after_breaks class (record { oplocks = self.old.rows; last_break = first - 1 }) (filter (λ oplock. oplock.handle == handle) self.old.rows)).last_break }
+        ensures marked { self.new.marked ≡ [] }
+        ensures chosen { self.new.chosen ≡ filter (λ oplock. oplock.handle == handle) self.old.rows }
+        ensures told { self.new.told ≡ told_all class (filter (λ oplock. oplock.handle == handle) self.old.rows) }
+        ensures waited { self.new.waited ≡ awaited_among class (filter (λ oplock. oplock.handle == handle) self.old.rows) self.new.rows }
+        ensures room { self.old.room ≤ self.new.room }
+    {
+        self.list.number_from(first);
+        self.list.choose_alone(handle);
+        self.marked.clear();
+        break_oplocks(&mut self.list, class);
+        self.list.await_breaks(class);
+    }
+
+    /// How many oplocks the last break or grant chose.
+    pub fn chosen_len(&self) -> usize
+        ensures { result ≡ length self.now.chosen }
     {
         self.list.chosen_len()
     }
 
-    /// The oplock that the last break or grant took up at this place, as it was. What a grant took up it switched,
+    /// The oplock that the last break or grant chose at this place, as it was. What a grant chose it switched,
     /// and the call of each ends.
-    pub fn taken(&self, place: usize) -> OplockRow
-        requires { place < length self.now.taken }
-        ensures { result ≡ slice_index_or self.now.taken place result }
+    pub fn chosen_at(&self, place: usize) -> OplockRow
+        requires { place < length self.now.chosen }
+        ensures { result ≡ slice_index_or self.now.chosen place result }
     {
         self.list.chosen_at(place)
     }
@@ -218,7 +237,7 @@ impl StreamOplocks {
     /// Answers the break in progress on a handle: what is in this level and in the one that it was told stays,
     /// and the call that is pending under this turn, or will be, is its own then; where nothing stays the oplock
     /// ends. Gives what stays, and the number of the break, which has ended. `None` exactly where no break of it
-    /// is in progress, and then nothing changes but that no handle is chosen.
+    /// is in progress, and then nothing changes but that no handle is marked.
     pub fn ack(&mut self, handle: u64, level: Level, turn: u64) -> Option<(Level, u64)>
         ensures kept { result ≡ option_map (λ target. (in_both level target, number_of_break self.old.rows handle)) (target_among handle self.old.rows) }
         ensures rows { self.new.rows ≡ option_map_or (λ target. after_answer handle (in_both level target) turn self.old.rows) (target_among handle self.old.rows) self.old.rows }
@@ -234,7 +253,7 @@ impl StreamOplocks {
     }
 
     /// Takes the oplock of a handle out. Gives the number of its break, which has ended; `None` exactly where no
-    /// break of it is in progress. No handle is chosen then.
+    /// break of it is in progress. No handle is marked then.
     pub fn drop_handle(&mut self, handle: u64) -> Option<u64>
         ensures ended { result ≡ option_map (λ _. number_of_break self.old.rows handle) (target_among handle self.old.rows) }
         ensures state { self.new ≡ record self.old { rows = without_oplock_of handle self.old.rows; marked = []; room = self.new.room } }
@@ -264,7 +283,7 @@ fn is_among(marked: &[u64], handle: u64) -> bool
     marked.iter().any(|other| *other == handle)
 }
 
-// Puts a handle behind those that are chosen.
+// Puts a handle behind those that are marked.
 fn mark(marked: &mut Vec<u64>, handle: u64)
     requires room { length marked.old.items < vec_capacity marked.old }
     ensures marked { marked.new.items ≡ marked.old.items ++ handle ∷ [] }

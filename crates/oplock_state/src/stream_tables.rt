@@ -32,7 +32,7 @@ pub struct Asked {
 }
 
 /// For each stream or directory its oplocks, under a key of its own, its home. One without oplocks may have no table.
-/// No handle is chosen in any of them. It finds a table in time logarithmic in them; where one comes, those behind it
+/// No handle is marked in any of them. It finds a table in time logarithmic in them; where one comes, those behind it
 /// are moved.
 #[derive(Drop)]
 pub struct StreamTables {
@@ -185,7 +185,6 @@ fn grant(tables: &mut [(u64, StreamOplocks)], key: u64, asked: &Asked) -> Grant
 
 // Breaks this oplock alone.
 fn begin_one(table: &mut StreamOplocks, oplock: OplockRow, class: Class, first: u64)
-    requires quiet { table.old.marked ≡ [] }
     requires rising { table.old.last < first }
     requires there { filter (λ other. other.handle == oplock.handle) table.old.rows ≡ oplock ∷ [] }
     ensures rows { table.new.rows ≡ (after_effect (effect_on class oplock) oplock.handle (record { oplocks = table.old.rows; last_break = first - 1 })).oplocks }
@@ -193,8 +192,7 @@ fn begin_one(table: &mut StreamOplocks, oplock: OplockRow, class: Class, first: 
     ensures quiet { table.new.marked ≡ [] }
     ensures room { table.old.room ≤ table.new.room }
 {
-    table.choose(oplock.handle);
-    table.begin(class, 0, None, first);
+    table.begin_alone(oplock.handle, class, first);
 }
 
 // Breaks this oplock under this key.

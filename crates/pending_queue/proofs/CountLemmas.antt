@@ -13,7 +13,7 @@ use Rattle.std.proofs.lemmas.List.Folds.{list_any_at, list_any-append}
 use Rattle.fsa_types.specs.Rows.{lives, row_of, with_row_changed, without_row}
 use Rattle.fsa_types.specs.declared.reply.Blocker.{Blocker}
 use Rattle.fsa_types.proofs.RowLemmas.{IsAt-position, fails-none, row_of-none}
-use Rattle.pending_queue.specs.Lists.{AreCounted, AreInOrder, IsBehind, NoneBeside, counted, discounted, is_at, least, ready_turns, turns_of, with_count, with_turn}
+use Rattle.pending_queue.specs.Lists.{AreCounted, AreInOrder, IsBehind, NoneBeside, counted, discounted, is_at, ready_turns, sorted, turns_of, with_count, with_turn}
 use Rattle.pending_queue.specs.PendingQueue.{blockers_of, calls_added, held_of, is_same, with_ended, with_held}
 use Rattle.pending_queue.proofs.QueueLemmas.{blockers-append, blockers-ended, blockers-gone, blockers-kept, held-ended, held-held, held-lives, held-removed, put, put-own, put-others}
 
@@ -336,7 +336,7 @@ none-ended (e ∷ es) blocker none =
 
 -- ---- what a queue keeps
 
-turns-discounted : (blocker : Blocker) (waited : List (ℕ × Blocker)) (calls : List (ℕ × ℕ)) → turns_of (discounted blocker waited calls) ≡ turns_of calls
+pub turns-discounted : (blocker : Blocker) (waited : List (ℕ × Blocker)) (calls : List (ℕ × ℕ)) → turns_of (discounted blocker waited calls) ≡ turns_of calls
 turns-discounted blocker [] calls = refl
 turns-discounted blocker (e ∷ es) calls =
     elim (cases_Bool (is_same blocker e.1)) [
@@ -391,34 +391,34 @@ beside-removed calls waited turn beside other none = elim (cases_Bool (other == 
   | inr apart ↦ blockers-kept waited turn other apart ∙ beside other (sym (lives-left calls turn other apart) ∙ none)
 ]
 
-pub AreCounted-ended : (calls : List (ℕ × ℕ)) (waited : List (ℕ × Blocker)) (first : Option ℕ) (blocker : Blocker) → AreCounted calls waited first
-    → AreCounted (discounted blocker waited calls) (filter (λ e. not (is_same blocker e.1)) waited) (least (ready_turns (discounted blocker waited calls)))
-AreCounted-ended calls waited first blocker are =
+pub AreCounted-ended : (calls : List (ℕ × ℕ)) (waited : List (ℕ × Blocker)) (ready : List ℕ) (blocker : Blocker) → AreCounted calls waited ready
+    → AreCounted (discounted blocker waited calls) (filter (λ e. not (is_same blocker e.1)) waited) (sorted (ready_turns (discounted blocker waited calls)))
+AreCounted-ended calls waited ready blocker are =
     let turns = turns-discounted blocker waited calls in
     record {
       differ = differ-turns calls (discounted blocker waited calls) turns are.differ;
       counts = ap (discounted blocker waited) are.counts ∙ counted-ended (turns_of calls) waited blocker ∙ ap (λ its. counted its (filter (λ e. not (is_same blocker e.1)) waited)) (sym turns);
-      is_first = refl;
+      are_ready = refl;
       beside = beside-ended calls waited blocker are.beside;
     }
 
-pub AreCounted-put : (calls : List (ℕ × ℕ)) (waited : List (ℕ × Blocker)) (first : Option ℕ) (turn : ℕ) (blockers : List Blocker) → AreCounted calls waited first
-    → AreCounted (with_count calls turn (length blockers)) (put waited turn blockers) (least (ready_turns (with_count calls turn (length blockers))))
-AreCounted-put calls waited first turn blockers are =
+pub AreCounted-put : (calls : List (ℕ × ℕ)) (waited : List (ℕ × Blocker)) (ready : List ℕ) (turn : ℕ) (blockers : List Blocker) → AreCounted calls waited ready
+    → AreCounted (with_count calls turn (length blockers)) (put waited turn blockers) (sorted (ready_turns (with_count calls turn (length blockers))))
+AreCounted-put calls waited ready turn blockers are =
     let count = length blockers in
     record {
       differ = differ-put calls turn count are.differ;
       counts = ap (λ its. with_count its turn count) are.counts ∙ counted-put (turns_of calls) waited turn blockers ∙ ap (λ its. counted its (put waited turn blockers)) (sym (turns-put calls turn count));
-      is_first = refl;
+      are_ready = refl;
       beside = beside-put calls waited turn count blockers are.beside;
     }
 
-pub AreCounted-removed : (calls : List (ℕ × ℕ)) (waited : List (ℕ × Blocker)) (first : Option ℕ) (turn : ℕ) → AreCounted calls waited first
-    → AreCounted (without_row calls turn) (filter (λ e. not (e.0 == turn)) waited) (least (ready_turns (without_row calls turn)))
-AreCounted-removed calls waited first turn are = record {
+pub AreCounted-removed : (calls : List (ℕ × ℕ)) (waited : List (ℕ × Blocker)) (ready : List ℕ) (turn : ℕ) → AreCounted calls waited ready
+    → AreCounted (without_row calls turn) (filter (λ e. not (e.0 == turn)) waited) (sorted (ready_turns (without_row calls turn)))
+AreCounted-removed calls waited ready turn are = record {
   differ = differ-removed calls turn are.differ;
   counts = ap (λ its. without_row its turn) are.counts ∙ counted-removed (turns_of calls) waited turn ∙ ap (λ its. counted its (filter (λ e. not (e.0 == turn)) waited)) (sym (turns-removed calls turn));
-  is_first = refl;
+  are_ready = refl;
   beside = beside-removed calls waited turn are.beside;
 }
 
@@ -473,18 +473,18 @@ pub seen-unremoved : (calls : List (ℕ × ℕ)) (waited : List (ℕ × Blocker)
 seen-unremoved calls waited turn none = sym (without-none (held_of (turns_of calls) waited) turn (none-lives (held_of (turns_of calls) waited) turn (seen-none calls waited turn none)))
 
 -- how many blockers a call has
-pub count-is : (calls : List (ℕ × ℕ)) (waited : List (ℕ × Blocker)) (first : Option ℕ) (turn count : ℕ) → AreCounted calls waited first → row_of calls turn ≡ Some count
+pub count-is : (calls : List (ℕ × ℕ)) (waited : List (ℕ × Blocker)) (ready : List ℕ) (turn count : ℕ) → AreCounted calls waited ready → row_of calls turn ≡ Some count
     → count ≡ length (blockers_of waited turn)
-count-is calls waited first turn count are found = row-counted (turns_of calls) waited turn count (ap (λ its. row_of its turn) (sym are.counts) ∙ found)
+count-is calls waited ready turn count are found = row-counted (turns_of calls) waited turn count (ap (λ its. row_of its turn) (sym are.counts) ∙ found)
 
 -- or 0, where it isn't held
-pub counts-all : (calls : List (ℕ × ℕ)) (waited : List (ℕ × Blocker)) (first : Option ℕ) (turn count : ℕ) → AreCounted calls waited first → count ≡ option_map_or (λ count. count) (row_of calls turn) 0
+pub counts-all : (calls : List (ℕ × ℕ)) (waited : List (ℕ × Blocker)) (ready : List ℕ) (turn count : ℕ) → AreCounted calls waited ready → count ≡ option_map_or (λ count. count) (row_of calls turn) 0
     → count ≡ length (blockers_of waited turn)
-counts-all calls waited first turn count are is = is ∙ go (row_of calls turn) refl
+counts-all calls waited ready turn count are is = is ∙ go (row_of calls turn) refl
   where
     go : (kept : Option ℕ) → row_of calls turn ≡ kept → option_map_or (λ count. count) kept 0 ≡ length (blockers_of waited turn)
     go None none = ap length (sym (are.beside turn (row-lives calls turn none)))
-    go (Some count) some = count-is calls waited first turn count are some
+    go (Some count) some = count-is calls waited ready turn count are some
 
 -- how many stand there at a place
 pub count-none : (calls : List (ℕ × ℕ)) (turn : ℕ) → position (λ e. e.0 == turn) calls ≡ None → 0 ≡ option_map_or (λ count. count) (row_of calls turn) 0

@@ -1,7 +1,7 @@
 -- What a change of the turns and of the blockers under turns leaves of the calls that are held.
-use Rattle.std.proofs.Common.{◌≡◌, ℕ, true, false, not, ◌<◌, List, [], ◌∷◌, ◌++◌, length, refl, ap, sym, ◌∙◌, arith, inl, inr, eq-eqb, Option}
+use Rattle.std.proofs.Common.{◌≡◌, ℕ, true, false, not, ◌<◌, List, [], ◌∷◌, ◌++◌, length, refl, ap, sym, ◌∙◌, arith, inl, inr, eq-eqb}
 use Rattle.std.specs.List.{list_any, AllPairs}
-use Rattle.std.specs.Prelude.{◌==◌, ◌||◌, map, filter}
+use Rattle.std.specs.Prelude.{◌==◌, ◌||◌, map, filter, slice_get}
 use Rattle.std.proofs.lemmas.Bool.{cases_Bool, ne_eqb, eqb-true, eqb-false, false≢true}
 use Rattle.std.proofs.lemmas.List.{map-append, append-nil, length-map, get_or-map}
 use Rattle.std.proofs.lemmas.List.Elements.{filter-append}
@@ -9,7 +9,7 @@ use Rattle.fsa_types.specs.Rows.{lives, without_row, with_row_changed}
 use Rattle.fsa_types.specs.declared.reply.Blocker.{Blocker}
 use Rattle.pending_queue.specs.Lists.{AreCounted, counted, least, ready_turns, turns_of, with_turn}
 use Rattle.pending_queue.specs.PendingQueue.{blockers_of, held_of, is_same, with_held, with_ended, next_ready}
-use Rattle.pending_queue.proofs.LeastLemmas.{in_order-first}
+use Rattle.pending_queue.proofs.LeastLemmas.{in_order-first, sorted-first}
 
 -- ---- the blockers of one turn
 
@@ -145,9 +145,9 @@ ready-held (t ∷ ts) waited =
       | inr blocked ↦ rw blocked (ready-held ts waited)
     ]
 
-pub next_ready-first : (calls : List (ℕ × ℕ)) (waited : List (ℕ × Blocker)) (first : Option ℕ) → AreCounted calls waited first → next_ready (held_of (turns_of calls) waited) ≡ first
-next_ready-first calls waited first are = in_order-first (filter (λ e. length e.1 == 0) (held_of (turns_of calls) waited))
-    ∙ ap least (ready-held (turns_of calls) waited) ∙ ap (λ its. least (ready_turns its)) (sym are.counts) ∙ sym are.is_first
+pub next_ready-first : (calls : List (ℕ × ℕ)) (waited : List (ℕ × Blocker)) (ready : List ℕ) → AreCounted calls waited ready → next_ready (held_of (turns_of calls) waited) ≡ slice_get ready 0
+next_ready-first calls waited ready are = in_order-first (filter (λ e. length e.1 == 0) (held_of (turns_of calls) waited))
+    ∙ ap least (ready-held (turns_of calls) waited) ∙ ap (λ its. least (ready_turns its)) (sym are.counts) ∙ sym (sorted-first (ready_turns calls)) ∙ ap (λ its. slice_get its 0) (sym are.are_ready)
 
 -- ---- no two turns are the same
 

@@ -1,8 +1,9 @@
 -- Calls with how many of their blockers live, and blockers with the turns that wait for them.
-use Rattle.std.specs.Prelude.{ℕ, suc, Bool, true, false, ◌≡◌, ◌<◌, get_or, List, [], ◌∷◌, ◌++◌, ◌==◌, ◌-◌, min, map, filter, length, slice_get, Option, Some, None, AllPairs, if◌then◌else◌}
+use Rattle.std.specs.Prelude.{ℕ, suc, Bool, true, false, ◌≡◌, ◌<◌, ◌≤◌, get_or, List, [], ◌∷◌, ◌++◌, ◌==◌, ◌-◌, min, nat_lt, not, map, filter, length, slice_get, Option, Some, None, AllPairs, if◌then◌else◌}
 use Rattle.std.specs.List.{list_any}
 use Rattle.std.specs.Option.{option_map_or}
 use Rattle.fsa_types.specs.Rows.{lives, with_row_changed}
+use Rattle.fsa_types.specs.Sorting.{in_order, put_in_order}
 use Rattle.fsa_types.specs.declared.reply.Blocker.{Blocker}
 use Rattle.pending_queue.specs.PendingQueue.{blockers_of, is_same}
 
@@ -16,10 +17,28 @@ abbrev pub least : List ℕ → Option ℕ
 least [] = None
 least (number ∷ numbers) = Some (least_of (least numbers) number)
 
--- the least is this one
-abbrev pub is_least : Option ℕ → ℕ → Bool
-is_least None turn = false
-is_least (Some other) turn = other == turn
+-- numbers in rising order
+abbrev pub sorted : List ℕ → List ℕ
+sorted numbers = in_order nat_lt numbers
+
+-- this turn stands at this place
+pub record IsPlace (turns : List ℕ) (turn place : ℕ) : Type 0 where
+  pub within : place < length turns
+  pub here : (d : ℕ) → get_or turns place d ≡ turn
+
+-- it isn't there, and would stand at this place
+pub record IsGap (turns : List ℕ) (turn place : ℕ) : Type 0 where
+  pub within : place ≤ length turns
+  pub before : (k : ℕ) (d : ℕ) → k < place → get_or turns k d < turn
+  pub after : (k : ℕ) (d : ℕ) → place ≤ k → k < length turns → turn < get_or turns k d
+
+-- the turns without this one
+abbrev pub without_turn : List ℕ → ℕ → List ℕ
+without_turn turns turn = filter (λ other. not (other == turn)) turns
+
+-- the turns that are ready, in rising order, with this one among them where it is ready, and else without it
+abbrev pub with_ready : List ℕ → ℕ → Bool → List ℕ
+with_ready ready turn is = if is then put_in_order nat_lt turn (without_turn ready turn) else without_turn ready turn
 
 -- the turns with this one among them
 abbrev pub with_turn : List ℕ → ℕ → List ℕ
@@ -33,10 +52,6 @@ turns_of calls = map (λ call. call.0) calls
 -- the turns of those none of whose blockers lives
 abbrev pub ready_turns : List (ℕ × ℕ) → List ℕ
 ready_turns calls = map (λ call. call.0) (filter (λ call. call.1 == 0) calls)
-
--- the least of them stays the least, but where it was this turn
-abbrev pub StaysLeast : ℕ → List (ℕ × ℕ) → List (ℕ × ℕ) → Type 0
-StaysLeast turn old new = is_least (least (ready_turns old)) turn ≡ false → least (ready_turns new) ≡ least (ready_turns old)
 
 -- the call at this place is the one of this turn
 abbrev pub is_at : List (ℕ × ℕ) → ℕ → ℕ → Bool
@@ -67,10 +82,10 @@ AreInOrder rising calls = rising ≡ true → AllPairs (λ a b. a.0 < b.0) calls
 abbrev pub IsBehind : List (ℕ × ℕ) → ℕ → Type 0
 IsBehind calls turn = (k : ℕ) (d : ℕ × ℕ) → suc k ≡ length calls → (get_or calls k d).0 < turn
 
--- no two calls have one turn; their counts are those of the blockers that stand under their turns; and the first that
--- may be taken up
-pub record AreCounted (calls : List (ℕ × ℕ)) (waited : List (ℕ × Blocker)) (first : Option ℕ) : Type 0 where
+-- no two calls have one turn; their counts are those of the blockers that stand under their turns; and the turns of those
+-- that may be taken up, in rising order
+pub record AreCounted (calls : List (ℕ × ℕ)) (waited : List (ℕ × Blocker)) (ready : List ℕ) : Type 0 where
   pub differ : AllPairs (λ a b. (a.0 == b.0) ≡ false) calls
   pub counts : calls ≡ counted (turns_of calls) waited
-  pub is_first : first ≡ least (ready_turns calls)
+  pub are_ready : ready ≡ sorted (ready_turns calls)
   pub beside : NoneBeside calls waited

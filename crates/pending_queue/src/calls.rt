@@ -1,10 +1,10 @@
 //! What is done to the list of calls, each its turn and how many of its blockers live.
 
-ghost use Rattle.std.specs.Prelude.{ℕ, ◌≡◌, ◌≤◌, ◌-◌, ◌==◌, true, false, Some, IfNone, IsOk, OnOk, OnErr, AllPairs, length, position, if◌then◌else◌};
+ghost use Rattle.std.specs.Prelude.{ℕ, ◌≡◌, ◌≤◌, ◌<◌, ◌-◌, ◌==◌, true, false, IfNone, IfSome, IsOk, OnOk, OnErr, AllPairs, length, position, if◌then◌else◌};
 ghost use Rattle.std.specs.Option.{option_map_or};
 ghost use Rattle.std.specs.Vec.{vec_capacity, vec_len};
 ghost use Rattle.fsa_types.specs.Rows.{lives, row_of, with_row_changed, without_row};
-ghost use Rattle.pending_queue.specs.Lists.{AreInOrder, IsBehind, StaysLeast, is_at, is_least, least, least_of, ready_turns, turns_of, with_count};
+ghost use Rattle.pending_queue.specs.Lists.{AreInOrder, IsBehind, is_at, ready_turns, sorted, turns_of, with_count, with_ready, without_turn};
 
 use fsa_types::NoMemory;
 
@@ -96,14 +96,26 @@ pub fn put_count(
     ensures len { OnOk result (vec_len calls.new ≡ length (with_count calls.old.items turn count)) }
     ensures succeeds { length (with_count calls.old.items turn count) ≤ vec_capacity calls.old → IsOk result }
     ensures room { vec_capacity calls.old ≤ vec_capacity calls.new }
-    ensures freed { OnOk result (count ≡ 0 → least (ready_turns calls.new.items) ≡ Some (least_of (least (ready_turns calls.old.items)) turn)) }
-    ensures blocked { OnOk result ((count == 0) ≡ false → StaysLeast turn calls.old.items calls.new.items) }
+    ensures ready { OnOk result (sorted (ready_turns calls.new.items) ≡ with_ready (sorted (ready_turns calls.old.items)) turn (count == 0)) }
+    ensures fewer { OnOk result (length (without_turn (sorted (ready_turns calls.old.items)) turn) < length calls.new.items) }
 {
     match find_call(calls, turn, rising) {
         Some(place) => calls[place] = (turn, count),
         None => calls.push((turn, count))?,
     }
     Ok(())
+}
+
+/// How many calls there are with the call of this turn among them.
+pub fn len_with(calls: &[(u64, usize)], turn: u64, rising: bool) -> usize
+    requires differ { AllPairs (λ a b. (a.0 == b.0) ≡ false) calls.now }
+    requires rising { AreInOrder rising calls.now }
+    ensures { (count : ℕ) → result ≡ length (with_count calls.now turn count) }
+{
+    match find_call(calls, turn, rising) {
+        None => calls.len() + 1,
+        Some(_) => calls.len(),
+    }
 }
 
 /// How many blockers of the call of this turn live; 0 where it isn't there.
@@ -125,7 +137,8 @@ pub fn count_down(calls: &mut Vec<(u64, usize)>, turn: u64) -> bool
     ensures turns { turns_of calls.new.items ≡ turns_of calls.old.items }
     ensures len { vec_len calls.new ≡ vec_len calls.old }
     ensures room { vec_capacity calls.new ≡ vec_capacity calls.old }
-    ensures ready { least (ready_turns calls.new.items) ≡ (if result then Some (least_of (least (ready_turns calls.old.items)) turn) else least (ready_turns calls.old.items)) }
+    ensures ready { sorted (ready_turns calls.new.items) ≡ (if result then with_ready (sorted (ready_turns calls.old.items)) turn true else sorted (ready_turns calls.old.items)) }
+    ensures fewer { result ≡ true → length (without_turn (sorted (ready_turns calls.old.items)) turn) < length calls.old.items }
 {
     match place_of(calls, turn) {
         None => false,
@@ -150,7 +163,8 @@ pub fn take_call(calls: &mut Vec<(u64, usize)>, turn: u64, rising: bool) -> Opti
     ensures items { calls.new.items ≡ without_row calls.old.items turn }
     ensures few { vec_len calls.new ≤ vec_len calls.old }
     ensures room { vec_capacity calls.new ≡ vec_capacity calls.old }
-    ensures stays { StaysLeast turn calls.old.items calls.new.items }
+    ensures ready { sorted (ready_turns calls.new.items) ≡ with_ready (sorted (ready_turns calls.old.items)) turn false }
+    ensures fewer { IfSome result (λ _. length (without_turn (sorted (ready_turns calls.old.items)) turn) < length calls.old.items) }
 {
     match find_call(calls, turn, rising) {
         None => None,
@@ -158,66 +172,5 @@ pub fn take_call(calls: &mut Vec<(u64, usize)>, turn: u64, rising: bool) -> Opti
             let call = calls.remove(place);
             Some(call.1)
         }
-    }
-}
-
-/// The least turn of a call none of whose blockers lives, where it was `first` before so many blockers of the call of
-/// this turn were put in.
-pub fn first_put(calls: &[(u64, usize)], first: Option<u64>, turn: u64, count: usize) -> Option<u64>
-    requires freed { count ≡ 0 → least (ready_turns calls.now) ≡ Some (least_of first turn) }
-    requires blocked { (count == 0) ≡ false → is_least first turn ≡ false → least (ready_turns calls.now) ≡ first }
-    ensures { result ≡ least (ready_turns calls.now) }
-{
-    if count == 0 {
-        least_with(first, turn, true)
-    } else {
-        first_without(calls, first, turn)
-    }
-}
-
-/// The same, where it was `first` before the call of this turn was taken out or blocked. All calls are looked at only
-/// where it was the first.
-pub fn first_without(calls: &[(u64, usize)], first: Option<u64>, turn: u64) -> Option<u64>
-    requires { is_least first turn ≡ false → least (ready_turns calls.now) ≡ first }
-    ensures { result ≡ least (ready_turns calls.now) }
-{
-    if is_least(first, turn) {
-        least_ready(calls)
-    } else {
-        first
-    }
-}
-
-// Whether the least turn is this one.
-fn is_least(first: Option<u64>, turn: u64) -> bool
-    ensures { result ≡ is_least first turn }
-{
-    match first {
-        None => false,
-        Some(other) => other == turn,
-    }
-}
-
-// The least turn of a call none of whose blockers lives, by a look at each.
-fn least_ready(calls: &[(u64, usize)]) -> Option<u64>
-    ensures { result ≡ least (ready_turns calls.now) }
-{
-    let mut ready = None;
-    for call in calls {
-        ready = least_with(ready, call.0, call.1 == 0);
-    }
-    ready
-}
-
-/// The lesser of what was found and this turn, where it counts.
-pub fn least_with(found: Option<u64>, turn: u64, counts: bool) -> Option<u64>
-    ensures { result ≡ (if counts then Some (least_of found turn) else found) }
-{
-    if !counts {
-        return found;
-    }
-    match found {
-        None => Some(turn),
-        Some(other) => Some(other.min(turn)),
     }
 }

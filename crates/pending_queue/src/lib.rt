@@ -16,16 +16,21 @@
 //! `hold` over the blockers that the call was held by and that live, each beside what shares a slot with them: blockers
 //! are found by their numbers and by their turns, each in half as many slots as there was room when room was taken. As
 //! long as each call was put in behind lower turns, a call is found by halves, and so is that a turn has none; else all
-//! are looked at for a turn that has none. Where a call is taken out, those behind it move. Where the call that is held or
-//! removed was the first that is ready, all calls are looked at for the next. `hold` takes memory only where there is
-//! no spare room for what it puts in; nothing else but `reserve` takes any. Where room is taken for blockers, those that
-//! live move to new room, in time linear in all.
+//! are looked at for a turn that has none. Where a call is taken out, the 16 bytes of each behind it move; where one
+//! becomes ready or ceases to be, the 8 bytes of each ready turn behind its own. `hold` takes memory only where there
+//! is no spare room for what it puts in; nothing else but `reserve` takes any. Where room is taken for blockers, those
+//! that live move to new room, in time linear in all.
+//!
+//! `slot_of`, `end_of` and `set_head` are for lists whose items are linked by slots, as blockers are here.
 #![tactic(auto)]
 
 mod calls;
 mod queue;
+mod ready;
+mod slots;
 #[cfg(test)]
 mod tests;
 mod waits;
 
 pub use queue::PendingQueue;
+pub use slots::{end_of, set_head, slot_of};

@@ -4,7 +4,8 @@ ghost use Rattle.std.specs.Prelude.{◌≡◌, ◌≤◌, ◌+◌, ◌==◌, [],
 ghost use Rattle.fsa_types.specs.Rows.{lives, without_row};
 ghost use Rattle.pending_queue.specs.PendingQueue.{with_held, with_ended, next_ready, calls_added};
 
-use crate::calls::{count_of, first_put, first_without, put_count, stays_rising, take_call};
+use crate::calls::{count_of, len_with, put_count, stays_rising, take_call};
+use crate::ready::{first_of, reserve_for, set_ready};
 use crate::waits::Waits;
 use fsa_types::{Blocker, BlockerList, NoMemory};
 use std::alloc::Global;
@@ -20,25 +21,25 @@ pub struct PendingQueue {
     rising: bool,
     // The blockers that live, each with the turn of the call that waits for it.
     waits: Waits,
-    // The least turn of a call none of whose blockers lives.
-    first: Option<u64>,
+    // The turns of the calls none of whose blockers lives, in rising order, with room for those of all calls.
+    ready: Vec<u64>,
 }
 
 impl Model for PendingQueue {
     ghost use Rattle.pending_queue.specs.Lists.{AreCounted, AreInOrder, turns_of};
     ghost use Rattle.pending_queue.specs.PendingQueue.{Queue, held_of};
-    ghost use Rattle.std.specs.Prelude.{◌-◌};
+    ghost use Rattle.std.specs.Prelude.{◌-◌, ◌≤◌, length, min};
     ghost use Rattle.std.specs.Vec.{vec_capacity, vec_len};
 
     ghost Value = { Queue };
 
     ghost view = { λ q. record {
       held = held_of (turns_of q.calls.items) q.waits.entries;
-      room_for_calls = vec_capacity q.calls - vec_len q.calls;
+      room_for_calls = min (vec_capacity q.calls) (vec_capacity q.ready) - vec_len q.calls;
       room_for_blockers = q.waits.room;
     } };
 
-    ghost invariant = { λ q. AreCounted q.calls.items q.waits.entries q.first × AreInOrder q.rising q.calls.items };
+    ghost invariant = { λ q. AreCounted q.calls.items q.waits.entries q.ready.items × AreInOrder q.rising q.calls.items × length q.calls.items ≤ vec_capacity q.ready };
 }
 
 impl PendingQueue {
@@ -50,7 +51,7 @@ impl PendingQueue {
             calls: Vec::new(alloc),
             rising: true,
             waits: Waits::new(alloc),
-            first: None,
+            ready: Vec::new(alloc),
         }
     }
 
@@ -63,7 +64,11 @@ impl PendingQueue {
         ensures calls_kept { self.old.room_for_calls ≤ self.new.room_for_calls }
         ensures blockers_kept { self.old.room_for_blockers ≤ self.new.room_for_blockers }
     {
+        let Some(in_all) = self.calls.len().checked_add(calls) else {
+            return Err(NoMemory);
+        };
         self.calls.reserve(calls)?;
+        reserve_for(&mut self.ready, in_all)?;
         self.waits.reserve(blockers)?;
         Ok(())
     }
@@ -90,12 +95,13 @@ impl PendingQueue {
         ensures blockers_left { self.old.room_for_blockers ≤ self.new.room_for_blockers + length blockers.now }
     {
         self.waits.reserve(blockers.len())?;
+        reserve_for(&mut self.ready, len_with(&self.calls, turn, self.rising))?;
         let count = count_of(&self.calls, turn, self.rising);
         let rising = stays_rising(&self.calls, turn, self.rising);
         put_count(&mut self.calls, turn, blockers.len(), self.rising)?;
         self.rising = rising;
         self.waits.put(turn, count, blockers);
-        self.first = first_put(&self.calls, self.first, turn, blockers.len());
+        set_ready(&mut self.ready, turn, blockers.is_empty());
         Ok(())
     }
 
@@ -106,7 +112,7 @@ impl PendingQueue {
         ensures calls_kept { self.old.room_for_calls ≤ self.new.room_for_calls }
         ensures blockers_kept { self.old.room_for_blockers ≤ self.new.room_for_blockers }
     {
-        self.first = self.waits.end(&mut self.calls, self.first, blocker);
+        self.waits.end(&mut self.calls, &mut self.ready, blocker);
     }
 
     /// The least turn of a call none of whose blockers lives; `None` exactly where there is none.
@@ -114,7 +120,7 @@ impl PendingQueue {
         ensures turn { result ≡ next_ready self.now.held }
         ensures differ { AllPairs (λ a b. (a.0 == b.0) ≡ false) self.now.held }
     {
-        self.first
+        first_of(&self.ready)
     }
 
     /// Holds the call of this turn no more; `false` exactly where it isn't held. It takes no memory, and
@@ -129,7 +135,7 @@ impl PendingQueue {
             return false;
         };
         self.waits.drop_of(turn, count);
-        self.first = first_without(&self.calls, self.first, turn);
+        set_ready(&mut self.ready, turn, false);
         true
     }
 }

@@ -1,13 +1,14 @@
 //! The blockers that live, each with the turn that waits for it: those of one blocker are found without a look at the
 //! others.
 
-ghost use Rattle.std.specs.Prelude.{◌≡◌, ◌≤◌, ◌<◌, ◌+◌, ◌==◌, ◌++◌, ◌∷◌, [], false, not, count_by, map, filter, get_or, set, length, AllPairs, IfOk, IsOk, OnOk};
+ghost use Rattle.std.specs.Prelude.{◌≡◌, ◌≤◌, ◌<◌, ◌+◌, ◌==◌, ◌++◌, ◌∷◌, [], false, not, count_by, map, filter, get_or, length, AllPairs, IfOk, IsOk, OnOk};
 ghost use Rattle.std.specs.Vec.{vec_capacity, vec_len};
-ghost use Rattle.pending_queue.specs.Lists.{discounted, least, ready_turns, turns_of};
+ghost use Rattle.pending_queue.specs.Lists.{discounted, ready_turns, sorted, turns_of};
 ghost use Rattle.pending_queue.specs.PendingQueue.{blockers_of, is_same};
-ghost use Rattle.pending_queue.specs.Waits.{AreLinked, bare, by_blocker, by_turn, end_of, entries_of, is_blocker, is_out, is_turn, link_of, links_of, nothing, number_of, over, over_at, slot, slots_of, turn_link_of};
+ghost use Rattle.pending_queue.specs.Waits.{AreLinked, bare, by_blocker, by_turn, entries_of, is_blocker, is_out, is_turn, link_of, links_of, nothing, number_of, over, over_at, slots_of, turn_link_of};
 
-use crate::calls::{count_down, least_with};
+use crate::ready::let_go;
+use crate::slots::{end_of, set_head, slot_of};
 use fsa_types::{Blocker, NoMemory};
 use std::alloc::Global;
 use std::marker::Model;
@@ -165,25 +166,22 @@ impl Waits {
         }
     }
 
-    /// This blocker, of whatever call, lives no more. Of each call its count is lowered for it. Gives the least turn of
-    /// a call none of whose blockers lives then, where it was `first` before. It takes no memory, and leaves the room as
-    /// it was.
-    pub fn end(
-        &mut self,
-        calls: &mut Vec<(u64, usize)>,
-        first: Option<u64>,
-        blocker: Blocker,
-    ) -> Option<u64>
+    /// This blocker, of whatever call, lives no more. Of each call its count is lowered for it, and the turns of those
+    /// none of whose blockers lives then come among those that are ready, for which there has to be room. It takes no
+    /// memory, and leaves the room as it was.
+    pub fn end(&mut self, calls: &mut Vec<(u64, usize)>, ready: &mut Vec<u64>, blocker: Blocker)
         requires differ { AllPairs (λ a b. (a.0 == b.0) ≡ false) calls.old.items }
-        requires first { first ≡ least (ready_turns calls.old.items) }
+        requires ready { ready.old.items ≡ sorted (ready_turns calls.old.items) }
+        requires places { length calls.old.items ≤ vec_capacity ready.old }
         ensures entries { self.new.entries ≡ filter (λ entry. not (is_same blocker entry.1)) self.old.entries }
         ensures room { self.new.room ≡ self.old.room }
         ensures calls { calls.new.items ≡ discounted blocker self.old.entries calls.old.items }
         ensures len { vec_len calls.new ≡ vec_len calls.old }
         ensures capacity { vec_capacity calls.new ≡ vec_capacity calls.old }
-        ensures first { result ≡ least (ready_turns calls.new.items) }
+        ensures ready { ready.new.items ≡ sorted (ready_turns calls.new.items) }
+        ensures places { vec_capacity ready.old ≤ vec_capacity ready.new }
     {
-        end_each(&mut self.waits, &self.heads, calls, first, blocker)
+        end_each(&mut self.waits, &self.heads, calls, ready, blocker);
     }
 }
 
@@ -226,36 +224,6 @@ fn number_of(blocker: Blocker) -> u64
     match blocker {
         Blocker::Break(number) => number,
         Blocker::Lock(number) => number,
-    }
-}
-
-// The slot of a number among so many.
-fn slot_of(many: usize, number: u64) -> usize
-    ensures { result ≡ slot many number }
-{
-    if many == 0 {
-        0
-    } else {
-        (number % many as u64) as usize
-    }
-}
-
-// Where those of a slot end, or all where it has no head.
-fn end_of(heads: &[usize], own: usize, many: usize) -> usize
-    ensures { result ≡ end_of heads.now own many }
-{
-    match heads.get(own) {
-        None => many,
-        Some(head) => *head,
-    }
-}
-
-// Those of this slot end here, where it has a head.
-fn set_head(heads: &mut Vec<usize>, own: usize, end: usize)
-    ensures { heads.new.items ≡ set heads.old.items own end }
-{
-    if own < heads.len() {
-        heads[own] = end;
     }
 }
 
@@ -306,12 +274,13 @@ fn end_each(
     waits: &mut Vec<Wait>,
     heads: &[usize],
     calls: &mut Vec<(u64, usize)>,
-    first: Option<u64>,
+    ready: &mut Vec<u64>,
     blocker: Blocker,
-) -> Option<u64>
+)
     requires linked { AreLinked heads.now (slots_of by_blocker (length heads.now) waits.old.items) (links_of link_of waits.old.items) }
     requires differ { AllPairs (λ a b. (a.0 == b.0) ≡ false) calls.old.items }
-    requires first { first ≡ least (ready_turns calls.old.items) }
+    requires ready { ready.old.items ≡ sorted (ready_turns calls.old.items) }
+    requires places { length calls.old.items ≤ vec_capacity ready.old }
     ensures entries { entries_of waits.new.items ≡ filter (λ entry. not (is_same blocker entry.1)) (entries_of waits.old.items) }
     ensures bare { map bare waits.new.items ≡ map bare waits.old.items }
     ensures waits_len { vec_len waits.new ≡ vec_len waits.old }
@@ -319,17 +288,16 @@ fn end_each(
     ensures calls { calls.new.items ≡ discounted blocker (entries_of waits.old.items) calls.old.items }
     ensures len { vec_len calls.new ≡ vec_len calls.old }
     ensures room { vec_capacity calls.new ≡ vec_capacity calls.old }
-    ensures first { result ≡ least (ready_turns calls.new.items) }
+    ensures ready { ready.new.items ≡ sorted (ready_turns calls.new.items) }
+    ensures places { vec_capacity ready.old ≤ vec_capacity ready.new }
 {
-    let mut least = first;
     let mut end = end_of(heads, slot_of(heads.len(), number_of(blocker)), waits.len());
     while end > 0 {
         let place = end - 1;
         let link = waits[place].link;
-        least = end_at(waits, place, calls, least, blocker);
+        end_at(waits, place, calls, ready, blocker);
         end = link;
     }
-    least
 }
 
 // This blocker lives no more at this place, where it stands there.
@@ -337,12 +305,13 @@ fn end_at(
     waits: &mut Vec<Wait>,
     place: usize,
     calls: &mut Vec<(u64, usize)>,
-    first: Option<u64>,
+    ready: &mut Vec<u64>,
     blocker: Blocker,
-) -> Option<u64>
+)
     requires within { place < length waits.old.items }
     requires differ { AllPairs (λ a b. (a.0 == b.0) ≡ false) calls.old.items }
-    requires first { first ≡ least (ready_turns calls.old.items) }
+    requires ready { ready.old.items ≡ sorted (ready_turns calls.old.items) }
+    requires places { length calls.old.items ≤ vec_capacity ready.old }
     ensures items { waits.new.items ≡ over_at (is_blocker blocker) waits.old.items place }
     ensures waits_len { vec_len waits.new ≡ vec_len waits.old }
     ensures waits_room { vec_capacity waits.new ≡ vec_capacity waits.old }
@@ -350,15 +319,15 @@ fn end_at(
     ensures turns { turns_of calls.new.items ≡ turns_of calls.old.items }
     ensures len { vec_len calls.new ≡ vec_len calls.old }
     ensures room { vec_capacity calls.new ≡ vec_capacity calls.old }
-    ensures first { result ≡ least (ready_turns calls.new.items) }
+    ensures ready { ready.new.items ≡ sorted (ready_turns calls.new.items) }
+    ensures places { vec_capacity ready.old ≤ vec_capacity ready.new }
 {
     let wait = waits[place];
     if !waits_for(wait, blocker) {
-        return first;
+        return;
     }
     waits[place] = ended(wait);
-    let ready = count_down(calls, wait.turn);
-    least_with(first, wait.turn, ready)
+    let_go(calls, ready, wait.turn);
 }
 
 // Whether it lives, and is this blocker's.

@@ -16,12 +16,12 @@
 //!
 //! **Cost.** Beside the list a table has its ranges once more, in the order of their places. As long as each range that
 //! was ever put in had a greater number than the last one that was there, and those near the wanted range are no more
-//! than a quarter of all, a question looks at those near alone, and `conflict` at all of them: those that begin before
-//! its end, and no further before its place than the longest range is long that was put in since the table was last
-//! empty. Where they stand is found by binary search. `blockers` goes over them once, and once more for each number that
-//! it lists if that is no more looks than there are ranges, else over the list up to the last that conflicts. Where a
-//! question doesn't go by those near it goes over the list: `conflict` up to the first that conflicts, `blockers` once
-//! over all, and once more up to the last that conflicts.
+//! than a quarter of all, a question looks at those near alone, and `conflict` at all of these. Near are those that
+//! begin before its end, and no further before its place than the longest range is long that was put in since the table
+//! was last empty. Where they stand is found by binary search. `blockers` goes over them once, and once more for each
+//! number that it lists if that is no more looks than there are ranges, else over the list up to the last that
+//! conflicts. Where a question doesn't go by those near it goes over the list: `conflict` up to the first that
+//! conflicts, `blockers` once over all, and once more up to the last that conflicts.
 //!
 //! `insert` and `remove` find the place by binary search; `remove` then looks at the ranges that begin there, and finds
 //! the range in the list by its number as long as numbers rose so, and else by a look at each up to it. What is put in

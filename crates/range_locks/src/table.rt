@@ -278,6 +278,16 @@ fn listed_near(
     }
 }
 
+// An empty list with room for so many numbers. `NoMemory` where there is none, or where there would be 2^32 of them.
+fn list_for(alloc: Global, found: usize) -> Result<BlockerList, NoMemory>
+    ensures { IfOk result (λ list. list ≡ record { items = []; room = found }) }
+{
+    let Ok(room) = u32::try_from(found) else {
+        return Err(NoMemory);
+    };
+    BlockerList::with_room(alloc, room)
+}
+
 // The numbers of those ranges near that conflict with what this handle wants, from the least. There are so many.
 fn listed_by_number(
     alloc: Global,
@@ -292,10 +302,7 @@ fn listed_by_number(
     ensures { (ranges : List Range) → AreNumbered ranges → AreSameByPlace (filter (conflicts want handle at count) near.now) (filter (conflicts want handle at count) ranges)
         → IfOk result (λ list. list ≡ full (blockers_of (conflicts want handle at count) ranges)) }
 {
-    let Ok(room) = u32::try_from(found) else {
-        return Err(NoMemory);
-    };
-    let mut list = BlockerList::with_room(alloc, room)?;
+    let mut list = list_for(alloc, found)?;
     let mut last = None;
     for _ in 0..found {
         let Some(id) = least_behind(near, want, handle, at, count, last) else {
@@ -336,10 +343,7 @@ fn listed_all(
     requires { found ≡ count_by (conflicts want handle at count) ranges.now }
     ensures { IfOk result (λ list. list ≡ full (blockers_of (conflicts want handle at count) ranges.now)) }
 {
-    let Ok(room) = u32::try_from(found) else {
-        return Err(NoMemory);
-    };
-    let mut list = BlockerList::with_room(alloc, room)?;
+    let mut list = list_for(alloc, found)?;
     for range in ranges {
         if list.len() == found {
             return Ok(list);

@@ -29,8 +29,6 @@
 
 mod engine;
 mod shared;
-#[cfg(test)]
-mod tests;
 mod views;
 mod volume;
 

@@ -12,6 +12,7 @@
 //! held.clashes(0x80, 0x0) == false // attributes alone have no part in sharing
 //! held.remove(0x1, 0x3);
 //! held.clashes(0x2, 0x2) == false
+//! held.is_empty() == true
 //!
 //! let mut charges = Charges::new(alloc);
 //! charges.reserve(1)?; // may be refused
@@ -21,7 +22,7 @@
 //! ```
 //!
 //! `ShareCounts` asks two things of its caller: that an open is removed with the masks that it was
-//! added with, and that fewer than 2^32 - 1 opens are held before another is added. Each call takes
+//! added with, and that fewer than 2^64 - 1 opens are held before another is added. Each call takes
 //! constant time and no memory. `Charges` asks nothing. Its owners are a sorted list: one is found
 //! by binary search, in time logarithmic in the owners, and a new one moves all those with greater
 //! numbers. It takes memory in `reserve`, and in `set` where an owner is new and there is no spare

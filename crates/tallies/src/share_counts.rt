@@ -1,6 +1,6 @@
 //! The counters of the opens that are held on one stream or directory.
 
-ghost use Rattle.std.specs.Prelude.{◌≡◌, ◌&&◌, ◌||◌, ◌<◌, ◌-◌, ◌^◌, ◌++◌, ◌∷◌, [], List, ℕ, length, Contains, IsPermutation};
+ghost use Rattle.std.specs.Prelude.{◌≡◌, ◌==◌, ◌&&◌, ◌||◌, ◌<◌, ◌-◌, ◌^◌, ◌++◌, ◌∷◌, [], List, ℕ, length, Contains, IsPermutation};
 ghost use Rattle.std.specs.List.{list_any};
 ghost use Rattle.fsa_types.specs.Sharing.{clash, clashes, takes_part};
 ghost use Rattle.tallies.specs.Counts.{counts_of, meets_refusers, meets_users};
@@ -22,15 +22,15 @@ pub struct ShareCounts {
     // The list that contracts see.
     held: Held,
     // All of them.
-    opens: u32,
+    opens: u64,
     // Those with each access.
-    readers: u32,
-    writers: u32,
-    deleters: u32,
+    readers: u64,
+    writers: u64,
+    deleters: u64,
     // Those that have some of these accesses and don't share this one.
-    read_refusers: u32,
-    write_refusers: u32,
-    delete_refusers: u32,
+    read_refusers: u64,
+    write_refusers: u64,
+    delete_refusers: u64,
 }
 
 impl Model for ShareCounts {
@@ -62,19 +62,26 @@ impl ShareCounts {
         }
     }
 
+    /// Whether no open is held.
+    pub fn is_empty(&self) -> bool
+        ensures { result ≡ (length self.now == 0) }
+    {
+        self.opens == 0
+    }
+
     /// Adds an open, by its access mask without generic rights and by its share mask. Fewer than
-    /// 2^32 - 1 opens have to be held.
+    /// 2^64 - 1 opens have to be held.
     pub fn add(&mut self, access: u32, share: u32)
-        requires { length self.old < 2 ^ 32 - 1 }
+        requires { length self.old < 2 ^ 64 - 1 }
         ensures { self.new ≡ self.old ++ (access, share) ∷ [] }
     {
         self.opens += 1;
-        self.readers += reads(access) as u32;
-        self.writers += writes(access) as u32;
-        self.deleters += deletes(access) as u32;
-        self.read_refusers += refuses_read(access, share) as u32;
-        self.write_refusers += refuses_write(access, share) as u32;
-        self.delete_refusers += refuses_delete(access, share) as u32;
+        self.readers += reads(access) as u64;
+        self.writers += writes(access) as u64;
+        self.deleters += deletes(access) as u64;
+        self.read_refusers += refuses_read(access, share) as u64;
+        self.write_refusers += refuses_write(access, share) as u64;
+        self.delete_refusers += refuses_delete(access, share) as u64;
         self.held = Held::with(&self.held, &(access, share));
     }
 
@@ -86,12 +93,12 @@ impl ShareCounts {
         ensures others { IsPermutation self.old ((access, share) ∷ self.new) }
     {
         self.opens -= 1;
-        self.readers -= reads(access) as u32;
-        self.writers -= writes(access) as u32;
-        self.deleters -= deletes(access) as u32;
-        self.read_refusers -= refuses_read(access, share) as u32;
-        self.write_refusers -= refuses_write(access, share) as u32;
-        self.delete_refusers -= refuses_delete(access, share) as u32;
+        self.readers -= reads(access) as u64;
+        self.writers -= writes(access) as u64;
+        self.deleters -= deletes(access) as u64;
+        self.read_refusers -= refuses_read(access, share) as u64;
+        self.write_refusers -= refuses_write(access, share) as u64;
+        self.delete_refusers -= refuses_delete(access, share) as u64;
         self.held = Held::without(&self.held, &(access, share));
     }
 

@@ -3,7 +3,9 @@ pub mod CallLemmas
 pub mod EndLemmas
 pub mod GrantLemmas
 pub mod OrderLemmas
+pub mod PlaceLemmas
 pub mod ReleaseLemmas
+pub mod ReverseLemmas
 pub mod ToldLemmas
 pub mod TurnLemmas
 pub mod WaitingLemmas

@@ -1,5 +1,6 @@
 -- Oplocks as they are kept, beside what a break of them sets aside.
-use Rattle.std.specs.Prelude.{ℕ, ◌^◌, ◌<◌, ◌≤◌, List}
+use Rattle.std.specs.Prelude.{ℕ, Bool, false, ◌^◌, ◌<◌, ◌≤◌, ◌==◌, List, slice_get}
+use Rattle.std.specs.Option.{option_map_or}
 use Rattle.fsa_types.specs.OplockLists.{OplockState}
 use Rattle.fsa_model.specs.Volume.{Oplock}
 use Rattle.volume_breaks.specs.declared.telling.Told.{Told}
@@ -18,6 +19,10 @@ pub record Held : Type 0 where
 -- the oplocks, with the number of the last break that began
 abbrev pub state_of : Held → OplockState
 state_of held = record { oplocks = held.rows; last_break = held.last }
+
+-- the oplock at this place is of this handle
+abbrev pub is_handle_at : List Oplock → ℕ → ℕ → Bool
+is_handle_at oplocks place handle = option_map_or (λ oplock. oplock.handle == handle) (slice_get oplocks place) false
 
 -- there is room for so many oplocks in all, and for as many that are chosen, told and waited for; their count
 -- is below 2^32, and so is that of those chosen last

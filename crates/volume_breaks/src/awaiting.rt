@@ -1,23 +1,18 @@
 //! The breaks of oplocks that a request waits for.
 
-ghost use Rattle.std.specs.Prelude.{◌≡◌, ◌≤◌, ◌<◌, ◌+◌, ◌++◌, ◌∷◌, [], length, map, if◌then◌else◌};
+ghost use Rattle.std.specs.Prelude.{◌≡◌, ◌≤◌, ◌<◌, ◌+◌, ◌++◌, ◌∷◌, ◌==◌, [], false, AllPairs, length, map, if◌then◌else◌};
 ghost use Rattle.std.specs.Vec.{vec_capacity};
 ghost use Rattle.fsa_types.specs.OplockLists.{awaited_among, number_of_break};
 ghost use Rattle.fsa_types.specs.Oplocks.{is_awaited};
 ghost use Rattle.fsa_types.specs.declared.reply.Blocker.TheVariants.{Break};
 
+use crate::finding::number_of_break;
 use fsa_types::{Blocker, BlockerList, Class};
-use volume_rows::{OplockRow, find_break, is_awaited};
-
-// The number of the break in progress on a handle; 0 where there is none.
-fn number_of_break(oplocks: &[OplockRow], handle: u64) -> u64
-    ensures { result ≡ number_of_break oplocks.now handle }
-{
-    find_break(oplocks, handle).unwrap_or(0)
-}
+use volume_rows::{OplockRow, is_awaited};
 
 // Sets aside the number of the break of an oplock, where a request of this class waits for it.
 fn await_one(oplocks: &[OplockRow], oplock: &OplockRow, class: Class, waited: &mut Vec<u64>)
+    requires differ { AllPairs (λ a b. (a.handle == b.handle) ≡ false) oplocks.now }
     requires room { length waited.old.items < vec_capacity waited.old }
     ensures waited { waited.new.items ≡ (if is_awaited class oplock.now.level oplock.now.target then waited.old.items ++ number_of_break oplocks.now oplock.now.handle ∷ [] else waited.old.items) }
     ensures few { length waited.new.items ≤ length waited.old.items + 1 }
@@ -38,6 +33,7 @@ pub fn await_breaks(
     class: Class,
     waited: &mut Vec<u64>,
 )
+    requires differ { AllPairs (λ a b. (a.handle == b.handle) ≡ false) oplocks.now }
     requires room { length chosen.now ≤ vec_capacity waited.old }
     ensures waited { waited.new.items ≡ awaited_among class chosen.now oplocks.now }
     ensures few { length waited.new.items ≤ length chosen.now }

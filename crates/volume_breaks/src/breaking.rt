@@ -15,7 +15,6 @@ use crate::end_table::EndTable;
 use crate::pending_calls::PendingCalls;
 use crate::telling::Told;
 use fsa_types::{Body, EndOf, Level, Reply, Status};
-use volume_rows::{PendingRow, find_pending};
 
 /// A call has ended with this reply; where it was pending it is so no more.
 pub fn end_call(
@@ -41,12 +40,12 @@ pub fn end_call(
 }
 
 // The client and the number of the call that is pending under this turn.
-fn pending_call(pending: &[(u64, PendingRow)], turn: Option<u64>) -> Option<(u32, u32)>
-    ensures { result ≡ option_map (λ row. (row.call.client, row.call.number)) (option_and_then (row_of pending.now) turn) }
+fn pending_call(pending: &PendingCalls, turn: Option<u64>) -> Option<(u32, u32)>
+    ensures { result ≡ option_map (λ row. (row.call.client, row.call.number)) (option_and_then (row_of pending.now.items) turn) }
 {
     match turn {
         None => None,
-        Some(turn) => match find_pending(pending, turn) {
+        Some(turn) => match pending.call_of(turn) {
             None => None,
             Some(call) => Some((call.client, call.number)),
         },
@@ -67,7 +66,7 @@ pub fn end_pending(
     ensures left { ended.old.room ≤ ended.new.room + (if is_some turn then 1 else 0) }
     ensures ends { HoldsAsMany ended.old ended.new }
 {
-    let Some((client, number)) = pending_call(pending.as_slice(), turn) else {
+    let Some((client, number)) = pending_call(pending, turn) else {
         return;
     };
     end_call(pending, ended, client, number, reply);

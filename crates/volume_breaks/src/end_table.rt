@@ -1,14 +1,14 @@
 //! How calls ended, in order, found by their clients and numbers.
 
-ghost use Rattle.std.specs.Prelude.{List, ℕ, ◌≡◌, ◌≤◌, ◌+◌, ◌++◌, ◌∷◌, [], find, length, option_and_then, set, slice_get, Some, IfOk, OnOk, if◌then◌else◌};
+ghost use Rattle.std.specs.Prelude.{List, ℕ, ◌≡◌, ◌≤◌, ◌+◌, ◌++◌, ◌∷◌, [], find, length, option_and_then, slice_get, Some, IfOk, OnOk, if◌then◌else◌};
 ghost use Rattle.std.specs.Option.{option_copied};
 ghost use Rattle.fsa_types.specs.declared.reply.EndOf.{EndOf};
 ghost use Rattle.fsa_model.specs.Once.{is_end};
-ghost use Rattle.pending_queue.specs.Waits.{end_of, slot};
 ghost use Rattle.volume_breaks.specs.Ends.{AreFound};
 
 use fsa_types::{EndOf, NoMemory};
 use object_tables::Series;
+use pending_queue::{end_of, set_head, slot_of};
 use std::alloc::Global;
 use std::marker::Model;
 
@@ -153,36 +153,6 @@ fn link(heads: &mut Vec<usize>, links: &mut Series<usize>, number: u32)
     let end = end_of(heads, own, links.len());
     links.push(end);
     set_head(heads, own, links.len());
-}
-
-// The slot of a number among so many.
-fn slot_of(many: usize, number: u64) -> usize
-    ensures { result ≡ slot many number }
-{
-    if many == 0 {
-        0
-    } else {
-        (number % many as u64) as usize
-    }
-}
-
-// Where those of a slot end, or all where it has no head.
-fn end_of(heads: &[usize], own: usize, many: usize) -> usize
-    ensures { result ≡ end_of heads.now own many }
-{
-    match heads.get(own) {
-        None => many,
-        Some(head) => *head,
-    }
-}
-
-// Those of this slot end here, where it has a head.
-fn set_head(heads: &mut Vec<usize>, own: usize, end: usize)
-    ensures { heads.new.items ≡ set heads.old.items own end }
-{
-    if own < heads.len() {
-        heads[own] = end;
-    }
 }
 
 // Whether this is the end of the client's call of this number.

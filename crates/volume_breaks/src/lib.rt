@@ -18,7 +18,8 @@
 //!
 //! The parts: which oplocks a break breaks, and in what order (`choosing`, over a `Tree` of a volume's
 //! tables), or of one stream by their handles alone (`marking`); what it does to each, and whom it tells
-//! (`telling`), and the calls that end with that (`breaking`); for which breaks the request waits (`awaiting`);
+//! (`telling`), and the calls that end with that (`breaking`); for which breaks the request waits (`awaiting`); where
+//! the oplock of a handle stands (`finding`);
 //! when no oplock is granted, and what a grant ends (`granting`); the list of the oplocks, with what a break or a
 //! grant puts by and with the room that was promised to each stream or directory, under a key that its caller
 //! gives it, its *home* (`Oplocks`); the pending calls with the queue of those that are held
@@ -31,9 +32,11 @@
 //! - None of these takes memory but `reserve`: there is always room for copies of all oplocks, for the numbers
 //!   of as many breaks, and for what as many holders are told. Room for the ends of the calls that are told has
 //!   to be there, and for a grant room for one oplock of its home; that of other homes stays.
-//! - A break goes over all oplocks, with a look at the handles for each, takes time square in the number
-//!   of those that it breaks, with a few looks at handles, links and streams for each pair, and goes over
-//!   the pending calls for each one that it tells.
+//! - A break goes over all oplocks, with a look at the handles for each, and finds the pending call of each one that it
+//!   tells by its turn. Each one that it breaks is put in its place among those that come before it, with a few looks
+//!   at handles, links and streams for each of these and for one more: for that one alone where oplocks were granted in
+//!   the order in which they are broken. It is found again by halves as long as oplocks were granted in the order in
+//!   which their handles were opened, else by a look at each; and all are looked at where one ends.
 //! - The next pending call, and the call of a turn, are found by halves as long as calls came in the order of
 //!   their turns; once one didn't, or where no call has the turn, by a look at each. As long as they did, a call of a
 //!   client, and the first one that names a handle, are found by an index, without a look at the others.
@@ -46,6 +49,7 @@ mod breaking;
 mod call_index;
 mod choosing;
 mod end_table;
+mod finding;
 mod granting;
 mod marking;
 mod oplock_list;

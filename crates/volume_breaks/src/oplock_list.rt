@@ -1,6 +1,6 @@
 //! The oplocks of a volume, with room for what a break of them sets aside.
 
-ghost use Rattle.std.specs.Prelude.{ℕ, ◌≡◌, ◌≤◌, ◌<◌, ◌+◌, ◌++◌, ◌∷◌, ◌^◌, ◌==◌, ◌-◌, not, true, false, All, [], length, map, filter, OnOk, max, slice_index_or};
+ghost use Rattle.std.specs.Prelude.{ℕ, ◌≡◌, ◌≤◌, ◌<◌, ◌+◌, ◌++◌, ◌∷◌, ◌^◌, ◌==◌, ◌-◌, not, true, false, All, AllPairs, [], length, map, filter, OnOk, max, slice_index_or};
 ghost use Rattle.fsa_types.specs.Sorting.{in_order};
 ghost use Rattle.fsa_types.specs.OplockGrants.{after_answer, as_answered, as_granted, is_of_key, switched_among};
 ghost use Rattle.fsa_types.specs.OplockLists.{awaited_among, begun, lowered, without_oplock_of, CanBegin, CanGoOn, IsCopy, IsSoundOplock};
@@ -14,7 +14,8 @@ ghost use Rattle.std.specs.Vec.{vec_capacity};
 
 use crate::awaiting::await_breaks;
 use crate::choosing::{Tree, choose, choose_on};
-use crate::marking::{choose_marked, choose_of_key, is_of_key};
+use crate::finding::place_of;
+use crate::marking::{choose_alone, choose_marked, choose_of_key, is_of_key};
 use crate::telling::Told;
 use fsa_types::{Class, HandleSet, Level, NoMemory};
 use std::alloc::Global;
@@ -168,6 +169,16 @@ impl Oplocks {
         ensures copies { All (IsCopy self.old.rows) self.new.chosen }
     {
         choose_marked(marked, acting, key, &self.rows, &mut self.chosen);
+    }
+
+    /// Sets aside a copy of the oplock of this handle alone, or nothing where it has none.
+    pub fn choose_alone(&mut self, handle: u64)
+        ensures chosen { self.new ≡ record self.old { chosen = filter (λ oplock. oplock.handle == handle) self.old.rows } }
+        ensures one { length self.new.chosen ≤ 1 }
+        ensures sound { All IsSoundOplock self.new.chosen }
+        ensures copies { All (IsCopy self.old.rows) self.new.chosen }
+    {
+        choose_alone(handle, &self.rows, &mut self.chosen);
     }
 
     /// Sets aside copies of those of this handle, or of one with its key, in order.
@@ -377,10 +388,11 @@ fn with_break_begun(oplock: OplockRow, handle: u64, level: Level, number: u64) -
 
 // A break of this number to this level begins of the oplock of this handle.
 fn begin_break(rows: &mut [OplockRow], handle: u64, level: Level, number: u64)
+    requires differ { AllPairs (λ a b. (a.handle == b.handle) ≡ false) rows.old }
     ensures { rows.new ≡ map (begun handle level number) rows.old }
 {
-    for row in rows.iter_mut() {
-        *row = with_break_begun(*row, handle, level, number);
+    if let Some(place) = place_of(rows, handle) {
+        rows[place] = with_break_begun(rows[place], handle, level, number);
     }
 }
 
@@ -404,10 +416,11 @@ fn with_target(oplock: OplockRow, handle: u64, level: Level) -> OplockRow
 
 // The break in progress on this handle goes on to this level.
 fn lower(rows: &mut [OplockRow], handle: u64, level: Level)
+    requires differ { AllPairs (λ a b. (a.handle == b.handle) ≡ false) rows.old }
     ensures { rows.new ≡ map (lowered handle level) rows.old }
 {
-    for row in rows.iter_mut() {
-        *row = with_target(*row, handle, level);
+    if let Some(place) = place_of(rows, handle) {
+        rows[place] = with_target(rows[place], handle, level);
     }
 }
 

@@ -118,7 +118,7 @@ impl LinksByFile {
     pub fn number_of(&self, file: u64) -> Option<u64>
         ensures { result ≡ option_map (λ entry. entry.0) (link_of_file self.now.rows file) }
     {
-        first_number(self.files.of(file))
+        self.files.first(file)
     }
 
     /// The first link of this file; `None` exactly where there is none.
@@ -197,16 +197,6 @@ fn remove(links: &mut Table<LinkRow>, files: &mut KeyIndex, id: u64) -> Option<L
             files.remove(row.file, id);
             Some(row)
         }
-    }
-}
-
-// The number of the first entry.
-fn first_number(entries: &[(u64, u64)]) -> Option<u64>
-    ensures { result ≡ option_map (λ entry. entry.1) (slice_get entries.now 0) }
-{
-    match entries.get(0) {
-        None => None,
-        Some(entry) => Some(entry.1),
     }
 }
 

@@ -75,7 +75,7 @@ pub fn is_oplock_of(oplock: &OplockRow, handle: u64) -> bool
     oplock.handle == handle
 }
 
-/// The number of the break in progress on this handle; 0 where there is none.
+/// The number of the break in progress on this handle, 0 where there is none; `None` exactly where it has no oplock.
 pub fn find_break(oplocks: &[OplockRow], handle: u64) -> Option<u64>
     ensures { result ≡ option_map (λ oplock. oplock.number) (find (λ oplock. oplock.handle == handle) oplocks.now) }
 {

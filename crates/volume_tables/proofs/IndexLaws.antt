@@ -6,7 +6,6 @@ use Rattle.std.specs.Option.{option_map_or}
 use Rattle.std.proofs.lemmas.Bool.{cases_Bool, and_parts, false≢true}
 use Rattle.fsa_types.specs.Oplocks.{is_same_key}
 use Rattle.fsa_types.specs.Rows.{IsNumbered, with_row_changed}
-use Rattle.fsa_types.specs.Sharing.{clash}
 use Rattle.fsa_model.specs.Lookups.{is_one_of, is_open_on, number_of}
 use Rattle.fsa_model.specs.Volume.{Handle, Link}
 use Rattle.fsa_model.proofs.RowLaws.{change_at, change_at-same}
@@ -90,13 +89,6 @@ other-only stream handle key entry is = stream-at stream entry.1.stream (and_par
 
 pub link-only : (links : List (ℕ × Link)) (link : ℕ) (row : Handle) → is_one_of links (set.Link link) row ≡ true → (link_key row == link) ≡ true
 link-only links link row is = is
-
--- and what passes besides
-pub stream-clashing : (links : List (ℕ × Link)) (stream access share : ℕ) (row : Handle) → (is_one_of links (set.Stream stream) row && clash access share row.access row.share) ≡ true → (stream_key row == stream) ≡ true
-stream-clashing links stream access share row is = stream-only links stream row (and_parts (is_one_of links (set.Stream stream) row) (clash access share row.access row.share) is).0
-
-pub link-clashing : (links : List (ℕ × Link)) (link access share : ℕ) (row : Handle) → (is_one_of links (set.Link link) row && clash access share row.access row.share) ≡ true → (link_key row == link) ≡ true
-link-clashing links link access share row is = link-only links link row (and_parts (is_one_of links (set.Link link) row) (clash access share row.access row.share) is).0
 
 -- a row changes but for its keys
 fit-changed : (change : Handle → Handle) (rows : List (ℕ × Handle)) (id : ℕ) → ((row : Handle) → (change row).client ≡ row.client) → ((row : Handle) → (change row).number ≡ row.number)

@@ -21,27 +21,35 @@ use Rattle.fsa_model.specs.Volume.{Link}
 use Rattle.fsa_model.proofs.RowLaws.{AllPairs-map, change_at, change_at-number, change_at-same, eqb-swap, none-all, number_of-none, row_of-all}
 use Rattle.link_index.specs.Keyed.{AreInKeyOrder, IsKeyPlace, KeysDiffer, cmp_keys, is_key_before}
 use Rattle.link_index.proofs.KeyLaws.{All-in_order, in_order-added, in_order-ordered, in_order-removed, put-both, with-here, without-here}
+use Rattle.volume_tables.specs.Heads.{AreHeads, head_of, link_head}
 use Rattle.volume_tables.specs.Names.{IsByName, link_key, links_at, place_key}
 use Rattle.volume_tables.proofs.NameLemmas.{Links, at-found, child-none, found-each, keys-differ, links-listed, named-key, numbers-at}
 
-map-insert : (xs : Links) (i : ℕ) (x : ℕ × Link) → insert (map (λ (e : ℕ × Link). e.0) xs) i x.0 ≡ map (λ (e : ℕ × Link). e.0) (insert xs i x)
-map-insert [] zero x = refl
-map-insert [] (suc i) x = refl
-map-insert (y ∷ xs) zero x = refl
-map-insert (y ∷ xs) (suc i) x = ap (λ (rest : List ℕ). y.0 ∷ rest) (map-insert xs i x)
+module _ (f : ℕ × Link → ℕ) where
+  map-insert : (xs : Links) (i : ℕ) (x : ℕ × Link) → insert (map f xs) i (f x) ≡ map f (insert xs i x)
+  map-insert [] zero x = refl
+  map-insert [] (suc i) x = refl
+  map-insert (y ∷ xs) zero x = refl
+  map-insert (y ∷ xs) (suc i) x = ap (λ (rest : List ℕ). f y ∷ rest) (map-insert xs i x)
 
-map-remove : (xs : Links) (i : ℕ) → remove (map (λ (e : ℕ × Link). e.0) xs) i ≡ map (λ (e : ℕ × Link). e.0) (remove xs i)
-map-remove [] zero = refl
-map-remove [] (suc i) = refl
-map-remove (y ∷ xs) zero = refl
-map-remove (y ∷ xs) (suc i) = ap (λ (rest : List ℕ). y.0 ∷ rest) (map-remove xs i)
+  map-remove : (xs : Links) (i : ℕ) → remove (map f xs) i ≡ map f (remove xs i)
+  map-remove [] zero = refl
+  map-remove [] (suc i) = refl
+  map-remove (y ∷ xs) zero = refl
+  map-remove (y ∷ xs) (suc i) = ap (λ (rest : List ℕ). f y ∷ rest) (map-remove xs i)
 
 -- the number of a new name, put in its place
 pub put-numbers : (table : List (ℕ × ℕ)) (rows : Links) (numbers : List ℕ) (id : ℕ) (link : Link) (i : ℕ) → IsKeyPlace (link_key table) (links_at rows numbers) (place_key table link.parent link.name) (Err i)
     → insert numbers i id ≡ map (λ (e : ℕ × Link). e.0) (put_in_order (is_key_before (link_key table)) (id, link) (links_at rows numbers))
 put-numbers table rows numbers id link i place =
-    ap (λ (n : List ℕ). insert n i id) (sym (numbers-at rows numbers)) ∙ map-insert (links_at rows numbers) i (id, link)
+    ap (λ (n : List ℕ). insert n i id) (sym (numbers-at rows numbers)) ∙ map-insert (λ (e : ℕ × Link). e.0) (links_at rows numbers) i (id, link)
     ∙ ap (map (λ (e : ℕ × Link). e.0)) (with-here (link_key table) (links_at rows numbers) (id, link) i place)
+
+-- and its head
+pub put-heads : (table : List (ℕ × ℕ)) (items : Links) (heads : List ℕ) (x : ℕ × Link) (i : ℕ) → heads ≡ map (link_head table) items → IsKeyPlace (link_key table) items (link_key table x) (Err i)
+    → insert heads i (link_head table x) ≡ map (link_head table) (put_in_order (is_key_before (link_key table)) x items)
+put-heads table items heads x i are place =
+    ap (λ (h : List ℕ). insert h i (link_head table x)) are ∙ map-insert (link_head table) items i x ∙ ap (map (link_head table)) (with-here (link_key table) items x i place)
 
 eq-back : (a b : List ℕ) → is_eq (cmp_keys b a) ≡ is_eq (cmp_keys a b)
 eq-back a b = ap is_eq (nat_list_cmp_total.antisymm b a) ∙ same (cmp_keys a b)
@@ -57,13 +65,23 @@ module _ (table : List (ℕ × ℕ)) (rows : Links) (last : ℕ) (numbers : List
   listed-new parent name fresh = rw (links-listed table rows last numbers numbered by_name)
       (All-in_order (link_key table) (λ (e : ℕ × Link). is_named table parent name e.1 ≡ false) rows (number_of-none (is_named table parent name) rows fresh))
 
+  listed-added : (id : ℕ) (link : Link) → option_map (λ (e : ℕ × Link). e.0) (find (λ e. is_named table link.parent link.name e.1) rows) ≡ None
+      → put_in_order (is_key_before (link_key table)) (id, link) (links_at rows numbers) ≡ in_order (is_key_before (link_key table)) (rows ++ (id, link) ∷ [])
+  listed-added id link fresh =
+      let none = number_of-none (is_named table link.parent link.name) rows fresh in
+      ap (λ (l : Links). put_in_order (is_key_before (link_key table)) (id, link) l) (links-listed table rows last numbers numbered by_name)
+      ∙ sym (in_order-added (link_key table) rows (id, link) (λ k d within. sym (named-key table link.parent link.name (get_or rows k d).1) ∙ none k d within))
+
+  pub AreHeads-added : (id : ℕ) (link : Link) (new : List ℕ) → option_map (λ (e : ℕ × Link). e.0) (find (λ e. is_named table link.parent link.name e.1) rows) ≡ None
+      → new ≡ map (link_head table) (put_in_order (is_key_before (link_key table)) (id, link) (links_at rows numbers)) → AreHeads table (rows ++ (id, link) ∷ []) new
+  AreHeads-added id link new fresh put = put ∙ ap (map (link_head table)) (listed-added id link fresh)
+
   pub ByName-added : (id : ℕ) (link : Link) (new : List ℕ) → option_map (λ (e : ℕ × Link). e.0) (find (λ e. is_named table link.parent link.name e.1) rows) ≡ None
       → new ≡ map (λ (e : ℕ × Link). e.0) (put_in_order (is_key_before (link_key table)) (id, link) (links_at rows numbers)) → IsByName table (rows ++ (id, link) ∷ []) new
   ByName-added id link new fresh put =
       let none = number_of-none (is_named table link.parent link.name) rows fresh in
       record {
-        listed = put ∙ ap (λ (l : Links). map (λ (e : ℕ × Link). e.0) (put_in_order (is_key_before (link_key table)) (id, link) l)) (links-listed table rows last numbers numbered by_name)
-            ∙ ap (map (λ (e : ℕ × Link). e.0)) (sym (in_order-added (link_key table) rows (id, link) (λ k d within. sym (named-key table link.parent link.name (get_or rows k d).1) ∙ none k d within)));
+        listed = put ∙ ap (map (λ (e : ℕ × Link). e.0)) (listed-added id link fresh);
         differ = all_pairs_push (λ a b. is_named table b.1.parent b.1.name a.1 ≡ false) rows (id, link) by_name.differ none;
       }
 
@@ -107,16 +125,26 @@ module _ (table : List (ℕ × ℕ)) (id : ℕ) (row : Link) where
           ]
 
 module _ (table : List (ℕ × ℕ)) (rows : Links) (last : ℕ) (numbers : List ℕ) (numbered : IsNumbered rows last) (by_name : IsByName table rows numbers) (id : ℕ) (row : Link) (found : row_of rows id ≡ Some row) where
+  links-without : (i : ℕ) → IsKeyPlace (link_key table) (links_at rows numbers) (place_key table row.parent row.name) (Ok i)
+      → remove (links_at rows numbers) i ≡ in_order (is_key_before (link_key table)) (without_row rows id)
+  links-without i place =
+      let keep : ℕ × Link → Bool = λ e. not (is_eq (cmp_keys (link_key table e) (place_key table row.parent row.name))) in
+      let only = named-only table id row rows numbered.rising (keys-differ table rows by_name.differ) found in
+      without-here (link_key table) (links_at rows numbers) (place_key table row.parent row.name) i place
+      ∙ ap (filter keep) (links-listed table rows last numbers numbered by_name)
+      ∙ sym (in_order-removed (link_key table) keep rows (keys-differ table rows by_name.differ))
+      ∙ ap (in_order (is_key_before (link_key table))) (filter-where keep (λ e. not (e.0 == id)) rows (λ k d within. ap not (only k d within)))
+
   pub numbers-without : (i : ℕ) → IsKeyPlace (link_key table) (links_at rows numbers) (place_key table row.parent row.name) (Ok i)
       → remove numbers i ≡ map (λ (e : ℕ × Link). e.0) (in_order (is_key_before (link_key table)) (without_row rows id))
   numbers-without i place =
-      let keep : ℕ × Link → Bool = λ e. not (is_eq (cmp_keys (link_key table e) (place_key table row.parent row.name))) in
-      let only = named-only table id row rows numbered.rising (keys-differ table rows by_name.differ) found in
-      ap (λ (n : List ℕ). remove n i) (sym (numbers-at rows numbers)) ∙ map-remove (links_at rows numbers) i
-      ∙ ap (map (λ (e : ℕ × Link). e.0)) (without-here (link_key table) (links_at rows numbers) (place_key table row.parent row.name) i place
-      ∙ ap (filter keep) (links-listed table rows last numbers numbered by_name)
-      ∙ sym (in_order-removed (link_key table) keep rows (keys-differ table rows by_name.differ))
-      ∙ ap (in_order (is_key_before (link_key table))) (filter-where keep (λ e. not (e.0 == id)) rows (λ k d within. ap not (only k d within))))
+      ap (λ (n : List ℕ). remove n i) (sym (numbers-at rows numbers)) ∙ map-remove (λ (e : ℕ × Link). e.0) (links_at rows numbers) i ∙ ap (map (λ (e : ℕ × Link). e.0)) (links-without i place)
+
+  pub heads-without : (heads : List ℕ) (i : ℕ) → AreHeads table rows heads → IsKeyPlace (link_key table) (links_at rows numbers) (place_key table row.parent row.name) (Ok i)
+      → remove heads i ≡ map (link_head table) (in_order (is_key_before (link_key table)) (without_row rows id))
+  heads-without heads i are place =
+      ap (λ (h : List ℕ). remove h i) (are ∙ ap (map (link_head table)) (sym (links-listed table rows last numbers numbered by_name)))
+      ∙ map-remove (link_head table) (links_at rows numbers) i ∙ ap (map (link_head table)) (links-without i place)
 
   -- it has a place
   pub row-placed : (i : ℕ) → IsKeyPlace (link_key table) (links_at rows numbers) (place_key table row.parent row.name) (Err i) → ⊥
@@ -158,6 +186,13 @@ module _ (table : List (ℕ × ℕ)) (change : Link → Link) (id : ℕ) (parent
   numbers-at_change : (xs : Links) → map (λ (e : ℕ × Link). e.0) (map (change_at change id) xs) ≡ map (λ (e : ℕ × Link). e.0) xs
   numbers-at_change [] = refl
   numbers-at_change (x ∷ xs) = (λ i. change_at-number change id x i ∷ numbers-at_change xs i)
+
+  heads-at_change : (xs : Links) → map (link_head table) (map (change_at change id) xs) ≡ map (link_head table) xs
+  heads-at_change [] = refl
+  heads-at_change (x ∷ xs) = (λ i. head_of table (change_at-same change id (λ link. link.parent) parent_kept x i) (change_at-same change id (λ link. link.name) name_kept x i) ∷ heads-at_change xs i)
+
+  pub AreHeads-marked : (rows : Links) (heads : List ℕ) → AreHeads table rows heads → AreHeads table (with_row_changed change rows id) heads
+  AreHeads-marked rows heads are = are ∙ sym (heads-at_change (in_order (is_key_before (link_key table)) rows)) ∙ ap (map (link_head table)) (sym (in_order-at rows))
 
   pub ByName-marked : (rows : Links) (numbers : List ℕ) → IsByName table rows numbers → IsByName table (with_row_changed change rows id) numbers
   ByName-marked rows numbers by_name = record {
@@ -233,6 +268,9 @@ module _ (table : List (ℕ × ℕ)) (rows : Links) (last : ℕ) (numbers : List
     pub taken-ordered : AreInKeyOrder (link_key table) (links_at rows taken)
     taken-ordered = rw links-taken (in_order-ordered (link_key table) (without_row rows id) (keys-differ table (without_row rows id) (differ-without table rows id by_name.differ)))
 
+    pub taken-heads : (heads : List ℕ) → heads ≡ map (link_head table) (in_order (is_key_before (link_key table)) (without_row rows id)) → heads ≡ map (link_head table) (links_at rows taken)
+    taken-heads heads are = are ∙ ap (map (link_head table)) (sym links-taken)
+
     pub taken-new : All (λ (e : ℕ × Link). is_named table parent name e.1 ≡ false) (links_at rows taken)
     taken-new = rw links-taken (All-in_order (link_key table) (λ (e : ℕ × Link). is_named table parent name e.1 ≡ false) (without_row rows id) (others rows not_taken))
       where
@@ -243,13 +281,19 @@ module _ (table : List (ℕ × ℕ)) (rows : Links) (last : ℕ) (numbers : List
           | inr other ↦ rw other (All-cons (λ (e : ℕ × Link). is_named table parent name e.1 ≡ false) x (without_row xs id) (rw other at (all 0 x (omega arith))) (others xs (λ k d within. all (suc k) d (omega arith))))
         ]
 
-    pub ByName-moved : (row : Link) (new : List ℕ) → row_of rows id ≡ Some row
+    listed-moved : (row : Link) → row_of rows id ≡ Some row
+        → put_in_order (is_key_before (link_key table)) (id, record row { parent = parent; name = name }) (links_at rows taken)
+        ≡ in_order (is_key_before (link_key table)) (with_row_changed (λ row. record row { parent = parent; name = name }) rows id)
+    listed-moved row found =
+        ap (λ (l : Links). put_in_order (is_key_before (link_key table)) (id, record row { parent = parent; name = name }) l) links-taken
+        ∙ sym (changed-in_order table id parent name row rows numbered.rising found
+        (λ k d within other. sym (named-key table parent name (get_or rows k d).1) ∙ other-named k d within other))
+
+    ByName-moved : (row : Link) (new : List ℕ) → row_of rows id ≡ Some row
         → new ≡ map (λ (e : ℕ × Link). e.0) (put_in_order (is_key_before (link_key table)) (id, record { parent = parent; name = name; file = row.file; deleted = row.deleted }) (links_at rows taken))
         → IsByName table (with_row_changed (λ row. record row { parent = parent; name = name }) rows id) new
     ByName-moved row new found put = record {
-      listed = put ∙ ap (λ (l : Links). map (λ (e : ℕ × Link). e.0) (put_in_order (is_key_before (link_key table)) (id, record row { parent = parent; name = name }) l)) links-taken
-          ∙ ap (map (λ (e : ℕ × Link). e.0)) (sym (changed-in_order table id parent name row rows numbered.rising found
-          (λ k d within other. sym (named-key table parent name (get_or rows k d).1) ∙ other-named k d within other)));
+      listed = put ∙ ap (map (λ (e : ℕ × Link). e.0)) (listed-moved row found);
       differ = differ-moved;
     }
 
@@ -263,6 +307,22 @@ module _ (table : List (ℕ × ℕ)) (rows : Links) (last : ℕ) (numbers : List
         go None is none = absurd (false≢true none)
         go (Some row) is some = ByName-moved row new is (put row.file row.deleted)
 
+    pub AreHeads-moved_living : (new : List ℕ) → is_some (row_of rows id) ≡ true
+        → ((file : ℕ) (deleted : Bool) → new ≡ map (link_head table) (put_in_order (is_key_before (link_key table)) (id, record { parent = parent; name = name; file = file; deleted = deleted }) (links_at rows taken)))
+        → AreHeads table (with_row_changed (λ row. record row { parent = parent; name = name }) rows id) new
+    AreHeads-moved_living new living put = go (row_of rows id) refl living
+      where
+        go : (o : Option Link) → row_of rows id ≡ o → is_some o ≡ true → AreHeads table (with_row_changed (λ row. record row { parent = parent; name = name }) rows id) new
+        go None is none = absurd (false≢true none)
+        go (Some row) is some = put row.file row.deleted ∙ ap (map (link_head table)) (listed-moved row is)
+
+-- the heads of all links are those of the links that the numbers tell
+pub heads-listed : (table : List (ℕ × ℕ)) (rows : Links) (last : ℕ) (numbers heads : List ℕ) → IsNumbered rows last → IsByName table rows numbers → AreHeads table rows heads → heads ≡ map (link_head table) (links_at rows numbers)
+heads-listed table rows last numbers heads numbered by_name are = are ∙ ap (map (link_head table)) (sym (links-listed table rows last numbers numbered by_name))
+
 -- no links
 pub ByName-empty : (table : List (ℕ × ℕ)) (rows : Links) (numbers : List ℕ) → rows ≡ [] → numbers ≡ [] → IsByName table rows numbers
 ByName-empty table rows numbers none empty = rw (none, empty) (record { listed = refl; differ = λ j k d below within. absurd (omega arith) })
+
+pub AreHeads-empty : (table : List (ℕ × ℕ)) (rows : Links) (heads : List ℕ) → rows ≡ [] → heads ≡ [] → AreHeads table rows heads
+AreHeads-empty table rows heads none empty = rw (none, empty) refl

@@ -1,11 +1,14 @@
 pub mod Beginnings
 pub mod CallKey
 pub mod HandleIndex
+pub mod HandleShares
 pub mod HandleTable
+pub mod Heads
 pub mod LinkTable
 pub mod Names
 pub mod Ranges
 pub mod Rooms
+pub mod ShareTable
 pub mod Space
 pub mod StreamOrder
 pub mod StreamTable

@@ -10,9 +10,10 @@ use Rattle.fsa_model.specs.Volume.{Link}
 use Rattle.link_index.specs.Keyed.{is_key_before}
 use Rattle.volume_rows.specs.Children.{is_child_after}
 
--- numbers of links, and how many more can be put in without taking memory
+-- numbers of links, the heads of what they are ordered by, and how many more can be put in without taking memory
 pub record Numbers : Type 0 where
   pub numbers : List ℕ
+  pub heads : List ℕ
   pub room : ℕ
 
 -- what a name in a directory is ordered by: the directory, and then the upcased units

@@ -1,6 +1,6 @@
 //! What is asked of handles: of those that an index names, or of all.
 
-ghost use Rattle.std.specs.Prelude.{◌≡◌, ◌==◌, ◌&&◌, Some, false, filter, find, if◌then◌else◌, length, not, option_map};
+ghost use Rattle.std.specs.Prelude.{◌≡◌, ◌==◌, ◌&&◌, Some, false, filter, find, if◌then◌else◌, length, not, option_map, slice_get};
 ghost use Rattle.std.specs.List.{list_any};
 ghost use Rattle.std.specs.Option.{option_map_or};
 ghost use Rattle.fsa_types.specs.Oplocks.{is_same_key};
@@ -23,11 +23,21 @@ fn is_one_at(table: &Table<HandleRow>, id: u64, links: &LinksByFile, on: HandleS
     }
 }
 
-// 1 where the handle of this number is there and of the set, and else 0.
-fn one_at(table: &Table<HandleRow>, id: u64, links: &LinksByFile, on: HandleSet) -> usize
-    ensures { result ≡ if option_map_or (λ row. is_one_of links.now.rows on row) (row_of table.now.rows id) false then 1 else 0 }
+// Whether there is a handle at this place, and it is of the set.
+fn is_one_in(table: &Table<HandleRow>, place: usize, links: &LinksByFile, on: HandleSet) -> bool
+    ensures { result ≡ option_map_or (λ entry. is_one_of links.now.rows on entry.1) (slice_get table.now.rows place) false }
 {
-    if is_one_at(table, id, links, on) {
+    match table.entry_at(place) {
+        None => false,
+        Some((_, row)) => is_one_of(links, on, row),
+    }
+}
+
+// 1 where there is a handle at this place and it is of the set, and else 0.
+fn one_in(table: &Table<HandleRow>, place: usize, links: &LinksByFile, on: HandleSet) -> usize
+    ensures { result ≡ if option_map_or (λ entry. is_one_of links.now.rows on entry.1) (slice_get table.now.rows place) false then 1 else 0 }
+{
+    if is_one_in(table, place, links, on) {
         1
     } else {
         0
@@ -53,46 +63,28 @@ pub fn count_among(
 pub fn count_all(table: &Table<HandleRow>, links: &LinksByFile, on: HandleSet) -> usize
     ensures { result ≡ length (filter (λ entry. is_one_of links.now.rows on entry.1) table.now.rows) }
 {
-    let _numbered = table.len();
-    // The table doesn't tell that all numbers are above 0.
-    let mut count = one_at(table, 0, links, on);
-    let mut after = 0;
-    'handles: while let Some(id) = table.next(after) {
-        count += one_at(table, id, links, on);
-        after = id;
+    let mut count = 0;
+    for place in 0..table.len() {
+        count += one_in(table, place, links, on);
     }
     count
 }
 
-// Whether the handle of this number is there, of the set, and clashes.
-fn clashes_at(
+// Whether there is a handle at this place, it is of the set, and clashes.
+fn clashes_in(
     table: &Table<HandleRow>,
-    id: u64,
+    place: usize,
     links: &LinksByFile,
     on: HandleSet,
     access: u32,
     share: u32,
 ) -> bool
-    ensures { result ≡ option_map_or (λ row. is_one_of links.now.rows on row && clash access share row.access row.share) (row_of table.now.rows id) false }
+    ensures { result ≡ option_map_or (λ entry. is_one_of links.now.rows on entry.1 && clash access share entry.1.access entry.1.share) (slice_get table.now.rows place) false }
 {
-    match table.get(id) {
+    match table.entry_at(place) {
         None => false,
-        Some(row) => is_clashing(links, on, access, share, row),
+        Some((_, row)) => is_clashing(links, on, access, share, row),
     }
-}
-
-/// Whether some of these handles is of the set and clashes.
-pub fn some_clash_among(
-    table: &Table<HandleRow>,
-    entries: &[(u64, u64)],
-    links: &LinksByFile,
-    on: HandleSet,
-    access: u32,
-    share: u32,
-) -> bool
-    ensures { result ≡ list_any (row_passes table.now.rows (λ entry. is_one_of links.now.rows on entry.1 && clash access share entry.1.access entry.1.share)) entries.now }
-{
-    entries.iter().any(|entry| clashes_at(table, entry.1, links, on, access, share))
 }
 
 /// Whether some handle is of the set and clashes. It looks at all of them.
@@ -105,17 +97,10 @@ pub fn some_clash(
 ) -> bool
     ensures { result ≡ has_row (λ handle. is_one_of links.now.rows on handle && clash access share handle.access handle.share) table.now.rows }
 {
-    let _numbered = table.len();
-    // The table doesn't tell that all numbers are above 0.
-    if clashes_at(table, 0, links, on, access, share) {
-        return true;
-    }
-    let mut after = 0;
-    'handles: while let Some(id) = table.next(after) {
-        if clashes_at(table, id, links, on, access, share) {
+    for place in 0..table.len() {
+        if clashes_in(table, place, links, on, access, share) {
             return true;
         }
-        after = id;
     }
     false
 }

@@ -12,12 +12,14 @@ ghost use Rattle.fsa_types.specs.Ranges.{without_first};
 ghost use Rattle.object_tables.specs.Next.{IsNext};
 ghost use Rattle.range_locks.specs.RangeTable.{first_id, is_of, is_range};
 ghost use Rattle.volume_tables.specs.HandleIndex.{AreIndexed};
+ghost use Rattle.volume_tables.specs.HandleShares.{AreShared};
 ghost use Rattle.volume_tables.specs.HandleTable.{next_of, stream_of_handle, ranges_on};
 ghost use Rattle.volume_tables.specs.Ranges.{ranges_in, room_at, AreSetIn};
 ghost use Rattle.volume_tables.specs.Rooms.{room_in};
 
-use crate::among::{count_all, count_among, some_clash, some_clash_among, some_other_among};
+use crate::among::{count_all, count_among, some_clash, some_other_among};
 use crate::handle_index::HandleIndex;
+use crate::handle_shares::HandleShares;
 use crate::lock_row::LockRow;
 use crate::ranges::StreamRanges;
 use crate::room_list::RoomList;
@@ -36,6 +38,8 @@ pub struct HandleTable {
     table: Table<HandleRow>,
     // The handles by the calls that opened them, by streams and by links; what was promised is its room.
     index: HandleIndex,
+    // What those on each stream and by each link do and share.
+    shares: HandleShares,
     locks: RowList<LockRow>,
     // The locks once more, stream by stream.
     ranges: StreamRanges,
@@ -46,13 +50,14 @@ pub struct HandleTable {
 impl Model for HandleTable {
     ghost use Rattle.std.specs.Prelude.{◌≤◌};
     ghost use Rattle.volume_tables.specs.HandleIndex.{AreIndexed};
+    ghost use Rattle.volume_tables.specs.HandleShares.{AreShared};
     ghost use Rattle.volume_tables.specs.HandleTable.{HandleRows, AreTabled, HaveRoom};
 
     ghost Value = { HandleRows };
 
     ghost view = { λ t. record { rows = t.table.rows; last = t.table.last; room = t.index.room; locks = t.locks.rows; last_lock = t.locks.last; rooms = t.rooms } };
 
-    ghost invariant = { λ t. AreTabled t.table.rows t.locks.rows t.ranges × HaveRoom t.rooms t.ranges t.locks.room × AreIndexed t.table.rows t.index × t.index.room ≤ t.table.room };
+    ghost invariant = { λ t. AreTabled t.table.rows t.locks.rows t.ranges × HaveRoom t.rooms t.ranges t.locks.room × AreIndexed t.table.rows t.index × t.index.room ≤ t.table.room × AreShared t.table.rows t.shares × t.index.room ≤ t.shares.room };
 }
 
 impl HandleTable {
@@ -67,6 +72,7 @@ impl HandleTable {
         HandleTable {
             table: Table::new(alloc),
             index: HandleIndex::new(alloc),
+            shares: HandleShares::new(alloc),
             locks: RowList::new(alloc),
             ranges: StreamRanges::new(alloc),
             rooms: RoomList::new(alloc),
@@ -80,6 +86,7 @@ impl HandleTable {
         ensures kept { self.old.room ≤ self.new.room }
     {
         self.table.reserve(more)?;
+        self.shares.reserve(more)?;
         self.index.reserve(more)
     }
 
@@ -128,8 +135,10 @@ impl HandleTable {
         ensures left { self.old.room ≤ self.new.room + 1 }
         ensures id { result ≡ self.old.last + 1 }
     {
+        let _numbered = self.table.len();
         let id = self.table.last() + 1;
         self.index.add(id, &row);
+        self.shares.hold(&row);
         let Ok(_) = self.table.add(row) else {
             unreachable!()
         };
@@ -168,20 +177,14 @@ impl HandleTable {
     }
 
     /// Whether some handle of the set clashes with these access and share masks. Of those on a stream or by a
-    /// link it looks at these alone.
+    /// link it looks at counts of what they do and share, found in time logarithmic in the streams or links that
+    /// have handles.
     pub fn some_clashes(&self, links: &LinksByFile, on: HandleSet, access: u32, share: u32) -> bool
         ensures { result ≡ has_row (λ handle. is_one_of links.now.rows on handle && clash access share handle.access handle.share) self.now.rows }
     {
-        let _numbered = self.table.len();
         match on {
-            HandleSet::Stream(stream) => {
-                let entries = self.index.on_stream(stream);
-                some_clash_among(&self.table, entries, links, on, access, share)
-            }
-            HandleSet::Link(link) => {
-                let entries = self.index.by_link(link);
-                some_clash_among(&self.table, entries, links, on, access, share)
-            }
+            HandleSet::Stream(stream) => self.shares.clashes_on(stream, access, share),
+            HandleSet::Link(link) => self.shares.clashes_by(link, access, share),
             HandleSet::Below(_) => some_clash(&self.table, links, on, access, share),
         }
     }
@@ -217,7 +220,7 @@ impl HandleTable {
         let stream = stream_of(&self.table, id);
         let some = remove_ranges_of(&mut self.ranges, stream, id);
         remove_locks_of(&mut self.locks, some, id);
-        remove_row(&mut self.table, &mut self.index, id);
+        remove_row(&mut self.table, &mut self.index, &mut self.shares, id);
     }
 
     /// The byte-range locks on a stream, in the order in which they were granted. The numbers of all
@@ -226,7 +229,7 @@ impl HandleTable {
         ensures ranges { result.now.ranges ≡ ranges_on self.now.rows self.now.locks stream }
         ensures numbered { IsNumbered self.now.locks self.now.last_lock }
     {
-        let _numbered = self.locks.len();
+        let _numbered = self.locks.as_slice();
         self.ranges.of(stream)
     }
 
@@ -321,17 +324,26 @@ fn has_no_range(table: &Table<HandleRow>, ranges: &StreamRanges, handle: u64) ->
     }
 }
 
-// Takes a handle out of the table and of the index.
-fn remove_row(table: &mut Table<HandleRow>, index: &mut HandleIndex, id: u64)
+// Takes a handle out of the table, of the index and of the counts.
+fn remove_row(
+    table: &mut Table<HandleRow>,
+    index: &mut HandleIndex,
+    shares: &mut HandleShares,
+    id: u64,
+)
+    requires shared { AreShared table.old.rows shares.old }
     ensures rows { table.new.rows ≡ without_row table.old.rows id }
     ensures last { table.new.last ≡ table.old.last }
     ensures room { table.old.room ≤ table.new.room }
     ensures indexed { AreIndexed table.old.rows index.old → AreIndexed table.new.rows index.new }
     ensures promised { index.new.room ≡ index.old.room }
+    ensures shared { AreShared table.new.rows shares.new }
+    ensures kept { shares.old.room ≤ shares.new.room }
 {
     let _numbered = table.len();
     if let Some(row) = table.remove(id) {
         index.remove(id, &row);
+        shares.release(&row);
     }
 }
 

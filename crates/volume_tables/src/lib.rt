@@ -12,7 +12,7 @@
 //! handles.locks_of(stream);               // the ranges of one stream, in the order in which they were granted
 //! handles.opened_by(client, number);      // by binary search
 //! handles.next_of(client, after);         // by binary search too
-//! handles.some_clashes(links, on, access, share);     // at those alone on a stream, or by a link
+//! handles.some_clashes(links, on, access, share);     // by counts for the stream, or for the link
 //! handles.remove(handle);                 // with its locks
 //!
 //! streams.reserve(1)?;
@@ -35,36 +35,43 @@
 //!
 //! The locks stand once in one list, in the order in which they were granted, and once more in a table
 //! of ranges for each stream. That both hold the same is the table's invariant, and so is that the indexes of
-//! handles, by calls, streams and links, have all of them.
+//! handles, by calls, streams and links, have all of them, and that the counts of a stream or a link are those of its
+//! handles.
 //!
 //! `NameIndex` has the numbers of all links in the order of their directories and names, beside the table that has
-//! the names; `LinkTable` keeps one.
+//! the names; `LinkTable` keeps one. It has the head of each too, the directory and the first units in one number,
+//! among which a name is searched: mostly one row is looked up, and none where no head is that of the name.
 //!
 //! - It asks that room was reserved and that numbers are left; `add_lock` asks that the handle has a
 //!   stream, and not whether the range conflicts with another. A tally asks that owners are admitted, that
 //!   what goes was charged for, and that sums fit 64 bits.
 //! - Removing takes no memory, and leaves what was promised as it was.
-//! - Each call takes time linear in the rows or locks that it goes over. The table of a stream's locks is found in
-//!   time logarithmic in the streams to which room for them was ever promised; where one comes, those of streams with
-//!   greater numbers are moved. The handle of a call, and a client's next handle, are found in time
-//!   logarithmic in the handles; to take one out moves only what the table and the indexes keep of those before it or
-//!   of those behind it, whichever are fewer, 16 bytes each. Handles below a directory cost a binary search for each
-//!   handle, beside the way up. A call of a tally takes time logarithmic in the owners, and linear where one is
-//!   admitted. What was promised is found in time logarithmic in the directories or streams that have
-//!   room; where one comes to have some or has none left, the others behind it are moved. A stream's table
-//!   stays once it has been made, and so does an owner.
+//! - Each call takes time linear in the rows or locks that it goes over. The table of a stream's locks is found in time
+//!   logarithmic in the streams to which room for them was ever promised; where one comes, those of streams with
+//!   greater numbers are moved. The handle of a call, and a client's next handle, are found in time logarithmic in the
+//!   handles; to take one out moves only what the table and the indexes keep of those before it or of those behind it,
+//!   whichever are fewer, 16 bytes each. Whether some handle on a stream or by a link clashes takes time logarithmic in
+//!   the streams or links that have handles; where the first handle of one comes or its last one goes, 16 bytes move of
+//!   each of those before it or of those behind it, whichever are fewer. Handles below a directory cost a look at each
+//!   handle of the table, and the way up from its link. A call of a tally takes time logarithmic in the owners, and
+//!   linear where one is admitted. What was promised is found in time logarithmic in the directories or streams that
+//!   have room; where one comes to have some or has none left, the others behind it are moved. A stream's table stays
+//!   once it has been made, and so does an owner.
 #![tactic(auto)]
 
 mod among;
 mod beginning;
 mod call_key;
 mod handle_index;
+mod handle_shares;
 mod handle_table;
+mod head;
 mod link_table;
 mod lock_row;
 mod name_index;
 mod ranges;
 mod room_list;
+mod share_table;
 mod space;
 mod stream_table;
 

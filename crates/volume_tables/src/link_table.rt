@@ -34,6 +34,7 @@ pub struct LinkTable {
 
 impl Model for LinkTable {
     ghost use Rattle.std.specs.Prelude.{◌≤◌};
+    ghost use Rattle.volume_tables.specs.Heads.{AreHeads};
     ghost use Rattle.volume_tables.specs.LinkTable.{LinkRows};
     ghost use Rattle.volume_tables.specs.Names.{IsByName};
     ghost use Rattle.volume_tables.specs.Rooms.{all_rooms};
@@ -42,7 +43,7 @@ impl Model for LinkTable {
 
     ghost view = { λ t. record { table = t.table; rows = t.links.rows; last = t.links.last; rooms = t.rooms } };
 
-    ghost invariant = { λ t. (all_rooms t.rooms ≤ t.links.room) × (all_rooms t.rooms ≤ t.names.room) × IsByName t.table t.links.rows t.names.numbers };
+    ghost invariant = { λ t. (all_rooms t.rooms ≤ t.links.room) × (all_rooms t.rooms ≤ t.names.room) × IsByName t.table t.links.rows t.names.numbers × AreHeads t.table t.links.rows t.names.heads };
 }
 
 impl LinkTable {

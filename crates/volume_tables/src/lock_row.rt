@@ -5,7 +5,7 @@ ghost use Rattle.std.specs.Prelude.{◌≡◌};
 use std::marker::Model;
 
 /// A byte-range lock, after [MS-FSA] 'Per ByteRangeLock'.
-#[derive(Debug, Drop)]
+#[derive(Clone, Copy, Debug)]
 pub struct LockRow {
     /// The handle that holds it.
     pub handle: u64,
@@ -23,4 +23,6 @@ impl Model for LockRow {
     ghost Value = { Lock };
 
     ghost view = { λ r. record { handle = r.handle; at = r.at; count = r.count; exclusive = r.exclusive } };
+
+    ghost inverse = { λ l. record { handle = l.handle; at = l.at; count = l.count; exclusive = l.exclusive } };
 }

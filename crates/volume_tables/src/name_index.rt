@@ -2,17 +2,20 @@
 
 ghost use Rattle.std.specs.Prelude.{ℕ, ◌≡◌, ◌≤◌, ◌+◌, ◌<◌, ◌==◌, ◌&&◌, not, ◌++◌, ◌∷◌, [], Bool, false, true, All, Err, OnOk, None, Some, filter, find, length, map, option_map, slice_get};
 ghost use Rattle.std.specs.List.{list_any, remove};
-ghost use Rattle.std.specs.List.Sorted.{IsNonDecreasingBy, IsPartitionPoint};
+ghost use Rattle.std.specs.List.Sorted.{IsBinarySearchResult, IsNonDecreasingBy, IsPartitionPoint, IsSearchInRange};
 ghost use Rattle.std.specs.Option.{option_copied, is_some};
+ghost use Rattle.std.specs.Ordering.{nat_cmp};
 ghost use Rattle.fsa_types.specs.Rows.{row_of, with_row_changed, without_row};
 ghost use Rattle.fsa_types.specs.Sorting.{in_order, put_in_order};
 ghost use Rattle.fsa_model.specs.Lookups.{is_named};
 ghost use Rattle.link_index.specs.Keyed.{AreInKeyOrder, IsKeyPlace, cmp_keys, is_key_before};
 ghost use Rattle.volume_rows.specs.Children.{links_after};
 ghost use Rattle.volume_tables.specs.Beginnings.{begins_with};
+ghost use Rattle.volume_tables.specs.Heads.{AreHeads, head_of, link_head};
 ghost use Rattle.volume_tables.specs.Names.{IsBegin, IsByName, link_at, link_key, links_at, place_key};
 
 use crate::beginning::beginning_with;
+use crate::head::head_of;
 use fsa_types::{NoMemory, UpcaseTable};
 use object_tables::Table;
 use std::alloc::Global;
@@ -21,39 +24,46 @@ use std::marker::Model;
 use volume_rows::LinkRow;
 
 /// The numbers of the links of a table, in the order of their directories and, in each of these, of their
-/// upcased names. The names stand in the table alone.
+/// upcased names. The names stand in the table alone; beside each number stands the head of what its link is ordered
+/// by, so that the search of a name looks at few of them.
 #[derive(Debug, Drop)]
 pub struct NameIndex {
     numbers: Vec<u64>,
+    // The directory and the first units of each, packed.
+    heads: Vec<u128>,
 }
 
 impl Model for NameIndex {
-    ghost use Rattle.std.specs.Prelude.{◌-◌};
+    ghost use Rattle.std.specs.Prelude.{◌-◌, min};
     ghost use Rattle.std.specs.Vec.{vec_capacity, vec_len};
     ghost use Rattle.volume_tables.specs.Names.{Numbers};
 
     ghost Value = { Numbers };
 
-    ghost view = { λ n. record { numbers = n.numbers.items; room = vec_capacity n.numbers - vec_len n.numbers } };
+    ghost view = { λ n. record { numbers = n.numbers.items; heads = n.heads.items; room = min (vec_capacity n.numbers - vec_len n.numbers) (vec_capacity n.heads - vec_len n.heads) } };
 }
 
 impl NameIndex {
     /// No numbers. It takes no memory.
     pub fn new(alloc: Global) -> NameIndex
-        ensures { result.numbers ≡ [] }
+        ensures numbers { result.numbers ≡ [] }
+        ensures heads { result.heads ≡ [] }
     {
         NameIndex {
             numbers: Vec::new(alloc),
+            heads: Vec::new(alloc),
         }
     }
 
     /// Takes room for `more` numbers beside those that are there. `NoMemory` where there is none.
     pub fn reserve(&mut self, more: usize) -> Result<(), NoMemory>
         ensures numbers { self.new.numbers ≡ self.old.numbers }
+        ensures heads { self.new.heads ≡ self.old.heads }
         ensures room { OnOk result (more ≤ self.new.room) }
         ensures kept { self.old.room ≤ self.new.room }
     {
         self.numbers.reserve(more)?;
+        self.heads.reserve(more)?;
         Ok(())
     }
 
@@ -65,10 +75,11 @@ impl NameIndex {
         parent: u64,
         units: &[u16],
     ) -> Option<u64>
-        requires { IsByName table.now links.now.rows self.now.numbers }
+        requires by_name { IsByName table.now links.now.rows self.now.numbers }
+        requires heads { AreHeads table.now links.now.rows self.now.heads }
         ensures { result ≡ option_map (λ entry. entry.0) (find (λ entry. is_named table.now parent units.now entry.1) links.now.rows) }
     {
-        find_child(&self.numbers, links, table, parent, units)
+        find_child(&self.heads, &self.numbers, links, table, parent, units)
     }
 
     /// The numbers of the links of a directory whose names are greater than that one, in the order of names; of all of
@@ -80,10 +91,11 @@ impl NameIndex {
         dir: u64,
         after: Option<&[u16]>,
     ) -> &[u64]
-        requires { IsByName table.now links.now.rows self.now.numbers }
+        requires by_name { IsByName table.now links.now.rows self.now.numbers }
+        requires heads { AreHeads table.now links.now.rows self.now.heads }
         ensures { result.now ≡ map (λ entry. entry.0) (links_after table.now dir (option_copied after.entry) links.now.rows) }
     {
-        find_children_after(&self.numbers, links, table, dir, after)
+        find_children_after(&self.heads, &self.numbers, links, table, dir, after)
     }
 
     /// Those of these numbers whose links have names that begin with these units, in the same order.
@@ -95,7 +107,8 @@ impl NameIndex {
         after: Option<&[u16]>,
         units: &[u16],
     ) -> &[u64]
-        requires { IsByName table.now links.now.rows self.now.numbers }
+        requires by_name { IsByName table.now links.now.rows self.now.numbers }
+        requires heads { AreHeads table.now links.now.rows self.now.heads }
         ensures { result.now ≡ map (λ entry. entry.0) (filter (λ entry. begins_with table.now units.now entry.1.name) (links_after table.now dir (option_copied after.entry) links.now.rows)) }
     {
         let _ = links.len();
@@ -115,8 +128,10 @@ impl NameIndex {
     )
         requires room { 1 ≤ self.old.room }
         requires by_name { IsByName table.now links.now.rows self.old.numbers }
+        requires heads { AreHeads table.now links.now.rows self.old.heads }
         requires is_new { option_map (λ entry. entry.0) (find (λ entry. is_named table.now parent units.now entry.1) links.now.rows) ≡ None }
         ensures numbers { (file : ℕ) (deleted : Bool) → IsByName table.now (links.now.rows ++ (id, record { parent = parent; name = units.now; file = file; deleted = deleted }) ∷ []) self.new.numbers }
+        ensures heads { (file : ℕ) (deleted : Bool) → AreHeads table.now (links.now.rows ++ (id, record { parent = parent; name = units.now; file = file; deleted = deleted }) ∷ []) self.new.heads }
         ensures left { self.old.room ≤ self.new.room + 1 }
     {
         let _ = links.len();
@@ -133,9 +148,11 @@ impl NameIndex {
         units: &[u16],
     )
         requires by_name { IsByName table.now links.now.rows self.old.numbers }
+        requires heads { AreHeads table.now links.now.rows self.old.heads }
         requires lives { is_some (row_of links.now.rows id) ≡ true }
         requires free { list_any (λ entry. not (entry.0 == id) && is_named table.now parent units.now entry.1) links.now.rows ≡ false }
         ensures numbers { IsByName table.now (with_row_changed (λ row. record row { parent = parent; name = units.now }) links.now.rows id) self.new.numbers }
+        ensures heads { AreHeads table.now (with_row_changed (λ row. record row { parent = parent; name = units.now }) links.now.rows id) self.new.heads }
         ensures kept { self.old.room ≤ self.new.room }
     {
         let _ = links.len();
@@ -145,16 +162,19 @@ impl NameIndex {
 
     /// Takes the number of a link out, which is still in its table.
     pub fn take(&mut self, links: &Table<LinkRow>, table: &UpcaseTable, id: u64)
-        requires { IsByName table.now links.now.rows self.old.numbers }
+        requires by_name { IsByName table.now links.now.rows self.old.numbers }
+        requires heads { AreHeads table.now links.now.rows self.old.heads }
         ensures numbers { self.new.numbers ≡ map (λ entry. entry.0) (in_order (is_key_before (link_key table.now)) (without_row links.now.rows id)) }
+        ensures heads { AreHeads table.now (without_row links.now.rows id) self.new.heads }
         ensures room { is_some (row_of links.now.rows id) ≡ true → self.old.room + 1 ≤ self.new.room }
         ensures kept { self.old.room ≤ self.new.room }
     {
         match links.get(id) {
             None => {}
             Some(row) => {
-                let place = place_of_link(&self.numbers, links, table, id, row);
+                let place = place_of_link(&self.heads, &self.numbers, links, table, id, row);
                 let _ = self.numbers.remove(place);
+                let _ = self.heads.remove(place);
             }
         }
     }
@@ -170,12 +190,17 @@ impl NameIndex {
     )
         requires room { 1 ≤ self.old.room }
         requires ordered { AreInKeyOrder (link_key table.now) (links_at links.now.rows self.old.numbers) }
+        requires heads { self.old.heads ≡ map (link_head table.now) (links_at links.now.rows self.old.numbers) }
         requires is_new { All (λ entry. is_named table.now dir units.now entry.1 ≡ false) (links_at links.now.rows self.old.numbers) }
         ensures numbers { (file : ℕ) (deleted : Bool) → self.new.numbers ≡ map (λ entry. entry.0) (put_in_order (is_key_before (link_key table.now)) (id, record { parent = dir; name = units.now; file = file; deleted = deleted }) (links_at links.now.rows self.old.numbers)) }
+        ensures heads { (file : ℕ) (deleted : Bool) → self.new.heads ≡ map (link_head table.now) (put_in_order (is_key_before (link_key table.now)) (id, record { parent = dir; name = units.now; file = file; deleted = deleted }) (links_at links.now.rows self.old.numbers)) }
         ensures left { self.old.room ≤ self.new.room + 1 }
     {
-        let place = place_for(&self.numbers, links, table, dir, units);
+        let place = place_for(&self.heads, &self.numbers, links, table, dir, units);
         let Ok(()) = self.numbers.insert(place, id) else {
+            unreachable!()
+        };
+        let Ok(()) = self.heads.insert(place, head_of(table, dir, units)) else {
             unreachable!()
         };
     }
@@ -183,17 +208,19 @@ impl NameIndex {
 
 // The link of this name in this directory.
 fn find_child(
+    heads: &[u128],
     numbers: &[u64],
     links: &Table<LinkRow>,
     table: &UpcaseTable,
     parent: u64,
     units: &[u16],
 ) -> Option<u64>
-    requires { IsByName table.now links.now.rows numbers.now }
+    requires by_name { IsByName table.now links.now.rows numbers.now }
+    requires heads { AreHeads table.now links.now.rows heads.now }
     ensures { result ≡ option_map (λ entry. entry.0) (find (λ entry. is_named table.now parent units.now entry.1) links.now.rows) }
 {
     let _ = links.len();
-    match place_of(numbers, links, table, parent, units) {
+    match place_of(heads, numbers, links, table, parent, units) {
         Ok(place) => number_of(numbers, place),
         Err(_) => None,
     }
@@ -211,23 +238,26 @@ fn number_of(numbers: &[u64], place: usize) -> Option<u64>
 
 // The numbers of the links of a directory behind a name; without a name, of all of them.
 fn find_children_after<'a>(
+    heads: &[u128],
     numbers: &'a [u64],
     links: &Table<LinkRow>,
     table: &UpcaseTable,
     dir: u64,
     after: Option<&[u16]>,
 ) -> &'a [u64]
-    requires { IsByName table.now links.now.rows numbers.now }
+    requires by_name { IsByName table.now links.now.rows numbers.now }
+    requires heads { AreHeads table.now links.now.rows heads.now }
     ensures { result.now ≡ map (λ entry. entry.0) (links_after table.now dir (option_copied after.entry) links.now.rows) }
 {
     let _ = links.len();
     let end = end_of(numbers, links, dir);
-    let begin = begin_of(numbers, links, table, dir, after).min(end);
+    let begin = begin_of(heads, numbers, links, table, dir, after).min(end);
     &numbers[begin..end]
 }
 
 // Where the link of this number and name stands.
 fn place_of_link(
+    heads: &[u128],
     numbers: &[u64],
     links: &Table<LinkRow>,
     table: &UpcaseTable,
@@ -235,12 +265,15 @@ fn place_of_link(
     row: &LinkRow,
 ) -> usize
     requires by_name { IsByName table.now links.now.rows numbers.now }
+    requires heads { AreHeads table.now links.now.rows heads.now }
     requires found { row_of links.now.rows id ≡ Some row.now }
     ensures bound { result < length numbers.now }
+    ensures head { result < length heads.now }
+    ensures heads { remove heads.now result ≡ map (link_head table.now) (in_order (is_key_before (link_key table.now)) (without_row links.now.rows id)) }
     ensures without { remove numbers.now result ≡ map (λ entry. entry.0) (in_order (is_key_before (link_key table.now)) (without_row links.now.rows id)) }
 {
     let _ = links.len();
-    match place_of(numbers, links, table, row.parent, row.name.units()) {
+    match place_of(heads, numbers, links, table, row.parent, row.name.units()) {
         Ok(place) => place,
         Err(_) => unreachable!(),
     }
@@ -248,6 +281,7 @@ fn place_of_link(
 
 // Where a new name stands.
 fn place_for(
+    heads: &[u128],
     numbers: &[u64],
     links: &Table<LinkRow>,
     table: &UpcaseTable,
@@ -255,10 +289,11 @@ fn place_for(
     units: &[u16],
 ) -> usize
     requires ordered { AreInKeyOrder (link_key table.now) (links_at links.now.rows numbers.now) }
+    requires heads { heads.now ≡ map (link_head table.now) (links_at links.now.rows numbers.now) }
     requires is_new { All (λ entry. is_named table.now dir units.now entry.1 ≡ false) (links_at links.now.rows numbers.now) }
     ensures { IsKeyPlace (link_key table.now) (links_at links.now.rows numbers.now) (place_key table.now dir units.now) (Err result) }
 {
-    match place_of(numbers, links, table, dir, units) {
+    match place_of(heads, numbers, links, table, dir, units) {
         Ok(place) => place,
         Err(place) => place,
     }
@@ -290,8 +325,55 @@ fn cmp_number(
     }
 }
 
-// The place of a name in a directory, or where it would stand, by binary search.
+// The place of a name in a directory, or where it would stand, by binary search among the heads.
 fn place_of(
+    heads: &[u128],
+    numbers: &[u64],
+    links: &Table<LinkRow>,
+    table: &UpcaseTable,
+    dir: u64,
+    units: &[u16],
+) -> Result<usize, usize>
+    requires ordered { AreInKeyOrder (link_key table.now) (links_at links.now.rows numbers.now) }
+    requires heads { heads.now ≡ map (link_head table.now) (links_at links.now.rows numbers.now) }
+    ensures { IsKeyPlace (link_key table.now) (links_at links.now.rows numbers.now) (place_key table.now dir units.now) result }
+{
+    match search_heads(heads, head_of(table, dir, units)) {
+        Ok(place) => place_near(numbers, links, table, dir, units, place),
+        Err(place) => Err(place),
+    }
+}
+
+// The place of a head, or where it would stand.
+fn search_heads(heads: &[u128], head: u128) -> Result<usize, usize>
+    ensures bound { IsSearchInRange result (length heads.now) }
+    ensures position { IsBinarySearchResult (λ other. nat_cmp other head) heads.now result }
+{
+    heads.binary_search(&head)
+}
+
+// The place of a name whose head a link at this place has. Mostly the name is that link's; else it is searched among
+// the rows.
+fn place_near(
+    numbers: &[u64],
+    links: &Table<LinkRow>,
+    table: &UpcaseTable,
+    dir: u64,
+    units: &[u16],
+    place: usize,
+) -> Result<usize, usize>
+    requires ordered { AreInKeyOrder (link_key table.now) (links_at links.now.rows numbers.now) }
+    requires within { place < length numbers.now }
+    ensures { IsKeyPlace (link_key table.now) (links_at links.now.rows numbers.now) (place_key table.now dir units.now) result }
+{
+    match cmp_number(links, table, numbers[place], dir, units) {
+        Ordering::Equal => Ok(place),
+        _ => place_among(numbers, links, table, dir, units),
+    }
+}
+
+// The place of a name in a directory, or where it would stand, by binary search among the rows.
+fn place_among(
     numbers: &[u64],
     links: &Table<LinkRow>,
     table: &UpcaseTable,
@@ -305,11 +387,18 @@ fn place_of(
 }
 
 // Where the links of a directory begin, if there are any.
-fn begin_of_all(numbers: &[u64], links: &Table<LinkRow>, table: &UpcaseTable, dir: u64) -> usize
-    requires { AreInKeyOrder (link_key table.now) (links_at links.now.rows numbers.now) }
+fn begin_of_all(
+    heads: &[u128],
+    numbers: &[u64],
+    links: &Table<LinkRow>,
+    table: &UpcaseTable,
+    dir: u64,
+) -> usize
+    requires ordered { AreInKeyOrder (link_key table.now) (links_at links.now.rows numbers.now) }
+    requires heads { heads.now ≡ map (link_head table.now) (links_at links.now.rows numbers.now) }
     ensures { IsBegin table.now (links_at links.now.rows numbers.now) dir None result }
 {
-    match place_of(numbers, links, table, dir, &[]) {
+    match place_of(heads, numbers, links, table, dir, &[]) {
         Ok(place) => place,
         Err(place) => place,
     }
@@ -317,16 +406,18 @@ fn begin_of_all(numbers: &[u64], links: &Table<LinkRow>, table: &UpcaseTable, di
 
 // Where those behind a name begin, if there are any.
 fn begin_behind(
+    heads: &[u128],
     numbers: &[u64],
     links: &Table<LinkRow>,
     table: &UpcaseTable,
     dir: u64,
     units: &[u16],
 ) -> usize
-    requires { AreInKeyOrder (link_key table.now) (links_at links.now.rows numbers.now) }
+    requires ordered { AreInKeyOrder (link_key table.now) (links_at links.now.rows numbers.now) }
+    requires heads { heads.now ≡ map (link_head table.now) (links_at links.now.rows numbers.now) }
     ensures { IsBegin table.now (links_at links.now.rows numbers.now) dir (Some units.now) result }
 {
-    match place_of(numbers, links, table, dir, units) {
+    match place_of(heads, numbers, links, table, dir, units) {
         Ok(place) => place + 1,
         Err(place) => place,
     }
@@ -334,18 +425,20 @@ fn begin_behind(
 
 // Where the links of a directory behind a name begin; without a name all are behind it.
 fn begin_of(
+    heads: &[u128],
     numbers: &[u64],
     links: &Table<LinkRow>,
     table: &UpcaseTable,
     dir: u64,
     after: Option<&[u16]>,
 ) -> usize
-    requires { AreInKeyOrder (link_key table.now) (links_at links.now.rows numbers.now) }
+    requires ordered { AreInKeyOrder (link_key table.now) (links_at links.now.rows numbers.now) }
+    requires heads { heads.now ≡ map (link_head table.now) (links_at links.now.rows numbers.now) }
     ensures { IsBegin table.now (links_at links.now.rows numbers.now) dir (option_copied after.entry) result }
 {
     match after {
-        None => begin_of_all(numbers, links, table, dir),
-        Some(units) => begin_behind(numbers, links, table, dir, units),
+        None => begin_of_all(heads, numbers, links, table, dir),
+        Some(units) => begin_behind(heads, numbers, links, table, dir, units),
     }
 }
 

@@ -1,6 +1,6 @@
 //! Tests that cross crates: whole runs of the program over bytes in memory, each with the bytes
-//! that it has to write, and turns of a machine (`turns`). It is a program, since nothing stands on it; what it
-//! does when it runs is nothing.
+//! that it has to write, turns of a machine (`turns`), and three clients at one volume (`shared`). It is a
+//! program, since nothing stands on it; what it does when it runs is nothing.
 #![tactic(auto)]
 
 #[cfg(test)]
@@ -13,6 +13,8 @@ mod program;
 mod races;
 #[cfg(test)]
 mod rows;
+#[cfg(test)]
+mod shared;
 #[cfg(test)]
 mod tests;
 #[cfg(test)]

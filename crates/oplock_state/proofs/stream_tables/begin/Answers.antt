@@ -14,12 +14,6 @@ unreachable-requires c =
     let impossible : [] ≡ c.args.oplock ∷ [] = rw none at c.requires.there in
     cc
 
-pub begin_one-requires-clause-quiet : goal.begin_one-requires-clause-quiet
-begin_one-requires-clause-quiet c =
-    let d = c.index-tables-place.result in
-    let row = row-at c.args.tables.now c.args.key c.in-Ok.place d c.requires.tables.rising c.in-Ok.ensures.there in
-    c.requires.tables.quiet c.in-Ok.place d c.in-Ok.ensures.there.within
-
 pub begin_one-requires-clause-rising : goal.begin_one-requires-clause-rising
 begin_one-requires-clause-rising c =
     let d = c.index-tables-place.result in

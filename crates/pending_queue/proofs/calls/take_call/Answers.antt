@@ -3,7 +3,7 @@ use Rattle.std.specs.List.{position}
 use Rattle.std.specs.Prelude.{◌==◌}
 use Rattle.fsa_types.proofs.RowLemmas.{IsAt-position, fails-none}
 use Rattle.pending_queue.proofs.CountLemmas.{removed-at, row-at, row-none, without-none}
-use Rattle.pending_queue.proofs.LeastLemmas.{stays-removed}
+use Rattle.pending_queue.proofs.ReadyLemmas.{ready-fewer, ready-removed, ready-unremoved}
 use Rattle.pending_queue.proofs.calls.take_call.Goals as goal
 
 pub returns-in-None-clause-count : goal.returns-in-None-clause-count
@@ -27,9 +27,20 @@ returns-in-Some-clause-items c =
     let at = IsAt-position rows c.args.turn c.in-Some.place (0, 0) found in
     c.remove-call.ensures.items ∙ removed-at rows c.args.turn c.in-Some.place (0, 0) c.requires.differ at.within (at.here (0, 0))
 
-pub returns-in-Some-clause-stays : goal.returns-in-Some-clause-stays
-returns-in-Some-clause-stays c =
+pub returns-in-None-clause-ready : goal.returns-in-None-clause-ready
+returns-in-None-clause-ready c =
+    ready-unremoved c.args.calls.now.items c.args.turn (fails-none c.args.calls.now.items c.args.turn (rw c.deref.ensures.value at (sym c.find_call.ensures.place ∙ c.in-None.is)))
+
+pub returns-in-Some-clause-ready : goal.returns-in-Some-clause-ready
+returns-in-Some-clause-ready c =
     let rows = c.args.calls.now.items in
     let found : position (λ e. e.0 == c.args.turn) rows ≡ Some c.in-Some.place = rw c.deref.ensures.value at (sym c.find_call.ensures.place ∙ c.in-Some.is) in
     let at = IsAt-position rows c.args.turn c.in-Some.place (0, 0) found in
-    rw c.remove-call.ensures.items (stays-removed rows c.in-Some.place c.args.turn (0, 0) at.within (at.here (0, 0)))
+    rw c.remove-call.ensures.items (ready-removed rows c.in-Some.place c.args.turn (0, 0) c.requires.differ at.within (at.here (0, 0)))
+
+pub returns-in-Some-clause-fewer : goal.returns-in-Some-clause-fewer
+returns-in-Some-clause-fewer c =
+    let rows = c.args.calls.now.items in
+    let found : position (λ e. e.0 == c.args.turn) rows ≡ Some c.in-Some.place = rw c.deref.ensures.value at (sym c.find_call.ensures.place ∙ c.in-Some.is) in
+    let at = IsAt-position rows c.args.turn c.in-Some.place (0, 0) found in
+    ready-fewer rows c.in-Some.place c.args.turn (0, 0) c.requires.differ at.within (at.here (0, 0))

@@ -1,5 +1,5 @@
 use Rattle.std.proofs.Common.{◌≡◌, ◌∙◌, ◌-◌, ◌<◌, ℕ, suc, refl, ap, arith, get_or, length, subst, sym}
-use Rattle.std.proofs.lemmas.List.{get_or_read}
+use Rattle.std.proofs.lemmas.List.{get_or_read, length-map}
 use Rattle.pending_queue.specs.declared.waits.Wait.{Wait}
 use Rattle.pending_queue.specs.Waits.{end_of, nothing, number_of, slot}
 use Rattle.pending_queue.proofs.CountLemmas.{differ-turns}
@@ -17,25 +17,34 @@ loop-end-init c =
       walked = Walked-start heads (of_blocker c.args.blocker) c.args.waits.now.items c.end_of-end.result c.requires.linked end;
       counts = refl;
       turns = refl;
-      least = c.requires.first;
+      ready = c.requires.ready;
+      places = omega arith;
       waits_len = omega arith;
       waits_room = omega arith;
       len = omega arith;
       room = omega arith;
     }
 
-pub end_at-least-requires-clause-differ : goal.end_at-least-requires-clause-differ
-end_at-least-requires-clause-differ c = differ-turns c.args.calls.now.items c.loop-end.calls.items c.loop-end.invariant.turns c.requires.differ
+pub end_at-requires-clause-differ : goal.end_at-requires-clause-differ
+end_at-requires-clause-differ c = differ-turns c.args.calls.now.items c.loop-end.calls.items c.loop-end.invariant.turns c.requires.differ
 
-walked-so-far : (c : goal.After-end_at-least) → Walked (length c.args.heads.now) (of_blocker c.args.blocker) c.args.waits.now.items c.loop-end.waits.items (suc (c.loop-end.end - 1))
+pub end_at-requires-clause-places : goal.end_at-requires-clause-places
+end_at-requires-clause-places c =
+    let many = ap length c.loop-end.invariant.turns in
+    let now = length-map c.loop-end.calls.items (λ (call : ℕ × ℕ). call.0) in
+    let was = length-map c.args.calls.now.items (λ (call : ℕ × ℕ). call.0) in
+    let places = c.requires.places in
+    omega (arith, c.loop-end.invariant.places)
+
+walked-so-far : (c : goal.After-end_at) → Walked (length c.args.heads.now) (of_blocker c.args.blocker) c.args.waits.now.items c.loop-end.waits.items (suc (c.loop-end.end - 1))
 walked-so-far c =
     let is : c.loop-end.end ≡ suc (c.loop-end.end - 1) = omega arith in
     subst (λ (end : ℕ). Walked (length c.args.heads.now) (of_blocker c.args.blocker) c.args.waits.now.items c.loop-end.waits.items end) is c.loop-end.invariant.walked
 
-is_there : (c : goal.After-end_at-least) → c.loop-end.end - 1 < length c.loop-end.waits.items
+is_there : (c : goal.After-end_at) → c.loop-end.end - 1 < length c.loop-end.waits.items
 is_there c = let inside = c.loop-end.invariant.walked.within in omega arith
 
-one-step : (c : goal.After-end_at-least) → Stepped (length c.args.heads.now) (of_blocker c.args.blocker) c.loop-end.waits.items (c.loop-end.end - 1) c.index.result.now.link
+one-step : (c : goal.After-end_at) → Stepped (length c.args.heads.now) (of_blocker c.args.blocker) c.loop-end.waits.items (c.loop-end.end - 1) c.index.result.now.link
 one-step c =
     let place : ℕ = c.loop-end.end - 1 in
     let read : c.index.result.now ≡ get_or c.loop-end.waits.items place nothing = get_or_read c.loop-end.waits.items place c.index.result.now (is_there c) c.index.ensures nothing in
@@ -48,14 +57,15 @@ loop-end-smaller c = let less = (one-step c).less in omega arith
 pub loop-end-preserved : goal.loop-end-preserved
 loop-end-preserved c =
     let kept = c.loop-end.invariant in
-    let then = c.end_at-least.ensures in
+    let then = c.end_at.ensures in
     let place : ℕ = c.loop-end.end - 1 in
     let waits = c.loop-end.waits.items in
     record {
       walked = rw then.items (Walked-step (length c.args.heads.now) (of_blocker c.args.blocker) c.args.waits.now.items waits place c.index.result.now.link (walked-so-far c) (one-step c));
       counts = rw (then.items, then.calls) (discount-over c.args.blocker waits place c.loop-end.calls.items (is_there c) ∙ kept.counts);
       turns = then.turns ∙ kept.turns;
-      least = then.first;
+      ready = then.ready;
+      places = omega (arith, then.places, kept.places);
       waits_len = then.waits_len ∙ kept.waits_len;
       waits_room = then.waits_room ∙ kept.waits_room;
       len = then.len ∙ kept.len;

@@ -1,6 +1,6 @@
-use Rattle.std.proofs.Common.{◌≡◌, length}
+use Rattle.std.proofs.Common.{◌≡◌, ◌≤◌, length}
 use Rattle.std.specs.Vec.{vec_capacity, vec_len}
-use Rattle.pending_queue.specs.Lists.{discounted, least, ready_turns, turns_of}
+use Rattle.pending_queue.specs.Lists.{discounted, ready_turns, sorted, turns_of}
 use Rattle.pending_queue.specs.Waits.{entries_of}
 use Rattle.pending_queue.proofs.WaitLemmas.{Walked, of_blocker}
 use Rattle.pending_queue.proofs.waits.end_each.Given as goal
@@ -10,7 +10,8 @@ invariant-loop-end l = record {
   walked : Walked (length l.heads) (of_blocker l.blocker) l.fn.waits.items l.waits.items l.end;
   counts : discounted l.blocker (entries_of l.waits.items) l.calls.items ≡ discounted l.blocker (entries_of l.fn.waits.items) l.fn.calls.items;
   turns : turns_of l.calls.items ≡ turns_of l.fn.calls.items;
-  least : l.least ≡ least (ready_turns l.calls.items);
+  ready : l.ready.items ≡ sorted (ready_turns l.calls.items);
+  places : vec_capacity l.fn.ready ≤ vec_capacity l.ready;
   waits_len : vec_len l.waits ≡ vec_len l.fn.waits;
   waits_room : vec_capacity l.waits ≡ vec_capacity l.fn.waits;
   len : vec_len l.calls ≡ vec_len l.fn.calls;

@@ -12,7 +12,7 @@ loop-range-init c =
     record {
       listed = rw c.in_ok-list.ensures refl;
       room = rw c.in_ok-list.ensures (
-          c.in-Ok.ensures.1 ∙ c.requires
+          c.requires
           ∙ sym (length-map (conflicting c.args.ranges.now) lock_blocker ∙ length-filter _ c.args.ranges.now));
     }
 

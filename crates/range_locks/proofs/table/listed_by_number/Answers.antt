@@ -9,11 +9,11 @@ use Rattle.range_locks.proofs.ListedLemmas.{all_listed, as_many, none_left}
 use Rattle.range_locks.proofs.NumberLemmas.{behind, least-near, next-behind, none-behind}
 use Rattle.range_locks.proofs.table.listed_by_number.Goals as goal
 
-pub returns-in_default-least_behind : goal.returns-in_default-least_behind
-returns-in_default-least_behind c ranges numbered same =
+pub returns-in_default : goal.returns-in_default
+returns-in_default c ranges numbered same =
     let test : Range → Bool = conflicts c.args.want c.args.handle c.args.at c.args.count in
     let near = c.args.near.now in
-    let none : first_id (behind test c.loop.last) ranges ≡ None = sym (least-near test near ranges c.loop.last numbered same) ∙ sym c.least_behind.ensures ∙ c.in_default-least_behind.is in
+    let none : first_id (behind test c.loop.last) ranges ≡ None = sym (least-near test near ranges c.loop.last numbered same) ∙ sym c.least_behind.ensures ∙ c.in_default.is in
     none_left c.loop.list (map lock_blocker (filter (behind test c.loop.last) ranges)) (map lock_blocker (filter test ranges)) (c.loop.invariant.listed ranges numbered same)
     (ap (map lock_blocker) (none-behind (behind test c.loop.last) ranges none)) (c.loop.invariant.room ∙ c.requires ∙ as_many test near ranges same)
 

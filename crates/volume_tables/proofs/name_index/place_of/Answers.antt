@@ -1,14 +1,14 @@
-use Rattle.std.proofs.Common.{◌≡◌, rules, refl}
-use Rattle.link_index.proofs.EntryLaws.{answers_by}
-use Rattle.link_index.specs.Keyed.{cmp_keys}
-use Rattle.volume_tables.specs.Names.{link_at, link_key, place_key}
-use Rattle.volume_tables.proofs.NameLemmas.{place-of}
+use Rattle.std.proofs.Common.{◌≡◌, length, arith}
+use Rattle.volume_tables.specs.Names.{links_at}
+use Rattle.volume_tables.proofs.HeadLemmas.{heads-many, place-new}
 use Rattle.volume_tables.proofs.name_index.place_of.Goals as goal
 
--- the closure compares the link of a number with the name
-pub returns : goal.returns
-returns c =
-    let facts = c.binary_search_by.ensures in
-    let by_name = facts.position (λ id. cmp_keys (link_key c.args.table.now (link_at c.args.links.now.rows id)) (place_key c.args.table.now c.args.dir c.args.units.now))
-    (answers_by _ _ (λ f. (f.0.now ≡ c.args.links.now) × (f.1.now ≡ c.args.table.now) × (f.2.now ≡ c.args.dir) × (f.3.now ≡ c.args.units.now)) (λ f a r g called same. (search rules, search rules)) _ (refl, refl, refl, refl)) in
-    place-of c.args.table.now c.args.links.now.rows c.args.numbers.now (place_key c.args.table.now c.args.dir c.args.units.now) c.requires c.binary_search_by.result facts.bound by_name
+pub place_near-requires-clause-within : goal.place_near-requires-clause-within
+place_near-requires-clause-within c =
+    let many : length c.args.heads.now ≡ length c.args.numbers.now = heads-many c.args.table.now c.args.links.now.rows c.args.numbers.now c.args.heads.now c.requires.heads in
+    omega (arith, many, c.in-Ok.ensures.bound)
+
+pub returns-in-Err : goal.returns-in-Err
+returns-in-Err c =
+    place-new c.args.table.now (links_at c.args.links.now.rows c.args.numbers.now) c.requires.ordered c.args.dir c.args.units.now c.args.heads.now c.in-Err.place c.requires.heads
+    (rw c.head_of.ensures at c.in-Err.ensures.position)

@@ -42,4 +42,6 @@ invariant_of-self c =
           c.insert.ensures.others c.add.ensures.left,
       c.self.invariant.2,
       c.self.invariant.3,
+      c.self.invariant.4,
+      c.self.invariant.5,
     )

@@ -18,4 +18,6 @@ invariant_of-self c =
       HaveRoom-kept i.rooms i.ranges new i.locks.room c.remove_locks_of.new.locks.room c.self.invariant.1 c.remove_ranges_of-some.ensures.room c.remove_locks_of.ensures.room,
       c.remove_row.ensures.indexed c.self.invariant.2,
       (let promised = c.self.invariant.3 in let kept = c.remove_row.ensures.room in let same = c.remove_row.ensures.promised in omega arith),
+      c.remove_row.ensures.shared,
+      (let promised = c.self.invariant.5 in let kept = c.remove_row.ensures.kept in let same = c.remove_row.ensures.promised in omega arith),
     )

@@ -12,6 +12,8 @@ invariant_of-self c =
       HaveRoom-kept i.rooms i.ranges new i.locks.room i.locks.room c.self.invariant.1 c.remove_range.ensures.room (omega arith),
       c.self.invariant.2,
       c.self.invariant.3,
+      c.self.invariant.4,
+      c.self.invariant.5,
     )
 
 pub returns-in_default-clause-locks : goal.returns-in_default-clause-locks
@@ -44,6 +46,8 @@ invariant_of-self-2 c =
       HaveRoom-kept i.rooms i.ranges new i.locks.room c.remove.new.self.room c.self.invariant.1 c.remove_range.ensures.room c.remove.ensures.room,
       c.self.invariant.2,
       c.self.invariant.3,
+      c.self.invariant.4,
+      c.self.invariant.5,
     )
 
 pub returns-clause-locks : goal.returns-clause-locks

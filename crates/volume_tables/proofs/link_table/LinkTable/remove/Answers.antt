@@ -11,4 +11,5 @@ invariant_of-self c =
       rw c.remove.ensures.rows old,
       omega arith,
       rw c.remove.ensures.rows (ByName-without i.table i.links.rows i.names.numbers _ c.args.id c.self.invariant.2 (rw c.table.ensures.rows at c.take.ensures.numbers)),
+      rw c.remove.ensures.rows (rw c.table.ensures.rows at c.take.ensures.heads),
     )

@@ -1,0 +1,63 @@
+//! The heads of the keys by which names in directories are ordered.
+
+ghost use Rattle.std.specs.Prelude.{◌≡◌, ◌&&◌, nat_lt, slice_get};
+ghost use Rattle.fsa_types.specs.CaseTable.{upcased};
+ghost use Rattle.volume_tables.specs.Heads.{digit, head_of, unit_at};
+
+use fsa_types::UpcaseTable;
+
+// Directories of lesser numbers are told apart.
+const MOST_DIR: u64 = 4_294_967_295;
+
+// How many units are told.
+const UNITS: usize = 12;
+
+/// The first of what a name in a directory is ordered by: the directory in 32 bits, and twelve upcased units in 8
+/// bits each. Where the heads of two names differ, the names stand in the order of the heads. A unit from 255 on is
+/// told as 255, and nothing behind it is, nor any unit of a directory from 2^32 - 1 on.
+pub(crate) fn head_of(table: &UpcaseTable, dir: u64, units: &[u16]) -> u128
+    ensures { result ≡ head_of table.now dir units.now }
+{
+    let mut head = dir.min(MOST_DIR) as u128;
+    let mut exact = dir < MOST_DIR;
+    for place in 0..UNITS {
+        let unit = unit_at(table, units, place);
+        head = head * 256 + digit(exact, unit) as u128;
+        exact = stays_exact(exact, unit);
+    }
+    head
+}
+
+// The unit at this place, upcased; 0 past the end.
+fn unit_at(table: &UpcaseTable, units: &[u16], place: usize) -> u16
+    ensures { result ≡ unit_at (upcased table.now units.now) place }
+{
+    match unit_in(units, place) {
+        None => 0,
+        Some(unit) => table.up(unit),
+    }
+}
+
+// The unit at this place.
+fn unit_in(units: &[u16], place: usize) -> Option<u16>
+    ensures { result ≡ slice_get units.now place }
+{
+    match units.get(place) {
+        Some(unit) => Some(*unit),
+        None => None,
+    }
+}
+
+// Whether the units up to this one are told in full, where those before it are.
+fn stays_exact(exact: bool, unit: u16) -> bool
+    ensures { result ≡ (exact && nat_lt unit 255) }
+{
+    exact && unit < 255
+}
+
+// A unit in 8 bits, where all before it are told in full.
+fn digit(exact: bool, unit: u16) -> u16
+    ensures { result ≡ digit exact unit }
+{
+    if exact { unit.min(255) } else { 0 }
+}
