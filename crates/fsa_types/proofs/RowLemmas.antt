@@ -7,7 +7,7 @@ use Rattle.std.proofs.lemmas.Bool.{ne_eqb, cases_Bool, cases_eq, cases_lt, lt-lt
 use Rattle.std.proofs.lemmas.List.Sums.{prefix_len-le-length, fails_before_first}
 use Rattle.std.proofs.lemmas.List.Quantifiers.{position-Some}
 use Rattle.std.proofs.lemmas.Bool.{eqb-true}
-use Rattle.std.proofs.Math.ListN.{set, length-set}
+use Rattle.std.proofs.Math.ListN.{set}
 use Rattle.std.proofs.lemmas.List.Kept.{AllPairs-filter, AllPairs-cons}
 use Rattle.std.proofs.lemmas.List.Elements.{All-filter}
 use Rattle.fsa_types.specs.Places.{IsAt}
@@ -126,17 +126,6 @@ number-set {T} xs id i row at k d =
       | inl same ↦ rw same (let within : i < length xs = at.within in rw (get_or-set_same xs i (id, row) d within) (sym (at.here d)))
       | inr other ↦ ap (λ (e : ℕ × T). e.0) (get_or-set_other {A = ℕ × T} xs i k (id, row) d other)
     ]
-
--- so it is a table with another row at that place
-pub IsNumbered-set : {T : Type 0} (xs : List (ℕ × T)) (last id i : ℕ) (some : ℕ × T) (row : T) → IsNumbered xs last → position (λ e. e.0 == id) xs ≡ Some i
-    → IsNumbered (set xs i (id, row)) last
-IsNumbered-set {T} xs last id i some row table found =
-    let at = IsAt-position xs id i some found in
-    record {
-      rising = λ j k d below within.
-          rw (number-set xs id i row at j d, number-set xs id i row at k d) (table.rising j k d below (omega (arith, length-set {A = ℕ × T})));
-      given = λ k d within. rw (number-set xs id i row at k d) (table.given k d (omega (arith, length-set {A = ℕ × T})));
-    }
 
 -- to change the row of a number is to put there what the change makes of it
 pub with_row_changed-one : {T : Type 0} (xs : List (ℕ × T)) (id : ℕ) (row : T) (change : T → T) → AreRising xs → row_of xs id ≡ Some row

@@ -1,5 +1,5 @@
--- Which opens of one stream or directory clash, after [MS-FSA] 'Algorithm for Checking Sharing
--- Access'. An open is its access mask and its share mask.
+-- Which opens of one stream or directory clash, after [MS-FSA] 'Algorithm to Check Sharing Access to an
+-- Existing Stream or Directory'. An open is its access mask and its share mask.
 use Rattle.std.specs.Prelude.{ℕ, Bool, not, List, ◌&&◌, ◌||◌}
 use Rattle.std.specs.List.{list_any}
 use Rattle.fsa_types.specs.Access.{has_any}

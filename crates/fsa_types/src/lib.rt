@@ -28,8 +28,9 @@ pub use case::{TableFault, UpcaseTable};
 pub use copy::TryCopy;
 pub use list::BoundedList;
 pub use mask::{
-    ATTRIBUTE_REPARSE_POINT, AccessMask, CreateOptions, FileAttributes, IO_REPARSE_TAG_SYMLINK,
-    NotifyFilter, ShareAccess,
+    ATTRIBUTE_REPARSE_POINT, AccessMask, CreateOptions, FileAttributes,
+    IO_REPARSE_TAG_RESERVED_ONE, IO_REPARSE_TAG_RESERVED_ZERO, IO_REPARSE_TAG_SYMLINK,
+    MICROSOFT_TAG, NotifyFilter, ShareAccess,
 };
 pub use memory::NoMemory;
 pub use noted::{

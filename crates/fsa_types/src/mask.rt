@@ -334,5 +334,14 @@ impl Flags for NotifyFilter {
 /// after [MS-FSCC] 'File Attributes'.
 pub const ATTRIBUTE_REPARSE_POINT: u32 = 0x400;
 
-/// The tag of a reparse point that is a symbolic link, after [MS-FSCC] 'Reparse Tags'.
+/// The tag 0 is reserved: no reparse point has it. After [MS-FSCC] 'Reparse Tags', as are the three below.
+pub const IO_REPARSE_TAG_RESERVED_ZERO: u32 = 0;
+
+/// The tag 1 is reserved: no reparse point has it.
+pub const IO_REPARSE_TAG_RESERVED_ONE: u32 = 1;
+
+/// The bit of the tags that Microsoft owns.
+pub const MICROSOFT_TAG: u32 = 0x8000_0000;
+
+/// The tag of a reparse point that is a symbolic link.
 pub const IO_REPARSE_TAG_SYMLINK: u32 = 0xA000_000C;

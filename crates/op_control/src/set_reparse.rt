@@ -8,24 +8,22 @@ ghost use Rattle.volume_state.specs.Room.{KeepsEnds};
 ghost use Rattle.volume_state.specs.Tried.{Gives, HasHoldRoom};
 
 use crate::points::{may_set_point, put_point};
-use fsa_types::{Bytes, Call, NoMemory, Request, Status, What};
+use fsa_types::{
+    Bytes, Call, IO_REPARSE_TAG_RESERVED_ONE, IO_REPARSE_TAG_RESERVED_ZERO, MICROSOFT_TAG, NoMemory,
+    Request, Status, What,
+};
 use op_parts::{file_of_link, is_link_of_parent};
 use pack_info::read_reparse;
 use std::alloc::Global;
 use volume_state::{Tried, Volume};
 
-// The two reserved tags, and the bit of those that Microsoft owns, after [MS-FSCC] 'Reparse Tags'.
-const RESERVED_ZERO: u32 = 0;
-
-const RESERVED_ONE: u32 = 1;
-
-const MICROSOFT: u32 = 0x8000_0000;
-
 // Whether a tag can't be set: the two reserved ones, and those that Microsoft doesn't own.
 fn is_no_tag(tag: u32) -> bool
     ensures { result ≡ is_no_tag tag }
 {
-    tag == RESERVED_ZERO || tag == RESERVED_ONE || !(tag & MICROSOFT != 0)
+    tag == IO_REPARSE_TAG_RESERVED_ZERO
+        || tag == IO_REPARSE_TAG_RESERVED_ONE
+        || !(tag & MICROSOFT_TAG != 0)
 }
 
 // Whether a file has a reparse point of another tag.

@@ -20,7 +20,8 @@ use volume_rows::{OplockRow, find_break, find_target, in_both, is_oplock_of};
 /// Whether an oplock was granted.
 #[derive(Clone, Copy, Debug, PartialEq, Eq)]
 pub enum Grant {
-    /// It was; those of its key that it switched are those that were chosen last.
+    /// It was, and its call is to be pending as granted. Those of its key that it switched are those that were
+    /// chosen last.
     Granted,
     /// It wasn't, and nothing has changed.
     Refused,

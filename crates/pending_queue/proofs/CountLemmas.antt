@@ -325,15 +325,6 @@ pub counted-ended : (turns : List ℕ) (waited : List (ℕ × Blocker)) (blocker
     → discounted blocker waited (counted turns waited) ≡ counted turns (filter (λ e. not (is_same blocker e.1)) waited)
 counted-ended turns waited blocker = ended-among turns [] waited blocker
 
--- no call waits for it
-pub none-ended : (waited : List (ℕ × Blocker)) (blocker : Blocker) → list_any (λ e. is_same blocker e.1) waited ≡ false → filter (λ e. not (is_same blocker e.1)) waited ≡ waited
-none-ended [] blocker none = refl
-none-ended (e ∷ es) blocker none =
-    elim (cases_Bool (is_same blocker e.1)) [
-      | inl here ↦ (let never : true ≡ false = rw here at none in absurd (false≢true (sym never)))
-      | inr other ↦ rw other (ap (λ rest. e ∷ rest) (none-ended es blocker (rw other at none)))
-    ]
-
 -- ---- what a queue keeps
 
 pub turns-discounted : (blocker : Blocker) (waited : List (ℕ × Blocker)) (calls : List (ℕ × ℕ)) → turns_of (discounted blocker waited calls) ≡ turns_of calls
@@ -426,10 +417,6 @@ AreCounted-removed calls waited ready turn are = record {
 pub seen-ended : (calls : List (ℕ × ℕ)) (waited : List (ℕ × Blocker)) (blocker : Blocker)
     → held_of (turns_of (discounted blocker waited calls)) (filter (λ e. not (is_same blocker e.1)) waited) ≡ with_ended (held_of (turns_of calls) waited) blocker
 seen-ended calls waited blocker = ap (λ its. held_of its (filter (λ e. not (is_same blocker e.1)) waited)) (turns-discounted blocker waited calls) ∙ held-ended (turns_of calls) waited blocker
-
-pub seen-unended : (calls : List (ℕ × ℕ)) (waited : List (ℕ × Blocker)) (blocker : Blocker) → list_any (λ e. is_same blocker e.1) waited ≡ false
-    → held_of (turns_of calls) waited ≡ with_ended (held_of (turns_of calls) waited) blocker
-seen-unended calls waited blocker none = ap (held_of (turns_of calls)) (sym (none-ended waited blocker none)) ∙ held-ended (turns_of calls) waited blocker
 
 pub seen-put : (calls : List (ℕ × ℕ)) (waited : List (ℕ × Blocker)) (turn : ℕ) (blockers : List Blocker)
     → held_of (turns_of (with_count calls turn (length blockers))) (put waited turn blockers) ≡ with_held (held_of (turns_of calls) waited) turn blockers

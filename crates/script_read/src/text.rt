@@ -161,7 +161,8 @@ fn string_of(alloc: Global, word: &[u8]) -> Result<Bytes, LineFault>
         return Err(SYNTAX);
     }
     let bytes = written_bytes(alloc, digits)?;
-    Ok(Bytes::from(bytes))
+    // the line and the calls that are copied from it share a long string
+    Ok(Bytes::from(bytes).shared())
 }
 
 /// The string of bytes at the front, 16,384 bytes at most, and what follows it.

@@ -19,7 +19,7 @@
 //! `Cursor`); streams (`is_stream_named`, and `StreamRow` with its bytes in the pages of `stream_pages`); the space that streams
 //! take (`clusters_of`) and what an owner may be charged (`find_limit`); oplocks (`effect`, `is_awaited`,
 //! `in_both`, `is_within`, `is_same_key`, `is_oplock_of`, `find_break`, `find_target`); pending calls
-//! (`find_pending`, `find_next_pending`, `is_call`); and changes noted (`Changes`), in the log of
+//! (`find_next_pending`, `is_call`); and changes noted (`Changes`), in the log of
 //! `notify_queue`.
 //!
 //! Contracts see a row as the row of `fsa_model`'s record, a stream beside the room that was taken for
@@ -54,6 +54,6 @@ pub use opens::{is_at_or_below, is_clashing, is_one_of};
 pub use rows::{FileRow, HandleRow, LinkRow, Need, StreamInfo, StreamRow};
 pub use streams::is_stream_named;
 pub use waiting::{
-    OplockRow, PendingRow, find_break, find_limit, find_next_pending, find_pending, find_target,
-    is_call, is_oplock_of,
+    OplockRow, PendingRow, find_break, find_limit, find_next_pending, find_target, is_call,
+    is_oplock_of,
 };

@@ -110,26 +110,6 @@ pub fn is_call(pending: &PendingRow, client: u32, number: u32) -> bool
     pending.call.client == client && pending.call.number == number
 }
 
-// The row of this turn.
-fn find_row(pending: &[(u64, PendingRow)], turn: u64) -> Option<&PendingRow>
-    ensures { option_copied result ≡ row_of pending.now turn }
-{
-    pending
-        .iter()
-        .find(|entry| entry.0 == turn)
-        .map(|entry| &entry.1)
-}
-
-/// The call that is pending under this turn.
-pub fn find_pending(pending: &[(u64, PendingRow)], turn: u64) -> Option<&Call>
-    ensures { option_copied result ≡ option_map (λ row. row.call) (row_of pending.now turn) }
-{
-    match find_row(pending, turn) {
-        None => None,
-        Some(row) => Some(&row.call),
-    }
-}
-
 // Whether a call is pending under a turn above `after` and below `before`.
 fn has_pending_between(pending: &[(u64, PendingRow)], after: u64, before: u64) -> bool
     ensures { result ≡ list_any (λ other. nat_lt after other.0 && nat_lt other.0 before) pending.now }

@@ -5,8 +5,8 @@ use Rattle.fsa_types.specs.Rows.{row_of}
 use Rattle.fsa_types.specs.declared.request.Level.{Level}
 use Rattle.fsa_model.specs.Grant.{is_not_granted, with_granted}
 use Rattle.fsa_model.specs.Volume.{Volume}
-use Rattle.volume_state.specs.declared.oplocks.Grant.{Grant}
-use Rattle.volume_state.specs.declared.oplocks.Grant.TheVariants as grant
+use Rattle.oplock_state.specs.declared.stream_oplocks.Grant.{Grant}
+use Rattle.oplock_state.specs.declared.stream_oplocks.Grant.TheVariants as grant
 
 -- the key of a handle, 0 where there is none
 abbrev pub key_of_handle : Volume → ℕ → ℕ

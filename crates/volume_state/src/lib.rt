@@ -86,7 +86,7 @@ mod watch_row;
 mod watches;
 
 pub use fsa_types::{Class, HandleSet};
-pub use oplocks::Grant;
+pub use oplock_state::Grant;
 pub use room::NoteRoom;
 pub use tried::Tried;
 pub use volume::Volume;

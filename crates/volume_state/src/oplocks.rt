@@ -25,7 +25,7 @@ ghost use Rattle.volume_state.specs.VolumeView.{room_for};
 
 use crate::volume::Volume;
 use fsa_types::{BlockerList, Class, HandleSet, Level};
-use oplock_state::{Asked, OplockTable};
+use oplock_state::{Asked, Grant, OplockTable};
 use volume_breaks::{
     EndTable, PendingCalls, Tree, end_switched, end_told, push_breaks, release_breaks,
 };
@@ -38,15 +38,6 @@ struct Opened {
     handle: u64,
     key: u64,
     stream: u64,
-}
-
-/// Whether an oplock was granted.
-#[derive(Clone, Copy, Debug, PartialEq, Eq)]
-pub enum Grant {
-    /// It was, and the call is to be pending as granted.
-    Granted,
-    /// It wasn't, and nothing has changed.
-    Refused,
 }
 
 impl Volume {
@@ -176,8 +167,8 @@ impl Volume {
             handles: &self.handles,
         };
         match self.oplocks.grant(&tree, opened.stream, &asked) {
-            oplock_state::Grant::Refused => Grant::Refused,
-            oplock_state::Grant::Granted => {
+            Grant::Refused => Grant::Refused,
+            Grant::Granted => {
                 end_switched(&mut self.pending, &mut self.ended, self.oplocks.chosen());
                 Grant::Granted
             }
