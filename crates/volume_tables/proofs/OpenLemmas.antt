@@ -154,9 +154,6 @@ module _ (on : Handle → Bool) (rows : List (ℕ × Handle)) (held : List (ℕ 
 
 -- ---- the handles of streams and of links
 
-pub AreShared-none : AreShared [] (record { streams = []; links = []; room = 0 })
-AreShared-none = record { streams = λ stream test. refl; links = λ link test. refl }
-
 pub AreShared-changed : (change : Handle → Handle) (rows : List (ℕ × Handle)) (id : ℕ) (shares : SharedHandles) → ((row : Handle) → (change row).stream ≡ row.stream) → ((row : Handle) → (change row).link ≡ row.link)
     → ((row : Handle) → (change row).access ≡ row.access) → ((row : Handle) → (change row).share ≡ row.share) → AreShared rows shares → AreShared (with_row_changed change rows id) shares
 AreShared-changed change rows id shares streams links access share are = record {

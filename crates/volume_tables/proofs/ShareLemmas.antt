@@ -1,5 +1,5 @@
 -- Opens under keys: what each key has as one comes, changes, and goes.
-use Rattle.std.proofs.Common.{◌≡◌, ◌≢◌, ℕ, zero, suc, ◌≤◌, Bool, true, false, List, [], ◌∷◌, ◌++◌, length, get_or, Option, Some, None, is_some, IsPermutation, refl, ap, sym, ◌∙◌, arith, inl, inr, eq-eqb}
+use Rattle.std.proofs.Common.{◌≡◌, ◌≢◌, ℕ, zero, suc, ◌≤◌, true, false, List, [], ◌∷◌, ◌++◌, length, get_or, Option, Some, None, is_some, IsPermutation, refl, ap, sym, ◌∙◌, arith, inl, inr, eq-eqb}
 use Rattle.std.specs.Prelude.{IsSome, ◌==◌}
 use Rattle.std.specs.List.{All, AllPairs, insert, position, remove}
 use Rattle.std.specs.Option.{option_and_then}
@@ -149,13 +149,6 @@ pub IsTaken-put : (old new : List (ℕ × List (ℕ × ℕ))) (key : ℕ) (masks
 IsTaken-put old new key masks less others = record {
   here = λ other is. (let same : other ≡ key = sym (eqb-true key other is) in rw same less);
   others = λ other differ. rw (others other (apart key other differ)) refl;
-}
-
--- which is still so where each key has the same in other rows
-pub IsTaken-kept : (on : ℕ → Bool) (old new newer : List (ℕ × List (ℕ × ℕ))) (masks : ℕ × ℕ) → IsTaken on old new masks → ((key : ℕ) → held_in newer key ≡ held_in new key) → IsTaken on old newer masks
-IsTaken-kept on old new newer masks taken kept = record {
-  here = λ key is. rw (kept key) (taken.here key is);
-  others = λ key not_on. kept key ∙ taken.others key not_on;
 }
 
 empty-list : {X : Type 0} (xs : List X) → length xs ≡ 0 → xs ≡ []
