@@ -2,7 +2,7 @@
 use Rattle.std.proofs.Common.{◌≡◌, ◌≢◌, ℕ, zero, suc, ◌≤◌, true, false, List, [], ◌∷◌, ◌++◌, length, get_or, Option, Some, None, is_some, IsPermutation, refl, ap, sym, ◌∙◌, arith, inl, inr, eq-eqb}
 use Rattle.std.specs.Prelude.{IsSome, ◌==◌}
 use Rattle.std.specs.List.{All, AllPairs, insert, position, remove}
-use Rattle.std.specs.Option.{option_and_then}
+use Rattle.std.specs.Option.{option_and_then, option_map_or}
 use Rattle.std.proofs.lemmas.Bool.{cases_Bool, both_ways, eqb-true, false≢true, ne_eqb}
 use Rattle.std.proofs.lemmas.List.Elements.{All-cons}
 use Rattle.std.proofs.lemmas.List.Kept.{AllPairs-cons}
@@ -12,7 +12,7 @@ use Rattle.fsa_types.proofs.PlaceLemmas.{AreRising-insert, row_of-insert_other, 
 use Rattle.object_tables.specs.Places.{ArePlaced, rows_by}
 use Rattle.object_tables.proofs.PlaceLemmas.{placed-changed, placed-removed, row-placed, rows-changed, rows-removed}
 use Rattle.object_tables.proofs.SearchLemmas.{position-here}
-use Rattle.volume_tables.specs.ShareTable.{IsAdded, IsTaken, held_in}
+use Rattle.volume_tables.specs.ShareTable.{HaveOpens, IsAdded, IsTaken, held_in}
 use Rattle.volume_tables.proofs.PlaceLemmas.{row_of-without}
 use Rattle.volume_tables.proofs.StreamLemmas.{row_of-other}
 
@@ -151,6 +151,28 @@ IsTaken-put old new key masks less others = record {
   others = λ other differ. rw (others other (apart key other differ)) refl;
 }
 
+-- ---- each key has an open
+
+as-many : (one other : List (ℕ × ℕ)) → Some one ≡ Some other → length one ≡ length other
+as-many one other same = ap (λ (row : Option (List (ℕ × ℕ))). length (option_map_or (λ (held : List (ℕ × ℕ)). held) row [])) same
+
+-- one that has got an open
+pub more-opens : (row : Option (List (ℕ × ℕ))) (held : List (ℕ × ℕ)) (masks : ℕ × ℕ) → row ≡ Some (held ++ masks ∷ []) → row ≢ Some []
+more-opens row [] masks is none = let many = as-many (masks ∷ []) [] (sym is ∙ none) in absurd (omega (arith, many))
+more-opens row (x ∷ held) masks is none = let many = as-many ((x ∷ held) ++ masks ∷ []) [] (sym is ∙ none) in absurd (omega (arith, many))
+
+-- one that has some left
+pub some-opens : (row : Option (List (ℕ × ℕ))) (left : List (ℕ × ℕ)) → row ≡ Some left → (length left == 0) ≡ false → row ≢ Some []
+some-opens row [] is some none = absurd (false≢true (sym some))
+some-opens row (x ∷ left) is some none = let many = as-many (x ∷ left) [] (sym is ∙ none) in absurd (omega (arith, many))
+
+pub HaveOpens-put : (old new : List (ℕ × List (ℕ × ℕ))) (key : ℕ) → HaveOpens old → row_of new key ≢ Some [] → ((other : ℕ) → (other == key) ≡ false → row_of new other ≡ row_of old other) → HaveOpens new
+HaveOpens-put old new key are here others other none =
+    elim (cases_Bool (other == key)) [
+      | inl is ↦ here (ap (row_of new) (sym (eqb-true other key is)) ∙ none)
+      | inr differ ↦ are other (sym (others other differ) ∙ none)
+    ]
+
 empty-list : {X : Type 0} (xs : List X) → length xs ≡ 0 → xs ≡ []
 empty-list [] none = refl
 empty-list (x ∷ xs) none = absurd (omega arith)
@@ -171,4 +193,14 @@ module _ (old new : ℕ → Option (List (ℕ × ℕ))) (places : List (ℕ × �
         | inl here ↦ (let same : other ≡ key = eqb-true other key here in
             rw same (held_in-none (without_row (rows_by old places) key) key (row_of-out (rows_by old places) key) ∙ sym (empty-list (held_in (rows_by old places) key) none)))
         | inr differ ↦ rw (row_of-without (rows_by old places) key other differ) refl
+      ]
+
+  pub opens-out : ((other : ℕ) → (other == key) ≡ false → row_of (rows_by old places) other ≢ Some []) → HaveOpens (rows_by new (remove places i))
+  opens-out have other none =
+      let rows : rows_by new (remove places i) ≡ without_row (rows_by old places) key = rows-removed old new places last key i e placed found-at others in
+      let left : row_of (without_row (rows_by old places) key) other ≡ Some [] = ap (λ (rs : List (ℕ × List (ℕ × ℕ))). row_of rs other) (sym rows) ∙ none in
+      elim (cases_Bool (other == key)) [
+        | inl here ↦ (let out : row_of (without_row (rows_by old places) key) other ≡ None = ap (row_of (without_row (rows_by old places) key)) (eqb-true other key here) ∙ row_of-out (rows_by old places) key in
+            absurd (false≢true (ap (λ (row : Option (List (ℕ × ℕ))). is_some row) (sym out ∙ left))))
+        | inr differ ↦ have other differ (sym (row_of-without (rows_by old places) key other differ) ∙ left)
       ]

@@ -1,5 +1,5 @@
 -- The opens that are held under keys, each a pair of its access and its share.
-use Rattle.std.specs.Prelude.{◌≡◌, ℕ, Bool, true, false, List, [], ◌∷◌, ◌++◌, IsPermutation}
+use Rattle.std.specs.Prelude.{◌≡◌, ◌≢◌, ℕ, Bool, true, false, List, [], ◌∷◌, ◌++◌, Some, IsPermutation}
 use Rattle.std.specs.Option.{option_map_or}
 use Rattle.slab.specs.Slab.{Slab, get}
 use Rattle.fsa_types.specs.Rows.{row_of}
@@ -12,6 +12,10 @@ pub record Shares : Type 0 where
 -- the opens of a key; none where it isn't there
 abbrev pub held_in : List (ℕ × List (ℕ × ℕ)) → ℕ → List (ℕ × ℕ)
 held_in rows key = option_map_or (λ held. held) (row_of rows key) []
+
+-- each key that is there has an open
+abbrev pub HaveOpens : List (ℕ × List (ℕ × ℕ)) → Type 0
+HaveOpens rows = (key : ℕ) → row_of rows key ≢ Some []
 
 -- the opens in a slot of a slab; none where it is free
 abbrev pub held_at : Slab (List (ℕ × ℕ)) → ℕ → List (ℕ × ℕ)

@@ -1,11 +1,12 @@
 //! Which opens are held under keys, as counts of what they do and share.
 
-ghost use Rattle.std.specs.Prelude.{◌≡◌, ◌≢◌, ◌==◌, ◌≤◌, ◌<◌, ◌+◌, ◌-◌, ◌^◌, ℕ, AllPairs, Contains, IsPermutation, Some, [], ◌∷◌, ◌++◌, IfErr, IfOk, OnOk, length};
+ghost use Rattle.std.specs.Prelude.{◌≡◌, ◌≢◌, ◌==◌, ◌≤◌, ◌<◌, ◌+◌, ◌-◌, ◌^◌, ℕ, AllPairs, Contains, IsPermutation, Some, [], ◌∷◌, ◌++◌, false, IfErr, IfOk, OnOk, length};
 ghost use Rattle.slab.specs.Slab.{ContainsKey, HasRoomFor, Updates, get, slab_len};
 ghost use Rattle.fsa_types.specs.Places.{IsAt, StandsAt};
+ghost use Rattle.fsa_types.specs.Rows.{row_of};
 ghost use Rattle.fsa_types.specs.Sharing.{clashes};
 ghost use Rattle.object_tables.specs.Places.{ArePlaced, rows_in};
-ghost use Rattle.volume_tables.specs.ShareTable.{IsAdded, IsTaken, held_at, held_in};
+ghost use Rattle.volume_tables.specs.ShareTable.{HaveOpens, IsAdded, IsTaken, held_at, held_in};
 
 use fsa_types::NoMemory;
 use object_tables::ShiftList;
@@ -14,9 +15,9 @@ use std::alloc::Global;
 use std::marker::Model;
 use tallies::ShareCounts;
 
-/// For each key the opens that are held under it, as counts. A key goes with its last open, which no clause says; one
-/// is found in time logarithmic in the keys; where one comes or goes, 16 bytes move of each of those before it or of
-/// those behind it, whichever are fewer.
+/// For each key the opens that are held under it, as counts. A key goes with its last open: each one that is there has
+/// some. It is found in time logarithmic in the keys; where one comes or goes, 16 bytes move of each of those before it
+/// or of those behind it, whichever are fewer.
 #[derive(Debug, Drop)]
 pub struct ShareTable {
     // Each key with the slot of its counts, by rising key.
@@ -28,13 +29,13 @@ impl Model for ShareTable {
     ghost use Rattle.object_tables.specs.Places.{ArePlaced, rows_in};
     ghost use Rattle.slab.specs.Slab.{get, slab_len};
     ghost use Rattle.std.specs.Prelude.{◌-◌, ◌^◌, min};
-    ghost use Rattle.volume_tables.specs.ShareTable.{Shares};
+    ghost use Rattle.volume_tables.specs.ShareTable.{HaveOpens, Shares};
 
     ghost Value = { Shares };
 
     ghost view = { λ t. record { rows = rows_in t.counts t.places.items; room = min t.places.room (t.counts.capacity - slab_len t.counts) } };
 
-    ghost invariant = { λ t. ArePlaced (get t.counts) t.places.items (2 ^ 64) };
+    ghost invariant = { λ t. ArePlaced (get t.counts) t.places.items (2 ^ 64) × HaveOpens (rows_in t.counts t.places.items) };
 }
 
 impl ShareTable {
@@ -150,7 +151,9 @@ fn add_at(
     requires placed { ArePlaced (get counts.old) places.now.items (2 ^ 64) }
     requires there { IsAt places.now.items key place }
     requires few { length (held_in (rows_in counts.old places.now.items) key) < 2 ^ 64 - 1 }
+    requires opens { HaveOpens (rows_in counts.old places.now.items) }
     ensures placed { ArePlaced (get counts.new) places.now.items (2 ^ 64) }
+    ensures opens { HaveOpens (rows_in counts.new places.now.items) }
     ensures added { IsAdded (λ other. key == other) (rows_in counts.old places.now.items) (rows_in counts.new places.now.items) (access, share) }
     ensures len { slab_len counts.new ≡ slab_len counts.old }
     ensures capacity { counts.new.capacity ≡ counts.old.capacity }
@@ -172,7 +175,9 @@ fn insert_at(
     requires missing { StandsAt places.old.items key place }
     requires room { 1 ≤ places.old.room }
     requires slots { HasRoomFor counts.old 1 }
+    requires opens { HaveOpens (rows_in counts.old places.old.items) }
     ensures placed { ArePlaced (get counts.new) places.new.items (2 ^ 64) }
+    ensures opens { HaveOpens (rows_in counts.new places.new.items) }
     ensures added { IsAdded (λ other. key == other) (rows_in counts.old places.old.items) (rows_in counts.new places.new.items) (access, share) }
     ensures left { places.old.room ≤ places.new.room + 1 }
     ensures len { slab_len counts.new ≡ slab_len counts.old + 1 }
@@ -218,7 +223,10 @@ fn remove_at(
     requires placed { ArePlaced (get counts.old) places.now.items (2 ^ 64) }
     requires there { IsAt places.now.items key place }
     requires held { Contains (held_in (rows_in counts.old places.now.items) key) (access, share) }
+    requires opens { HaveOpens (rows_in counts.old places.now.items) }
     ensures placed { ArePlaced (get counts.new) places.now.items (2 ^ 64) }
+    ensures opens { result ≡ false → HaveOpens (rows_in counts.new places.now.items) }
+    ensures others { (other : ℕ) → (other == key) ≡ false → row_of (rows_in counts.new places.now.items) other ≢ Some [] }
     ensures taken { IsTaken (λ other. key == other) (rows_in counts.old places.now.items) (rows_in counts.new places.now.items) (access, share) }
     ensures empty { result ≡ (length (held_in (rows_in counts.new places.now.items) key) == 0) }
     ensures len { slab_len counts.new ≡ slab_len counts.old }
@@ -238,7 +246,9 @@ fn take_out(
     requires placed { ArePlaced (get counts.old) places.old.items (2 ^ 64) }
     requires there { IsAt places.old.items key place }
     requires empty { length (held_in (rows_in counts.old places.old.items) key) ≡ 0 }
+    requires others { (other : ℕ) → (other == key) ≡ false → row_of (rows_in counts.old places.old.items) other ≢ Some [] }
     ensures placed { ArePlaced (get counts.new) places.new.items (2 ^ 64) }
+    ensures opens { HaveOpens (rows_in counts.new places.new.items) }
     ensures held { (other : ℕ) → held_in (rows_in counts.new places.new.items) other ≡ held_in (rows_in counts.old places.old.items) other }
     ensures room { places.old.room ≤ places.new.room }
     ensures len { slab_len counts.new ≤ slab_len counts.old }

@@ -1,6 +1,6 @@
 use Rattle.std.proofs.Common.{◌^◌, ℕ, is_some, ap, ◌∙◌}
 use Rattle.slab.specs.Slab.{get}
-use Rattle.volume_tables.proofs.ShareLemmas.{held-out, placed-out}
+use Rattle.volume_tables.proofs.ShareLemmas.{held-out, opens-out, placed-out}
 use Rattle.volume_tables.proofs.share_table.take_out.Goals as goal
 
 pub remove-requires : goal.remove-requires
@@ -19,3 +19,9 @@ returns-clause-held c =
     let read = c.remove-slot.ensures.value in
     rw c.remove-slot.ensures.items (held-out (get c.args.counts.now) (get c.remove.new.self) c.args.places.now.items (2 ^ 64) c.args.key c.args.place c.remove-slot.result c.requires.placed c.requires.there
     (λ other differs. c.remove.ensures.updates.others other (λ same. differs (same ∙ ap (λ (e : ℕ × ℕ). e.1) read))) c.requires.empty)
+
+pub returns-clause-opens : goal.returns-clause-opens
+returns-clause-opens c =
+    let read = c.remove-slot.ensures.value in
+    rw c.remove-slot.ensures.items (opens-out (get c.args.counts.now) (get c.remove.new.self) c.args.places.now.items (2 ^ 64) c.args.key c.args.place c.remove-slot.result c.requires.placed c.requires.there
+    (λ other differs. c.remove.ensures.updates.others other (λ same. differs (same ∙ ap (λ (e : ℕ × ℕ). e.1) read))) c.requires.others)

@@ -12,7 +12,7 @@ pub returns-in-Err : goal.returns-in-Err
 returns-in-Err c =
     let i = c.self.inside in
     let at : StandsAt i.places.items c.args.key c.in-Err.field-0 = rw c.as_slice.ensures at c.in-Err.ensures.missing in
-    let none = held_in-none (rows_in i.counts i.places.items) c.args.key (row-none (get i.counts) i.places.items (2 ^ 64) c.args.key c.in-Err.field-0 c.self.invariant at) in
+    let none = held_in-none (rows_in i.counts i.places.items) c.args.key (row-none (get i.counts) i.places.items (2 ^ 64) c.args.key c.in-Err.field-0 c.self.invariant.0 at) in
     rw (← c.self.view_is) (ap (λ (held : List (ℕ × ℕ)). clashes held c.args.access c.args.share) (sym none))
 
 pub returns-in-Ok : goal.returns-in-Ok
@@ -21,5 +21,5 @@ returns-in-Ok c =
     let at : IsAt i.places.items c.args.key c.in-Ok.place = rw c.as_slice.ensures at c.in-Ok.ensures.there in
     let under : (get_or i.places.items c.in-Ok.place c.at.result).1 ≡ c.at.result.1 = ap (λ (e : ℕ × ℕ). e.1) (sym c.at.ensures) in
     let was : held_in (rows_in i.counts i.places.items) c.args.key ≡ held_at i.counts c.at.result.1
-    = ap (λ row. option_map_or (λ (held : List (ℕ × ℕ)). held) row []) (row-in (get i.counts) i.places.items (2 ^ 64) c.args.key c.at.result.1 c.in-Ok.place c.at.result c.self.invariant at under) in
+    = ap (λ row. option_map_or (λ (held : List (ℕ × ℕ)). held) row []) (row-in (get i.counts) i.places.items (2 ^ 64) c.args.key c.at.result.1 c.in-Ok.place c.at.result c.self.invariant.0 at under) in
     rw (← c.self.view_is) (c.clashes_in.ensures ∙ ap (λ (held : List (ℕ × ℕ)). clashes held c.args.access c.args.share) (sym was))
