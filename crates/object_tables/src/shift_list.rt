@@ -120,12 +120,12 @@ impl<T: Copy> ShiftList<T> {
         self.slots.push_reserved(item);
     }
 
-    /// Takes the item at a place out. It takes no memory, and leaves the room as it was or larger.
+    /// Takes the item at a place out. It takes no memory, and leaves room for one more than before.
     pub fn remove(&mut self, place: usize) -> T
         requires { place < length self.old.items }
         ensures value { result ≡ slice_index_or self.old.items place result }
         ensures items { self.new.items ≡ remove self.old.items place }
-        ensures room { self.old.room ≤ self.new.room }
+        ensures room { self.old.room + 1 ≤ self.new.room }
     {
         let behind = self.slots.len() - self.start - place;
         if place < behind {

@@ -40,7 +40,8 @@
 //!
 //! `NameIndex` has the numbers of all links in the order of their directories and names, beside the table that has
 //! the names; `LinkTable` keeps one. It has the head of each too, the directory and the first units in one number,
-//! among which a name is searched: mostly one row is looked up, and none where no head is that of the name.
+//! among which a name is searched: mostly one row is looked up, and none where no head is that of the name. Where a
+//! name comes or goes, 24 bytes move of each of those before it or of those behind it, whichever are fewer.
 //!
 //! - It asks that room was reserved and that numbers are left; `add_lock` asks that the handle has a
 //!   stream, and not whether the range conflicts with another. A tally asks that owners are admitted, that

@@ -17,7 +17,7 @@ ghost use Rattle.volume_tables.specs.Names.{IsBegin, IsByName, link_at, link_key
 use crate::beginning::beginning_with;
 use crate::head::head_of;
 use fsa_types::{NoMemory, UpcaseTable};
-use object_tables::Table;
+use object_tables::{ShiftList, Table};
 use std::alloc::Global;
 use std::cmp::Ordering;
 use std::marker::Model;
@@ -28,19 +28,18 @@ use volume_rows::LinkRow;
 /// by, so that the search of a name looks at few of them.
 #[derive(Debug, Drop)]
 pub struct NameIndex {
-    numbers: Vec<u64>,
+    numbers: ShiftList<u64>,
     // The directory and the first units of each, packed.
-    heads: Vec<u128>,
+    heads: ShiftList<u128>,
 }
 
 impl Model for NameIndex {
-    ghost use Rattle.std.specs.Prelude.{◌-◌, min};
-    ghost use Rattle.std.specs.Vec.{vec_capacity, vec_len};
+    ghost use Rattle.std.specs.Prelude.{min};
     ghost use Rattle.volume_tables.specs.Names.{Numbers};
 
     ghost Value = { Numbers };
 
-    ghost view = { λ n. record { numbers = n.numbers.items; heads = n.heads.items; room = min (vec_capacity n.numbers - vec_len n.numbers) (vec_capacity n.heads - vec_len n.heads) } };
+    ghost view = { λ n. record { numbers = n.numbers.items; heads = n.heads.items; room = min n.numbers.room n.heads.room } };
 }
 
 impl NameIndex {
@@ -50,8 +49,8 @@ impl NameIndex {
         ensures heads { result.heads ≡ [] }
     {
         NameIndex {
-            numbers: Vec::new(alloc),
-            heads: Vec::new(alloc),
+            numbers: ShiftList::new(alloc),
+            heads: ShiftList::new(alloc),
         }
     }
 
@@ -79,7 +78,14 @@ impl NameIndex {
         requires heads { AreHeads table.now links.now.rows self.now.heads }
         ensures { result ≡ option_map (λ entry. entry.0) (find (λ entry. is_named table.now parent units.now entry.1) links.now.rows) }
     {
-        find_child(&self.heads, &self.numbers, links, table, parent, units)
+        find_child(
+            self.heads.as_slice(),
+            self.numbers.as_slice(),
+            links,
+            table,
+            parent,
+            units,
+        )
     }
 
     /// The numbers of the links of a directory whose names are greater than that one, in the order of names; of all of
@@ -95,7 +101,14 @@ impl NameIndex {
         requires heads { AreHeads table.now links.now.rows self.now.heads }
         ensures { result.now ≡ map (λ entry. entry.0) (links_after table.now dir (option_copied after.entry) links.now.rows) }
     {
-        find_children_after(&self.heads, &self.numbers, links, table, dir, after)
+        find_children_after(
+            self.heads.as_slice(),
+            self.numbers.as_slice(),
+            links,
+            table,
+            dir,
+            after,
+        )
     }
 
     /// Those of these numbers whose links have names that begin with these units, in the same order.
@@ -172,7 +185,14 @@ impl NameIndex {
         match links.get(id) {
             None => {}
             Some(row) => {
-                let place = place_of_link(&self.heads, &self.numbers, links, table, id, row);
+                let place = place_of_link(
+                    self.heads.as_slice(),
+                    self.numbers.as_slice(),
+                    links,
+                    table,
+                    id,
+                    row,
+                );
                 let _ = self.numbers.remove(place);
                 let _ = self.heads.remove(place);
             }
@@ -196,13 +216,16 @@ impl NameIndex {
         ensures heads { (file : ℕ) (deleted : Bool) → self.new.heads ≡ map (link_head table.now) (put_in_order (is_key_before (link_key table.now)) (id, record { parent = dir; name = units.now; file = file; deleted = deleted }) (links_at links.now.rows self.old.numbers)) }
         ensures left { self.old.room ≤ self.new.room + 1 }
     {
-        let place = place_for(&self.heads, &self.numbers, links, table, dir, units);
-        let Ok(()) = self.numbers.insert(place, id) else {
-            unreachable!()
-        };
-        let Ok(()) = self.heads.insert(place, head_of(table, dir, units)) else {
-            unreachable!()
-        };
+        let place = place_for(
+            self.heads.as_slice(),
+            self.numbers.as_slice(),
+            links,
+            table,
+            dir,
+            units,
+        );
+        self.numbers.insert(place, id);
+        self.heads.insert(place, head_of(table, dir, units));
     }
 }
 
