@@ -1,6 +1,6 @@
 -- Items that begin at a slot: what an edit of the slots is to them.
 use Rattle.std.proofs.Common.{ℕ, List, ◌≡◌, ◌<◌, ◌≤◌, ◌+◌, ◌-◌, ◌++◌, ◌∷◌, ◌∙◌, suc, ap, arith, drop, length, length-append, length-drop, set, sym, take}
-use Rattle.std.proofs.lemmas.List.{append_assoc, drop-append-le, drop-drop, drop-set-add, drop-take, drop_at, drop_more, length-take-le, set_at, take_at, take_rest}
+use Rattle.std.proofs.lemmas.List.{append_assoc, drop-append-le, drop-drop, drop-set-add, drop-take, drop_at, drop_more, length-take-le, set_at, take-take, take_at, take_rest}
 use Rattle.std.specs.List.{insert, remove}
 use lib.Seq.{paste}
 
@@ -38,6 +38,34 @@ module _ {T : Type 0} (xs : List T) where
   take-before start place within =
       let all : start + 1 + place ≡ start + suc place = omega arith in
       pasted (start + 1) start place (omega arith) ∙ ap (λ (ys : List T). take place (drop start xs) ++ ys) (ap (λ k. drop k xs) all ∙ sym (drop-drop (suc place) start xs))
+
+  -- the items from `start` up to a place go round by one, so that the last of them comes first
+  turned : (start place count : ℕ) (ys : List T) → start + place < length xs → count ≡ suc place → length (take count (drop start xs)) ≡ suc place
+      → ys ≡ drop (length (take count (drop start xs)) - 1) (take count (drop start xs)) ++ take (length (take count (drop start xs)) - 1) (take count (drop start xs))
+      → drop (start + 1) (take start xs ++ (ys ++ drop count (drop start xs))) ≡ remove (drop start xs) place
+  turned start place count ys within many long now =
+      let zs = drop start xs in
+      let part = take count zs in
+      let less : length part - 1 ≡ place = omega (arith, long) in
+      let last : length (drop place part) ≡ 1 = omega (arith, length-drop place part, long) in
+      sym (drop-drop 1 start (take start xs ++ (ys ++ drop count zs)))
+      ∙ ap (drop 1) (drop_at (take start xs) (ys ++ drop count zs) start (length-take-le start xs (omega arith)))
+      ∙ ap (λ (l : List T). drop 1 (l ++ drop count zs)) (now ∙ ap (λ k. drop k part ++ take k part) less)
+      ∙ ap (drop 1) (append_assoc (drop place part) (take place part) (drop count zs))
+      ∙ drop_at (drop place part) (take place part ++ drop count zs) 1 last
+      ∙ ap (λ (l : List T). l ++ drop count zs) (take-take place count zs (omega arith))
+      ∙ ap (λ k. take place zs ++ drop k zs) many
+
+  -- the same in a vector that holds as many, whatever stands behind them
+  pub put-first : (start place count len : ℕ) (ys rest : List T) → start + place < length xs → count ≡ suc place → len ≡ length xs → length ys ≡ length (take count (drop start xs))
+      → ys ≡ drop (length (take count (drop start xs)) - 1) (take count (drop start xs)) ++ take (length (take count (drop start xs)) - 1) (take count (drop start xs))
+      → drop (start + 1) (take len ((take start xs ++ (ys ++ drop count (drop start xs))) ++ rest)) ≡ remove (drop start xs) place
+  put-first start place count len ys rest within many all same now =
+      let zs = drop start xs in
+      let long : length (take count zs) ≡ suc place = length-take-le count zs (omega (arith, length-drop start xs)) ∙ many in
+      let whole : length (take start xs ++ (ys ++ drop count zs)) ≡ len
+      = omega (arith, length-append (take start xs) (ys ++ drop count zs), length-append ys (drop count zs), length-take-le start xs (omega arith), length-drop count zs, length-drop start xs) in
+      ap (drop (start + 1)) (take_at (take start xs ++ (ys ++ drop count zs)) rest len whole) ∙ turned start place count ys within many long now
 
   -- those behind a place go down by one, over the one that stands there
   pub take-behind : (start place : ℕ) → start + place < length xs → drop start (remove xs (start + place)) ≡ remove (drop start xs) place

@@ -1,4 +1,5 @@
 pub mod Lends
+pub mod LentItem
 pub mod Next
 pub mod Places
 pub mod Series

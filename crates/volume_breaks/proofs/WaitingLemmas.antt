@@ -1,15 +1,15 @@
 -- Whether some pending call waits for another, and where the row of a turn stands.
 use Rattle.std.proofs.Common.{◌≡◌, ℕ, zero, suc, ◌<◌, ◌∙◌, Bool, true, false, List, [], ◌∷◌, ◌++◌, length, get_or, refl, ap, sym, arith, inl, inr, Some, None}
-use Rattle.std.specs.List.{filter, position}
+use Rattle.std.specs.List.{filter, position, remove}
 use Rattle.std.specs.Prelude.{◌==◌, ◌||◌, ◌&&◌, option_map}
 use Rattle.std.proofs.lemmas.Bool.{cases_Bool, eqb-true, false≢true}
 use Rattle.std.proofs.lemmas.List.Folds.{list_any-append}
 use Rattle.fsa_types.proofs.RowLemmas.{IsAt-position, row_of-none}
-use Rattle.fsa_types.specs.Rows.{row_of, with_row_changed}
+use Rattle.fsa_types.specs.Rows.{row_of, with_row_changed, without_row}
 use Rattle.fsa_types.specs.declared.reply.Blocker.{Blocker}
 use Rattle.fsa_model.specs.Volume.{Pending}
 use Rattle.fsa_model.specs.Waiting.{is_wait}
-use Rattle.pending_queue.proofs.CountLemmas.{place-is, row-at}
+use Rattle.pending_queue.proofs.CountLemmas.{place-is, removed-at, row-at}
 use Rattle.volume_breaks.specs.Calls.{has_wait, is_at}
 use Rattle.volume_breaks.proofs.CallLemmas.{AllDiffer}
 
@@ -67,6 +67,13 @@ pub row-there : (rows : List (ℕ × Pending)) (place turn : ℕ) (d : ℕ × Pe
 row-there rows place turn d differ found =
     let at = IsAt-position rows turn place d found in
     sym (row-at rows turn place d differ at.within (at.here d))
+
+-- the list without the row at its place is the one without the row of its turn
+pub removed-there : (rows : List (ℕ × Pending)) (place turn : ℕ) → AllDiffer rows → position (λ e. e.0 == turn) rows ≡ Some place → remove rows place ≡ without_row rows turn
+removed-there [] place turn differ found = cc
+removed-there (row ∷ rows) place turn differ found =
+    let at = IsAt-position (row ∷ rows) turn place row found in
+    removed-at (row ∷ rows) turn place row differ at.within (at.here row)
 
 -- the call of the row at its place
 pub call-at : (rows : List (ℕ × Pending)) (place turn : ℕ) (d : ℕ × Pending) → AllDiffer rows → position (λ e. e.0 == turn) rows ≡ Some place

@@ -43,9 +43,9 @@ is_at pending place turn = option_map_or (λ entry. entry.0 == turn) (slice_get 
 abbrev pub IsBehind : List (ℕ × Pending) → ℕ → Type 0
 IsBehind pending turn = (k : ℕ) (d : ℕ × Pending) → suc k ≡ length pending → (get_or pending k d).0 < turn
 
--- the list has places for all calls and for those to come, and the queue for as many more, and for their blockers
-pub record HasPlaces (in_all places room calls blockers waited : ℕ) : Type 0 where
-  pub rows_fit : in_all ≤ places
+-- the list has places for the calls to come, and the queue for as many, and for their blockers
+pub record HasPlaces (room places calls blockers waited : ℕ) : Type 0 where
+  pub rows_fit : room ≤ places
   pub calls_fit : room ≤ calls
   pub blockers_fit : blockers ≤ waited
 

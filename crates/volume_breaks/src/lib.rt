@@ -39,7 +39,9 @@
 //!   which their handles were opened, else by a look at each; and all are looked at where one ends.
 //! - The next pending call, and the call of a turn, are found by halves as long as calls came in the order of
 //!   their turns; once one didn't, or where no call has the turn, by a look at each. As long as they did, a call of a
-//!   client, and the first one that names a handle, are found by an index, without a look at the others.
+//!   client, and the first one that names a handle, are found by an index, without a look at the others. A call that ends
+//!   moves the calls before it or those behind it, whichever are fewer. What it holds may be kept until others end, for
+//!   fewer ended calls than there are pending ones.
 //! - The end of a call is looked for among those that have the slot of its number, of which there are half as many
 //!   as there is room for ends. Where that room is used up as much again is taken, and all ends are linked anew.
 #![tactic(auto)]

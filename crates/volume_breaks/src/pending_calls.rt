@@ -1,8 +1,7 @@
 //! The pending calls of a volume, with the queue of those that are held.
 
-ghost use Rattle.std.specs.Prelude.{ℕ, Bool, ◌≡◌, ◌≤◌, ◌<◌, ◌+◌, ◌++◌, ◌∷◌, [], ◌==◌, ◌&&◌, ◌||◌, not, true, false, filter, find, length, nat_lt, option_map, position, slice_get, All, AllPairs, IsTrue, OnOk, if◌then◌else◌};
+ghost use Rattle.std.specs.Prelude.{ℕ, Bool, ◌≡◌, ◌≤◌, ◌<◌, ◌+◌, ◌++◌, ◌∷◌, [], ◌==◌, ◌&&◌, ◌||◌, not, true, false, filter, find, length, nat_lt, option_map, position, slice_get, Some, All, AllPairs, IsTrue, OnOk, if◌then◌else◌};
 ghost use Rattle.std.specs.Option.{option_copied, option_map_or};
-ghost use Rattle.std.specs.Vec.{vec_capacity, vec_len};
 ghost use Rattle.fsa_types.specs.Rows.{IsNumbered, lives, row_of, with_row_changed, without_row};
 ghost use Rattle.fsa_types.specs.declared.reply.Blocker.{Blocker};
 ghost use Rattle.fsa_model.specs.Edits.{is_call};
@@ -17,6 +16,7 @@ ghost use Rattle.volume_breaks.specs.Calls.{AreCalls, AreHeld, IsBehind, StayHel
 
 use crate::call_index::{CallIndex, names};
 use fsa_types::{Blocker, BlockerList, Call, NoMemory, What};
+use object_tables::ShiftRows;
 use pending_queue::PendingQueue;
 use std::alloc::Global;
 use std::marker::Model;
@@ -28,7 +28,7 @@ use volume_rows::{PendingRow, find_next_pending, is_call};
 /// was taken stays as it is where calls and blockers go.
 #[derive(Drop)]
 pub struct PendingCalls {
-    rows: Vec<(u64, PendingRow)>,
+    rows: ShiftRows<(u64, PendingRow)>,
     queue: PendingQueue,
     // For how many more calls there is room.
     room: usize,
@@ -43,8 +43,7 @@ pub struct PendingCalls {
 }
 
 impl Model for PendingCalls {
-    ghost use Rattle.std.specs.Prelude.{◌≡◌, ◌+◌, ◌≤◌};
-    ghost use Rattle.std.specs.Vec.{vec_capacity, vec_len};
+    ghost use Rattle.std.specs.Prelude.{◌≡◌, ◌≤◌};
     ghost use Rattle.key_index.specs.RowsByKey.{IsIndexOf};
     ghost use Rattle.std.specs.Prelude.{true};
     ghost use Rattle.volume_breaks.specs.CallIndex.{row_call_key, row_handle_key};
@@ -54,7 +53,7 @@ impl Model for PendingCalls {
 
     ghost view = { λ p. record { items = p.rows.items; held = p.queue.held; room = p.room; blockers = p.blockers } };
 
-    ghost invariant = { λ p. AreCalls p.rows.items × HasPlaces (vec_len p.rows + p.room) (vec_capacity p.rows) p.room p.queue.room_for_calls p.blockers p.queue.room_for_blockers × AreInOrder p.rising p.rows.items × (p.waiting ≡ has_wait p.rows.items) × (p.rising ≡ true → IsIndexOf row_call_key p.rows.items p.turns.calls) × (p.rising ≡ true → IsIndexOf row_handle_key p.rows.items p.turns.handles) × p.room ≤ p.turns.room };
+    ghost invariant = { λ p. AreCalls p.rows.items × HasPlaces p.room p.rows.room p.queue.room_for_calls p.blockers p.queue.room_for_blockers × AreInOrder p.rising p.rows.items × (p.waiting ≡ has_wait p.rows.items) × (p.rising ≡ true → IsIndexOf row_call_key p.rows.items p.turns.calls) × (p.rising ≡ true → IsIndexOf row_handle_key p.rows.items p.turns.handles) × p.room ≤ p.turns.room };
 }
 
 impl PendingCalls {
@@ -64,7 +63,7 @@ impl PendingCalls {
         ensures held { result.held ≡ [] }
     {
         PendingCalls {
-            rows: Vec::new(alloc),
+            rows: ShiftRows::new(alloc),
             queue: PendingQueue::new(alloc),
             room: 0,
             blockers: 0,
@@ -124,7 +123,7 @@ impl PendingCalls {
     pub fn call_of(&self, turn: u64) -> Option<&Call>
         ensures { option_copied result ≡ option_map (λ row. row.call) (row_of self.now.items turn) }
     {
-        call_of(&self.rows, turn)
+        call_of(self.rows.as_slice(), turn)
     }
 
     /// Whether some call waits for another.
@@ -139,9 +138,9 @@ impl PendingCalls {
         ensures { result ≡ option_map (λ entry. entry.0) (find (is_next_turn self.now.items after) self.now.items) }
     {
         if self.rising {
-            first_above(&self.rows, after)
+            first_above(self.rows.as_slice(), after)
         } else {
-            find_next_pending(&self.rows, after)
+            find_next_pending(self.rows.as_slice(), after)
         }
     }
 
@@ -160,7 +159,7 @@ impl PendingCalls {
         if self.rising {
             find_call(self, self.turns.of_call(client, number), client, number)
         } else {
-            seek_call(&self.rows, client, number)
+            seek_call(self.rows.as_slice(), client, number)
         }
     }
 
@@ -172,7 +171,7 @@ impl PendingCalls {
         if self.rising {
             find_naming(self, self.turns.of_handle(client, handle), client, handle)
         } else {
-            seek_naming(&self.rows, client, handle)
+            seek_naming(self.rows.as_slice(), client, handle)
         }
     }
 
@@ -180,7 +179,7 @@ impl PendingCalls {
     fn row_under(&self, turn: u64) -> Option<&PendingRow>
         ensures { option_copied result ≡ row_of self.now.items turn }
     {
-        row_under(&self.rows, turn)
+        row_under(self.rows.as_slice(), turn)
     }
 
     /// A call is pending under this turn, and held by these blockers where there are any. Room has to be
@@ -195,15 +194,13 @@ impl PendingCalls {
         ensures left { self.old.room ≤ self.new.room + 1 }
         ensures places_left { self.old.blockers ≤ self.new.blockers + length blockers.items }
     {
-        self.rising = stays_rising(self.rising, &self.rows, turn);
+        self.rising = stays_rising(self.rising, self.rows.as_slice(), turn);
         self.waiting = waits_with(self.waiting, &call.what);
         hold(&mut self.queue, turn, blockers.as_slice());
         self.room -= 1;
         self.blockers -= blockers.len();
         self.turns.add(turn, &call);
-        let Ok(()) = self.rows.push((turn, PendingRow { call, blockers })) else {
-            unreachable!()
-        };
+        self.rows.push((turn, PendingRow { call, blockers }));
     }
 
     /// The call that is held under this turn is held by these blockers instead, of which there has to be
@@ -241,7 +238,7 @@ impl PendingCalls {
     {
         self.queue.remove(turn);
         drop_row(&mut self.rows, &mut self.turns, turn);
-        self.waiting = still_waits(self.waiting, &self.rows);
+        self.waiting = still_waits(self.waiting, self.rows.as_slice());
     }
 
     /// A break or a lock has ended: no call waits for it any more.
@@ -412,39 +409,31 @@ fn find_naming(
         .map(|entry| entry.1)
 }
 
-// Takes the row of this turn out.
-fn take_row(rows: &mut Vec<(u64, PendingRow)>, turn: u64) -> Option<PendingRow>
-    requires differ { AllPairs (λ a b. (a.0 == b.0) ≡ false) rows.old.items }
-    ensures row { result ≡ row_of rows.old.items turn }
-    ensures items { rows.new.items ≡ without_row rows.old.items turn }
-    ensures few { vec_len rows.new ≤ vec_len rows.old }
-    ensures room { vec_capacity rows.new ≡ vec_capacity rows.old }
-{
-    match place_of(rows, turn) {
-        None => None,
-        Some(place) => {
-            let entry = rows.remove(place);
-            Some(entry.1)
-        }
-    }
-}
-
 // Takes the row of this turn out, and its turn out of the index.
-fn drop_row(rows: &mut Vec<(u64, PendingRow)>, turns: &mut CallIndex, turn: u64)
+fn drop_row(rows: &mut ShiftRows<(u64, PendingRow)>, turns: &mut CallIndex, turn: u64)
     requires differ { AllPairs (λ a b. (a.0 == b.0) ≡ false) rows.old.items }
     ensures items { rows.new.items ≡ without_row rows.old.items turn }
-    ensures few { vec_len rows.new ≤ vec_len rows.old }
-    ensures room { vec_capacity rows.new ≡ vec_capacity rows.old }
+    ensures room { rows.old.room ≤ rows.new.room }
     ensures calls { (last : ℕ) → IsNumbered rows.old.items last → IsIndexOf row_call_key rows.old.items turns.old.calls → IsIndexOf row_call_key rows.new.items turns.new.calls }
     ensures handles { (last : ℕ) → IsNumbered rows.old.items last → IsIndexOf row_handle_key rows.old.items turns.old.handles → IsIndexOf row_handle_key rows.new.items turns.new.handles }
     ensures kept { turns.new.room ≡ turns.old.room }
 {
-    match take_row(rows, turn) {
-        None => {}
-        Some(row) => {
-            turns.remove(turn, &row.call);
-        }
+    if let Some(place) = place_of(rows.as_slice(), turn) {
+        forget_turn(rows.as_slice(), turns, place, turn);
+        rows.remove(place);
     }
+}
+
+// Takes the turn of the row at this place, which has to be the one of this turn, out of the index.
+fn forget_turn(rows: &[(u64, PendingRow)], turns: &mut CallIndex, place: usize, turn: u64)
+    requires differ { AllPairs (λ a b. (a.0 == b.0) ≡ false) rows.now }
+    requires there { position (λ entry. entry.0 == turn) rows.now ≡ Some place }
+    ensures calls { (last : ℕ) → IsNumbered rows.now last → IsIndexOf row_call_key rows.now turns.old.calls → IsIndexOf row_call_key (without_row rows.now turn) turns.new.calls }
+    ensures handles { (last : ℕ) → IsNumbered rows.now last → IsIndexOf row_handle_key rows.now turns.old.handles → IsIndexOf row_handle_key (without_row rows.now turn) turns.new.handles }
+    ensures kept { turns.new.room ≡ turns.old.room }
+{
+    let row = &rows[place].1;
+    turns.remove(turn, &row.call);
 }
 
 /// Whether a call waits for another.
@@ -526,14 +515,13 @@ fn call_of(rows: &[(u64, PendingRow)], turn: u64) -> Option<&Call>
 }
 
 // Puts these blockers in place of those of the row of this turn.
-fn set_blockers(rows: &mut Vec<(u64, PendingRow)>, turn: u64, blockers: BlockerList)
+fn set_blockers(rows: &mut ShiftRows<(u64, PendingRow)>, turn: u64, blockers: BlockerList)
     requires differ { AllPairs (λ a b. (a.0 == b.0) ≡ false) rows.old.items }
     ensures items { rows.new.items ≡ with_row_changed (λ row. record row { blockers = blockers.items }) rows.old.items turn }
-    ensures len { vec_len rows.new ≡ vec_len rows.old }
-    ensures room { vec_capacity rows.new ≡ vec_capacity rows.old }
+    ensures room { rows.new.room ≡ rows.old.room }
 {
-    if let Some(place) = place_of(rows, turn) {
-        set_in_row(&mut rows[place], blockers);
+    if let Some(place) = place_of(rows.as_slice(), turn) {
+        set_in_row(rows.at_mut(place), blockers);
     }
 }
 

@@ -1,25 +1,34 @@
-use Rattle.std.proofs.Common.{◌≡◌, Some, ap, refl, sym, ◌∙◌}
-use Rattle.fsa_types.specs.Rows.{row_of}
-use Rattle.fsa_model.specs.Volume.{Pending}
-use Rattle.fsa_model.proofs.RowLaws.{without_row-none}
+use Rattle.std.proofs.Common.{◌≡◌, Some, sym, ◌∙◌}
+use Rattle.std.specs.List.{position}
+use Rattle.std.specs.Prelude.{◌==◌}
+use Rattle.fsa_types.proofs.RowLemmas.{fails-none}
+use Rattle.pending_queue.proofs.CountLemmas.{without-none}
+use Rattle.volume_breaks.proofs.WaitingLemmas.{removed-there}
 use Rattle.volume_breaks.proofs.pending_calls.drop_row.Goals as goal
 
-pub returns-in-None-clause-calls : goal.returns-in-None-clause-calls
-returns-in-None-clause-calls c last numbered is =
-    rw (c.take_row.ensures.items, without_row-none c.args.rows.now.items c.args.turn (sym c.take_row.ensures.row ∙ c.in-None.is)) is
+pub forget_turn-requires-clause-there : goal.forget_turn-requires-clause-there
+forget_turn-requires-clause-there c = rw (c.as_slice-in-Some.ensures, ← c.as_slice.ensures) (sym c.place_of.ensures ∙ c.in-Some.is)
 
-pub returns-in-None-clause-handles : goal.returns-in-None-clause-handles
-returns-in-None-clause-handles c last numbered is =
-    rw (c.take_row.ensures.items, without_row-none c.args.rows.now.items c.args.turn (sym c.take_row.ensures.row ∙ c.in-None.is)) is
+pub returns-in-Some-clause-items : goal.returns-in-Some-clause-items
+returns-in-Some-clause-items c =
+    let rows = c.args.rows.now.items in
+    let found : position (λ e. e.0 == c.args.turn) rows ≡ Some c.in-Some.place = rw c.as_slice.ensures at (sym c.place_of.ensures ∙ c.in-Some.is) in
+    c.remove.ensures.items ∙ removed-there rows c.in-Some.place c.args.turn c.requires.differ found
 
 pub returns-in-Some-clause-calls : goal.returns-in-Some-clause-calls
 returns-in-Some-clause-calls c last numbered is =
-    let row : Pending = record { call = c.row.inside.call; blockers = c.row.inside.blockers.items } in
-    let found : row_of c.args.rows.now.items c.args.turn ≡ Some row = sym c.take_row.ensures.row ∙ c.in-Some.is ∙ ap Some (sym c.row.view_is) in
-    rw c.take_row.ensures.items (c.remove.ensures.calls c.args.rows.now.items last row numbered found refl is)
+    let rows = c.args.rows.now.items in
+    let found : position (λ e. e.0 == c.args.turn) rows ≡ Some c.in-Some.place = rw c.as_slice.ensures at (sym c.place_of.ensures ∙ c.in-Some.is) in
+    rw (c.remove.ensures.items, removed-there rows c.in-Some.place c.args.turn c.requires.differ found)
+    ((rw c.as_slice-in-Some.ensures at c.forget_turn.ensures.calls) last numbered is)
 
 pub returns-in-Some-clause-handles : goal.returns-in-Some-clause-handles
 returns-in-Some-clause-handles c last numbered is =
-    let row : Pending = record { call = c.row.inside.call; blockers = c.row.inside.blockers.items } in
-    let found : row_of c.args.rows.now.items c.args.turn ≡ Some row = sym c.take_row.ensures.row ∙ c.in-Some.is ∙ ap Some (sym c.row.view_is) in
-    rw c.take_row.ensures.items (c.remove.ensures.handles c.args.rows.now.items last row numbered found refl is)
+    let rows = c.args.rows.now.items in
+    let found : position (λ e. e.0 == c.args.turn) rows ≡ Some c.in-Some.place = rw c.as_slice.ensures at (sym c.place_of.ensures ∙ c.in-Some.is) in
+    rw (c.remove.ensures.items, removed-there rows c.in-Some.place c.args.turn c.requires.differ found)
+    ((rw c.as_slice-in-Some.ensures at c.forget_turn.ensures.handles) last numbered is)
+
+pub returns-in_default-clause-items : goal.returns-in_default-clause-items
+returns-in_default-clause-items c =
+    sym (without-none c.args.rows.now.items c.args.turn (fails-none c.args.rows.now.items c.args.turn (rw c.as_slice.ensures at (sym c.place_of.ensures ∙ c.in_default.is))))

@@ -16,12 +16,12 @@ invariant_of-self c =
     let rows = c.self.inside.rows.items in (
       rw c.drop_row.ensures.items (AreCalls-filter (λ entry. not (entry.0 == c.args.turn)) rows c.self.invariant.0),
       (let places = c.self.invariant.1 in record {
-        rows_fit = omega (arith, places.rows_fit, c.drop_row.ensures.few, c.drop_row.ensures.room);
+        rows_fit = omega (arith, places.rows_fit, c.drop_row.ensures.room);
         calls_fit = omega (arith, places.calls_fit, c.remove-self-inside.ensures.calls_kept);
         blockers_fit = omega (arith, places.blockers_fit, c.remove-self-inside.ensures.blockers_kept);
       }),
       rw c.drop_row.ensures.items (AreInOrder-filter c.self.inside.rising (λ entry. not (entry.0 == c.args.turn)) rows c.self.invariant.2),
-      rw (c.still_waits-self-inside.ensures, c.deref.ensures.value, c.drop_row.ensures.items) (has_wait-filter c.self.inside.waiting (λ entry. not (entry.0 == c.args.turn)) rows c.self.invariant.3),
+      rw (c.still_waits-self-inside.ensures, c.as_slice.ensures, c.drop_row.ensures.items) (has_wait-filter c.self.inside.waiting (λ entry. not (entry.0 == c.args.turn)) rows c.self.invariant.3),
       (λ is. c.drop_row.ensures.calls (sum_of rows) (IsNumbered-rise rows (c.self.invariant.2 is)) (c.self.invariant.4 is)),
       (λ is. c.drop_row.ensures.handles (sum_of rows) (IsNumbered-rise rows (c.self.invariant.2 is)) (c.self.invariant.5 is)),
       omega (arith, c.self.invariant.6, c.drop_row.ensures.kept),

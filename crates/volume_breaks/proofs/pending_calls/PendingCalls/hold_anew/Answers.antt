@@ -16,7 +16,7 @@ invariant_of-self c = (
       let waiting = rw c.as_slice.ensures at c.in-Ok.ensures.blockers_left in
       let calls = rw (rw (← c.self.view_is) at c.requires.held) at c.in-Ok.ensures.calls_left in
       record {
-        rows_fit = omega (arith, places.rows_fit, c.set_blockers.ensures.len, c.set_blockers.ensures.room);
+        rows_fit = omega (arith, places.rows_fit, c.set_blockers.ensures.room);
         calls_fit = omega (arith, places.calls_fit, calls);
         blockers_fit = omega (arith, places.blockers_fit, waiting, c.len.ensures, blockers);
       }),
