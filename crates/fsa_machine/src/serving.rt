@@ -7,8 +7,7 @@ ghost use Rattle.fsa_model.specs.Edits.{with_ticks};
 ghost use Rattle.fsa_model.specs.Outcome.{ends_with};
 ghost use Rattle.fsa_model.specs.Try.{try, try_request, try_what};
 ghost use Rattle.fsa_types.specs.declared.request.What.TheVariants.{Ask};
-ghost use Rattle.volume_state.specs.Room.{KeepsEnds};
-ghost use Rattle.volume_state.specs.Tried.{Gives, HasAnswer, HasHoldRoom};
+ghost use Rattle.volume_state.specs.Tried.{HasAnswer, Leaves};
 
 use crate::waiting::{try_cancel, try_wait};
 use fsa_types::{Call, Request, Status, What};
@@ -36,10 +35,8 @@ fn try_request(
     requires is { call.now.what ≡ Ask request.now }
     requires may { MayTry volume.old.content call.now }
     requires end_room { 1 ≤ volume.old.spare.ends }
-    ensures gives { Gives (try_request volume.old.content turn call.now.client call.now.number request.now) volume.old.content volume.new.content result }
+    ensures leaves { Leaves (try_request volume.old.content turn call.now.client call.now.number request.now) volume.old volume.new result }
     ensures memory { is_ack_or_cancel (Ask request.now) ≡ true → 1 ≤ volume.old.spare.pending → HasAnswer result }
-    ensures room { HasHoldRoom result volume.new.spare }
-    ensures ends { KeepsEnds volume.old volume.new }
 {
     match request {
         Request::Create { .. } => try_create(alloc, volume, call, turn),
@@ -72,9 +69,7 @@ fn try_request(
 // The clock goes on by so many ticks.
 fn try_tick(volume: &mut Volume, ticks: u32) -> Tried
     requires fits { volume.old.content.clock + ticks < 2 ^ 64 }
-    ensures gives { Gives (ends_with (with_ticks volume.old.content ticks) Status.Success) volume.old.content volume.new.content result }
-    ensures room { HasHoldRoom result volume.new.spare }
-    ensures ends { KeepsEnds volume.old volume.new }
+    ensures leaves { Leaves (ends_with (with_ticks volume.old.content ticks) Status.Success) volume.old volume.new result }
 {
     volume.advance(ticks);
     Tried::ends(Status::Success)
@@ -84,10 +79,8 @@ fn try_tick(volume: &mut Volume, ticks: u32) -> Tried
 fn try_what(alloc: Global, volume: &mut Volume, call: &Call, turn: u64) -> Tried
     requires may { MayTry volume.old.content call.now }
     requires end_room { 1 ≤ volume.old.spare.ends }
-    ensures gives { Gives (try_what volume.old.content turn call.now.client call.now.number call.now.what) volume.old.content volume.new.content result }
+    ensures leaves { Leaves (try_what volume.old.content turn call.now.client call.now.number call.now.what) volume.old volume.new result }
     ensures memory { is_ack_or_cancel call.now.what ≡ true → 1 ≤ volume.old.spare.pending → HasAnswer result }
-    ensures room { HasHoldRoom result volume.new.spare }
-    ensures ends { KeepsEnds volume.old volume.new }
 {
     match &call.what {
         What::Ask(request) => try_request(alloc, volume, call, request, turn),
@@ -106,10 +99,8 @@ fn try_what(alloc: Global, volume: &mut Volume, call: &Call, turn: u64) -> Tried
 pub fn try_call(alloc: Global, volume: &mut Volume, call: &Call, turn: u64) -> Tried
     requires may { MayTry volume.old.content call.now }
     requires end_room { 1 ≤ volume.old.spare.ends }
-    ensures gives { Gives (try volume.old.content call.now turn) volume.old.content volume.new.content result }
+    ensures leaves { Leaves (try volume.old.content call.now turn) volume.old volume.new result }
     ensures memory { is_ack_or_cancel call.now.what ≡ true → 1 ≤ volume.old.spare.pending → HasAnswer result }
-    ensures room { HasHoldRoom result volume.new.spare }
-    ensures ends { KeepsEnds volume.old volume.new }
 {
     if volume.has_left(call.client) {
         return Tried::ends(Status::InvalidHandle);

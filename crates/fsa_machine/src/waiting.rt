@@ -5,7 +5,7 @@ ghost use Rattle.fsa_machine.specs.Serves.{KnowsEarlier};
 ghost use Rattle.fsa_model.specs.Outcome.{Stay};
 ghost use Rattle.fsa_model.specs.Waiting.{is_pending, try_cancel, try_wait, with_cancelled};
 ghost use Rattle.volume_state.specs.Room.{KeepsEnds};
-ghost use Rattle.volume_state.specs.Tried.{Gives, HasAnswer, HasHoldRoom};
+ghost use Rattle.volume_state.specs.Tried.{HasAnswer, Leaves};
 
 use fsa_types::{Body, Interim, NoMemory, Reply, Status};
 use volume_state::{Need, Tried, Volume};
@@ -19,9 +19,7 @@ fn is_pending(volume: &Volume, client: u32, number: u32) -> bool
 
 // The call waits; there is room for it then.
 fn stay(volume: &mut Volume) -> Tried
-    ensures gives { Gives (Stay volume.old.content Interim.Waiting) volume.old.content volume.new.content result }
-    ensures room { HasHoldRoom result volume.new.spare }
-    ensures ends { KeepsEnds volume.old volume.new }
+    ensures leaves { Leaves (Stay volume.old.content Interim.Waiting) volume.old volume.new result }
 {
     let need = Need {
         pending: 1,
@@ -42,9 +40,7 @@ fn stay(volume: &mut Volume) -> Tried
 #[tactic(auto, unfolding(fsa_model::specs::Waiting::try_wait))]
 pub fn try_wait(volume: &mut Volume, client: u32, number: u32, earlier: u32) -> Tried
     requires known { KnowsEarlier volume.old.content client number earlier }
-    ensures gives { Gives (try_wait volume.old.content client earlier) volume.old.content volume.new.content result }
-    ensures room { HasHoldRoom result volume.new.spare }
-    ensures ends { KeepsEnds volume.old volume.new }
+    ensures leaves { Leaves (try_wait volume.old.content client earlier) volume.old volume.new result }
 {
     if is_pending(volume, client, earlier) {
         return stay(volume);
@@ -78,10 +74,8 @@ fn cancel(volume: &mut Volume, client: u32, number: u32, turn: u64)
 #[tactic(auto, unfolding(fsa_model::specs::Waiting::try_cancel))]
 pub fn try_cancel(volume: &mut Volume, client: u32, number: u32) -> Tried
     requires room { 1 ≤ volume.old.spare.ends }
-    ensures gives { Gives (try_cancel volume.old.content client number) volume.old.content volume.new.content result }
+    ensures leaves { Leaves (try_cancel volume.old.content client number) volume.old volume.new result }
     ensures answer { HasAnswer result }
-    ensures room { HasHoldRoom result volume.new.spare }
-    ensures ends { KeepsEnds volume.old volume.new }
 {
     let Some(turn) = volume.pending_turn(client, number) else {
         return Tried::ends(Status::InvalidParameter);

@@ -2,8 +2,7 @@
 
 ghost use Rattle.fsa_model.specs.ReparsePoints.{delete_reparse_at, delete_reparse_of, try_delete_reparse};
 ghost use Rattle.op_control.specs.Calls.{IsDeleteReparse, asked_delete_reparse};
-ghost use Rattle.volume_state.specs.Room.{KeepsEnds};
-ghost use Rattle.volume_state.specs.Tried.{Gives, HasHoldRoom};
+ghost use Rattle.volume_state.specs.Tried.{Leaves};
 
 use crate::points::{may_set_point, put_point};
 use fsa_types::{Call, NoMemory, Request, Status, What};
@@ -14,9 +13,7 @@ use volume_state::{Tried, Volume};
 // The point of a file is removed, where it has this tag.
 #[tactic(auto, unfolding(fsa_model::specs::ReparsePoints::delete_reparse_of, fsa_model::specs::ReparsePoints::remove_point))]
 fn delete_reparse_of(volume: &mut Volume, link: u64, file: u64, tag: u32) -> Tried
-    ensures gives { Gives (delete_reparse_of volume.old.content link file tag) volume.old.content volume.new.content result }
-    ensures room { HasHoldRoom result volume.new.spare }
-    ensures ends { KeepsEnds volume.old volume.new }
+    ensures leaves { Leaves (delete_reparse_of volume.old.content link file tag) volume.old volume.new result }
 {
     let Some(point) = volume.point(file) else {
         return Tried::ends(Status::NotAReparsePoint);
@@ -33,9 +30,7 @@ fn delete_reparse_of(volume: &mut Volume, link: u64, file: u64, tag: u32) -> Tri
 // The point of the file of the handle of this number is removed; its right comes first.
 #[tactic(auto, unfolding(fsa_model::specs::ReparsePoints::delete_reparse_at, fsa_model::specs::ReparsePoints::delete_reparse_by))]
 fn delete_reparse_at(volume: &mut Volume, id: u64, tag: u32) -> Tried
-    ensures gives { Gives (delete_reparse_at volume.old.content id tag) volume.old.content volume.new.content result }
-    ensures room { HasHoldRoom result volume.new.spare }
-    ensures ends { KeepsEnds volume.old volume.new }
+    ensures leaves { Leaves (delete_reparse_at volume.old.content id tag) volume.old volume.new result }
 {
     let Some(handle) = volume.handle(id) else {
         return Tried::ends(Status::InvalidHandle);
@@ -53,9 +48,7 @@ fn delete_reparse_at(volume: &mut Volume, id: u64, tag: u32) -> Tried
 // One try of it.
 #[tactic(auto, unfolding(fsa_model::specs::ReparsePoints::try_delete_reparse))]
 fn delete_by_handle(volume: &mut Volume, client: u32, handle: u32, tag: u32) -> Tried
-    ensures gives { Gives (try_delete_reparse volume.old.content client handle tag) volume.old.content volume.new.content result }
-    ensures room { HasHoldRoom result volume.new.spare }
-    ensures ends { KeepsEnds volume.old volume.new }
+    ensures leaves { Leaves (try_delete_reparse volume.old.content client handle tag) volume.old volume.new result }
 {
     let Some(id) = volume.handle_of(client, handle) else {
         return Tried::ends(Status::InvalidHandle);
@@ -69,9 +62,7 @@ fn delete_by_handle(volume: &mut Volume, client: u32, handle: u32, tag: u32) -> 
 /// room for ends is used. `_alloc` and `_turn` are those of every try; nothing here needs them.
 pub fn try_delete_reparse(_alloc: Global, volume: &mut Volume, call: &Call, _turn: u64) -> Tried
     requires verb { IsDeleteReparse call.now.what }
-    ensures gives { Gives (asked_delete_reparse volume.old.content call.now.client call.now.what) volume.old.content volume.new.content result }
-    ensures room { HasHoldRoom result volume.new.spare }
-    ensures ends { KeepsEnds volume.old volume.new }
+    ensures leaves { Leaves (asked_delete_reparse volume.old.content call.now.client call.now.what) volume.old volume.new result }
 {
     let What::Ask(Request::DeleteReparse { handle, tag }) = &call.what else {
         unreachable!()

@@ -3,8 +3,7 @@
 ghost use Rattle.std.specs.Prelude.{◌≤◌, length, take};
 ghost use Rattle.fsa_model.specs.ReparsePoints.{answers_with, get_point, get_reparse_at, get_reparse_of, try_get_reparse};
 ghost use Rattle.op_control.specs.Calls.{IsGetReparse, asked_get_reparse};
-ghost use Rattle.volume_state.specs.Room.{KeepsEnds};
-ghost use Rattle.volume_state.specs.Tried.{Gives, HasHoldRoom};
+ghost use Rattle.volume_state.specs.Tried.{Leaves};
 
 use fsa_types::{Body, Bytes, Call, Reply, Request, Status, What};
 use op_parts::file_of_link;
@@ -18,8 +17,7 @@ const HEADER: u32 = 8;
 // The first bytes of a buffer are given, as many as there is room for; it has more than that.
 fn overflows(alloc: Global, volume: &Volume, buffer: &[u8], room: u32) -> Tried
     requires more { room ≤ length buffer.now }
-    ensures gives { Gives (answers_with volume.now.content Status.BufferOverflow (take room buffer.now)) volume.now.content volume.now.content result }
-    ensures room { HasHoldRoom result volume.now.spare }
+    ensures leaves { Leaves (answers_with volume.now.content Status.BufferOverflow (take room buffer.now)) volume.now volume.now result }
 {
     let Ok(part) = Bytes::copy_of(alloc, &buffer[..room as usize]) else {
         return Tried::NoMemory;
@@ -34,8 +32,7 @@ fn overflows(alloc: Global, volume: &Volume, buffer: &[u8], room: u32) -> Tried
 #[tactic(auto, unfolding(fsa_model::specs::ReparsePoints::get_point))]
 fn get_point(alloc: Global, volume: &Volume, point: &(u32, Bytes), room: u32) -> Tried
     requires few { length point.now.1 ≤ 16376 }
-    ensures gives { Gives (get_point volume.now.content point.now room) volume.now.content volume.now.content result }
-    ensures room { HasHoldRoom result volume.now.spare }
+    ensures leaves { Leaves (get_point volume.now.content point.now room) volume.now volume.now result }
 {
     if room < HEADER {
         return Tried::ends(Status::BufferTooSmall);
@@ -52,8 +49,7 @@ fn get_point(alloc: Global, volume: &Volume, point: &(u32, Bytes), room: u32) ->
 // The point of a file is given.
 #[tactic(auto, unfolding(fsa_model::specs::ReparsePoints::get_reparse_of))]
 fn get_reparse_of(alloc: Global, volume: &Volume, file: u64, room: u32) -> Tried
-    ensures gives { Gives (get_reparse_of volume.now.content file room) volume.now.content volume.now.content result }
-    ensures room { HasHoldRoom result volume.now.spare }
+    ensures leaves { Leaves (get_reparse_of volume.now.content file room) volume.now volume.now result }
 {
     match volume.point(file) {
         None => Tried::ends(Status::NotAReparsePoint),
@@ -64,8 +60,7 @@ fn get_reparse_of(alloc: Global, volume: &Volume, file: u64, room: u32) -> Tried
 // The point of the file of the handle of this number is given; no right is asked.
 #[tactic(auto, unfolding(fsa_model::specs::ReparsePoints::get_reparse_at, fsa_model::specs::ReparsePoints::get_reparse_by))]
 fn get_reparse_at(alloc: Global, volume: &Volume, id: u64, room: u32) -> Tried
-    ensures gives { Gives (get_reparse_at volume.now.content id room) volume.now.content volume.now.content result }
-    ensures room { HasHoldRoom result volume.now.spare }
+    ensures leaves { Leaves (get_reparse_at volume.now.content id room) volume.now volume.now result }
 {
     let Some(handle) = volume.handle(id) else {
         return Tried::ends(Status::InvalidHandle);
@@ -79,8 +74,7 @@ fn get_reparse_at(alloc: Global, volume: &Volume, id: u64, room: u32) -> Tried
 // One try of it.
 #[tactic(auto, unfolding(fsa_model::specs::ReparsePoints::try_get_reparse))]
 fn get_by_handle(alloc: Global, volume: &Volume, client: u32, handle: u32, room: u32) -> Tried
-    ensures gives { Gives (try_get_reparse volume.now.content client handle room) volume.now.content volume.now.content result }
-    ensures room { HasHoldRoom result volume.now.spare }
+    ensures leaves { Leaves (try_get_reparse volume.now.content client handle room) volume.now volume.now result }
 {
     let Some(id) = volume.handle_of(client, handle) else {
         return Tried::ends(Status::InvalidHandle);
@@ -95,9 +89,7 @@ fn get_by_handle(alloc: Global, volume: &Volume, client: u32, handle: u32, room:
 /// is the number of the turn; nothing here needs it.
 pub fn try_get_reparse(alloc: Global, volume: &mut Volume, call: &Call, _turn: u64) -> Tried
     requires verb { IsGetReparse call.now.what }
-    ensures gives { Gives (asked_get_reparse volume.old.content call.now.client call.now.what) volume.old.content volume.new.content result }
-    ensures room { HasHoldRoom result volume.new.spare }
-    ensures ends { KeepsEnds volume.old volume.new }
+    ensures leaves { Leaves (asked_get_reparse volume.old.content call.now.client call.now.what) volume.old volume.new result }
 {
     let What::Ask(Request::GetReparse { handle, room }) = &call.what else {
         unreachable!()

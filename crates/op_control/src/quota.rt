@@ -3,8 +3,7 @@
 ghost use Rattle.std.specs.Prelude.{◌≡◌, ◌<◌, length};
 ghost use Rattle.fsa_model.specs.Quota.{is_administrator, try_query_quota, try_set_quota};
 ghost use Rattle.op_control.specs.Calls.{IsQueryQuota, IsSetQuota, asked_query_quota, asked_set_quota};
-ghost use Rattle.volume_state.specs.Room.{KeepsEnds};
-ghost use Rattle.volume_state.specs.Tried.{Gives, HasAnswer, HasHoldRoom};
+ghost use Rattle.volume_state.specs.Tried.{HasAnswer, Leaves};
 
 use fsa_types::{Body, Call, NoMemory, Request, Status, What};
 use std::alloc::Global;
@@ -25,9 +24,7 @@ fn is_administrator(volume: &Volume, client: u32) -> bool
 #[tactic(auto, unfolding(fsa_model::specs::Quota::try_set_quota))]
 fn set_quota(volume: &mut Volume, client: u32, sid: u32, bytes: u64) -> Tried
     requires client { client < length volume.old.content.clients }
-    ensures gives { Gives (try_set_quota volume.old.content client sid bytes) volume.old.content volume.new.content result }
-    ensures room { HasHoldRoom result volume.new.spare }
-    ensures ends { KeepsEnds volume.old volume.new }
+    ensures leaves { Leaves (try_set_quota volume.old.content client sid bytes) volume.old volume.new result }
 {
     if !is_administrator(volume, client) {
         return Tried::ends(Status::AccessDenied);
@@ -51,9 +48,7 @@ fn set_quota(volume: &mut Volume, client: u32, sid: u32, bytes: u64) -> Tried
 pub fn try_set_quota(_alloc: Global, volume: &mut Volume, call: &Call, _turn: u64) -> Tried
     requires verb { IsSetQuota call.now.what }
     requires client { call.now.client < length volume.old.content.clients }
-    ensures gives { Gives (asked_set_quota volume.old.content call.now.client call.now.what) volume.old.content volume.new.content result }
-    ensures room { HasHoldRoom result volume.new.spare }
-    ensures ends { KeepsEnds volume.old volume.new }
+    ensures leaves { Leaves (asked_set_quota volume.old.content call.now.client call.now.what) volume.old volume.new result }
 {
     let What::Ask(Request::SetQuota { sid, limit }) = &call.what else {
         unreachable!()
@@ -64,9 +59,8 @@ pub fn try_set_quota(_alloc: Global, volume: &mut Volume, call: &Call, _turn: u6
 // An owner's charge and his limit, in bytes.
 #[tactic(auto, unfolding(fsa_model::specs::Quota::try_query_quota))]
 fn query_quota(volume: &Volume, sid: u32) -> Tried
-    ensures gives { Gives (try_query_quota volume.now.content sid) volume.now.content volume.now.content result }
+    ensures leaves { Leaves (try_query_quota volume.now.content sid) volume.now volume.now result }
     ensures answer { HasAnswer result }
-    ensures room { HasHoldRoom result volume.now.spare }
 {
     Tried::succeeds(Body::Quota {
         charge: volume.charge(sid),
@@ -81,10 +75,8 @@ fn query_quota(volume: &Volume, sid: u32) -> Tried
 /// are those of every try; nothing here needs them.
 pub fn try_query_quota(_alloc: Global, volume: &mut Volume, call: &Call, _turn: u64) -> Tried
     requires verb { IsQueryQuota call.now.what }
-    ensures gives { Gives (asked_query_quota volume.old.content call.now.what) volume.old.content volume.new.content result }
+    ensures leaves { Leaves (asked_query_quota volume.old.content call.now.what) volume.old volume.new result }
     ensures answer { HasAnswer result }
-    ensures room { HasHoldRoom result volume.new.spare }
-    ensures ends { KeepsEnds volume.old volume.new }
 {
     let What::Ask(Request::QueryQuota { sid }) = &call.what else {
         unreachable!()

@@ -5,7 +5,7 @@ ghost use Rattle.fsa_types.specs.Request.{what_fits};
 ghost use Rattle.fsa_model.specs.ReparsePoints.{has_other_tag, is_no_tag, set_buffer, set_point, set_reparse_at, try_set_reparse, with_point_noted};
 ghost use Rattle.op_control.specs.Calls.{IsSetReparse, asked_set_reparse};
 ghost use Rattle.volume_state.specs.Room.{KeepsEnds};
-ghost use Rattle.volume_state.specs.Tried.{Gives, HasHoldRoom};
+ghost use Rattle.volume_state.specs.Tried.{Leaves};
 
 use crate::points::{may_set_point, put_point};
 use fsa_types::{
@@ -66,9 +66,7 @@ fn set_point(
     content: &[u8],
 ) -> Tried
     requires few { length content.now ≤ 16376 }
-    ensures gives { Gives (set_point volume.old.content link file tag content.now) volume.old.content volume.new.content result }
-    ensures room { HasHoldRoom result volume.new.spare }
-    ensures ends { KeepsEnds volume.old volume.new }
+    ensures leaves { Leaves (set_point volume.old.content link file tag content.now) volume.old volume.new result }
 {
     if is_no_tag(tag) {
         return Tried::ends(Status::IoReparseTagInvalid);
@@ -89,9 +87,7 @@ fn set_point(
 #[tactic(auto, unfolding(fsa_model::specs::ReparsePoints::set_buffer))]
 fn set_buffer(alloc: Global, volume: &mut Volume, link: u64, file: u64, bytes: &[u8]) -> Tried
     requires few { length bytes.now ≤ 16384 }
-    ensures gives { Gives (set_buffer volume.old.content link file bytes.now) volume.old.content volume.new.content result }
-    ensures room { HasHoldRoom result volume.new.spare }
-    ensures ends { KeepsEnds volume.old volume.new }
+    ensures leaves { Leaves (set_buffer volume.old.content link file bytes.now) volume.old volume.new result }
 {
     let Some((tag, content)) = read_reparse(bytes) else {
         return Tried::ends(Status::IoReparseDataInvalid);
@@ -103,9 +99,7 @@ fn set_buffer(alloc: Global, volume: &mut Volume, link: u64, file: u64, bytes: &
 #[tactic(auto, unfolding(fsa_model::specs::ReparsePoints::set_reparse_at, fsa_model::specs::ReparsePoints::set_reparse_by))]
 fn set_reparse_at(alloc: Global, volume: &mut Volume, id: u64, bytes: &[u8]) -> Tried
     requires few { length bytes.now ≤ 16384 }
-    ensures gives { Gives (set_reparse_at volume.old.content id bytes.now) volume.old.content volume.new.content result }
-    ensures room { HasHoldRoom result volume.new.spare }
-    ensures ends { KeepsEnds volume.old volume.new }
+    ensures leaves { Leaves (set_reparse_at volume.old.content id bytes.now) volume.old volume.new result }
 {
     let Some(handle) = volume.handle(id) else {
         return Tried::ends(Status::InvalidHandle);
@@ -133,9 +127,7 @@ fn set_by_handle(
     bytes: &[u8],
 ) -> Tried
     requires few { length bytes.now ≤ 16384 }
-    ensures gives { Gives (try_set_reparse volume.old.content client handle bytes.now) volume.old.content volume.new.content result }
-    ensures room { HasHoldRoom result volume.new.spare }
-    ensures ends { KeepsEnds volume.old volume.new }
+    ensures leaves { Leaves (try_set_reparse volume.old.content client handle bytes.now) volume.old volume.new result }
 {
     let Some(id) = volume.handle_of(client, handle) else {
         return Tried::ends(Status::InvalidHandle);
@@ -151,9 +143,7 @@ fn set_by_handle(
 pub fn try_set_reparse(alloc: Global, volume: &mut Volume, call: &Call, _turn: u64) -> Tried
     requires verb { IsSetReparse call.now.what }
     requires fits { IsTrue (what_fits call.now.what) }
-    ensures gives { Gives (asked_set_reparse volume.old.content call.now.client call.now.what) volume.old.content volume.new.content result }
-    ensures room { HasHoldRoom result volume.new.spare }
-    ensures ends { KeepsEnds volume.old volume.new }
+    ensures leaves { Leaves (asked_set_reparse volume.old.content call.now.client call.now.what) volume.old volume.new result }
 {
     let What::Ask(Request::SetReparse { handle, bytes }) = &call.what else {
         unreachable!()

@@ -3,7 +3,7 @@
 ghost use Rattle.std.specs.Prelude.{◌≡◌};
 ghost use Rattle.op_data.specs.Calls.{IsDone, IsFlush, asked_flush};
 ghost use Rattle.fsa_model.specs.Flush.{flush_at, try_flush};
-ghost use Rattle.volume_state.specs.Tried.{Gives};
+ghost use Rattle.volume_state.specs.Tried.{Leaves};
 
 use fsa_types::{AccessMask, Call, Request, Status, What};
 use op_parts::has_right;
@@ -13,7 +13,7 @@ use volume_state::{Tried, Volume};
 // Flushes through the handle of this number.
 #[tactic(auto, unfolding(fsa_model::specs::Flush::flush_at))]
 fn flush_at(volume: &Volume, id: u64) -> Tried
-    ensures gives { Gives (flush_at volume.now.content id) volume.now.content volume.now.content result }
+    ensures leaves { Leaves (flush_at volume.now.content id) volume.now volume.now result }
     ensures done { IsDone result }
 {
     let Some(row) = volume.handle(id) else {
@@ -30,7 +30,7 @@ fn flush_at(volume: &Volume, id: u64) -> Tried
 // One try of a flush.
 #[tactic(auto, unfolding(fsa_model::specs::Flush::try_flush))]
 fn flush(volume: &Volume, client: u32, handle: u32) -> Tried
-    ensures gives { Gives (try_flush volume.now.content client handle) volume.now.content volume.now.content result }
+    ensures leaves { Leaves (try_flush volume.now.content client handle) volume.now volume.now result }
     ensures done { IsDone result }
 {
     let Some(id) = volume.handle_of(client, handle) else {
@@ -44,7 +44,7 @@ fn flush(volume: &Volume, client: u32, handle: u32) -> Tried
 /// every try.
 pub fn try_flush(_alloc: Global, volume: &mut Volume, call: &Call, _turn: u64) -> Tried
     requires verb { IsFlush call.now.what }
-    ensures gives { Gives (asked_flush volume.old.content call.now.client call.now.what) volume.old.content volume.new.content result }
+    ensures leaves { Leaves (asked_flush volume.old.content call.now.client call.now.what) volume.old volume.new result }
     ensures done { IsDone result }
     ensures same { volume.new ≡ volume.old }
 {

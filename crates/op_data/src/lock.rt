@@ -6,8 +6,8 @@ ghost use Rattle.op_data.specs.Calls.{HasAnswer, IsLock, asked_lock};
 ghost use Rattle.op_data.specs.Conditions.{HasLockRoom, MayLock};
 ghost use Rattle.fsa_model.specs.Locking.{lock_at, lock_blockers, lock_free, lock_range, passes_top, try_lock};
 ghost use Rattle.op_parts.specs.Room.{HasWaitRoom};
-ghost use Rattle.volume_state.specs.Room.{KeepsEnds, stream_of_handle};
-ghost use Rattle.volume_state.specs.Tried.{Gives, HasHoldRoom};
+ghost use Rattle.volume_state.specs.Room.{stream_of_handle};
+ghost use Rattle.volume_state.specs.Tried.{Leaves};
 
 use crate::locked::{Locking, lock_blockers};
 use crate::room::room_to_lock;
@@ -30,10 +30,8 @@ struct Range {
 fn lock_free(volume: &mut Volume, locking: Locking, conflicts: BlockerList) -> Tried
     requires room { HasLockRoom volume.old.content volume.old.spare locking.handle locking.stream conflicts.items }
     requires conflicts { conflicts.items ≡ lock_blockers volume.old.content locking.handle locking.stream locking.at locking.count locking.exclusive }
-    ensures gives { Gives (lock_free volume.old.content locking.handle locking.stream locking.at locking.count locking.exclusive locking.wait) volume.old.content volume.new.content result }
+    ensures leaves { Leaves (lock_free volume.old.content locking.handle locking.stream locking.at locking.count locking.exclusive locking.wait) volume.old volume.new result }
     ensures answer { HasAnswer result }
-    ensures room { HasHoldRoom result volume.new.spare }
-    ensures ends { KeepsEnds volume.old volume.new }
 {
     if conflicts.is_empty() {
         let Locking {
@@ -67,9 +65,7 @@ fn lock_in_room(
     requires room { HasWaitRoom volume.old.content volume.old.spare blockers }
     requires lock { HasLockRoom volume.old.content volume.old.spare locking.handle locking.stream conflicts.items }
     requires conflicts { conflicts.items ≡ lock_blockers volume.old.content locking.handle locking.stream locking.at locking.count locking.exclusive }
-    ensures gives { Gives (lock_range volume.old.content locking.handle locking.key locking.stream locking.at locking.count locking.exclusive locking.wait) volume.old.content volume.new.content result }
-    ensures room { HasHoldRoom result volume.new.spare }
-    ensures ends { KeepsEnds volume.old volume.new }
+    ensures leaves { Leaves (lock_range volume.old.content locking.handle locking.key locking.stream locking.at locking.count locking.exclusive locking.wait) volume.old volume.new result }
 {
     let mut blockers = blockers;
     let Locking {
@@ -92,9 +88,7 @@ fn lock_range(alloc: Global, volume: &mut Volume, locking: Locking) -> Tried
     requires lives { IsTrue (lives volume.old.content.streams locking.stream) }
     requires open { stream_of_handle volume.old.content locking.handle ≡ Some locking.stream }
     requires may { MayLock volume.old.content }
-    ensures gives { Gives (lock_range volume.old.content locking.handle locking.key locking.stream locking.at locking.count locking.exclusive locking.wait) volume.old.content volume.new.content result }
-    ensures room { HasHoldRoom result volume.new.spare }
-    ensures ends { KeepsEnds volume.old volume.new }
+    ensures leaves { Leaves (lock_range volume.old.content locking.handle locking.key locking.stream locking.at locking.count locking.exclusive locking.wait) volume.old volume.new result }
 {
     let Ok(conflicts) = lock_blockers(alloc, volume, locking) else {
         return Tried::NoMemory;
@@ -116,9 +110,7 @@ fn passes_top(at: u64, count: u64) -> bool
 #[tactic(auto, using(crate::proofs::HandleLaws::stream_lives), unfolding(fsa_model::specs::Locking::lock_at, fsa_model::specs::Locking::lock_by, fsa_model::specs::Locking::lock_stream))]
 fn lock_at(alloc: Global, volume: &mut Volume, id: u64, range: Range) -> Tried
     requires may { MayLock volume.old.content }
-    ensures gives { Gives (lock_at volume.old.content id range.at range.count range.exclusive range.wait) volume.old.content volume.new.content result }
-    ensures room { HasHoldRoom result volume.new.spare }
-    ensures ends { KeepsEnds volume.old volume.new }
+    ensures leaves { Leaves (lock_at volume.old.content id range.at range.count range.exclusive range.wait) volume.old volume.new result }
 {
     let Some(row) = volume.handle(id) else {
         return Tried::ends(Status::InvalidHandle);
@@ -150,9 +142,7 @@ fn lock_at(alloc: Global, volume: &mut Volume, id: u64, range: Range) -> Tried
 #[tactic(auto, unfolding(fsa_model::specs::Locking::try_lock))]
 fn lock(alloc: Global, volume: &mut Volume, client: u32, handle: u32, range: Range) -> Tried
     requires may { MayLock volume.old.content }
-    ensures gives { Gives (try_lock volume.old.content client handle range.at range.count range.exclusive range.wait) volume.old.content volume.new.content result }
-    ensures room { HasHoldRoom result volume.new.spare }
-    ensures ends { KeepsEnds volume.old volume.new }
+    ensures leaves { Leaves (try_lock volume.old.content client handle range.at range.count range.exclusive range.wait) volume.old volume.new result }
 {
     let Some(id) = volume.handle_of(client, handle) else {
         return Tried::ends(Status::InvalidHandle);
@@ -171,9 +161,7 @@ fn lock(alloc: Global, volume: &mut Volume, client: u32, handle: u32, range: Ran
 pub fn try_lock(alloc: Global, volume: &mut Volume, call: &Call, _turn: u64) -> Tried
     requires verb { IsLock call.now.what }
     requires may { MayLock volume.old.content }
-    ensures gives { Gives (asked_lock volume.old.content call.now.client call.now.what) volume.old.content volume.new.content result }
-    ensures room { HasHoldRoom result volume.new.spare }
-    ensures ends { KeepsEnds volume.old volume.new }
+    ensures leaves { Leaves (asked_lock volume.old.content call.now.client call.now.what) volume.old volume.new result }
 {
     let What::Ask(
         Request::Lock {

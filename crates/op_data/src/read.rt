@@ -7,8 +7,7 @@ ghost use Rattle.op_data.specs.Calls.{IsRead, asked_read};
 ghost use Rattle.op_data.specs.Conditions.{MayUse, part_at};
 ghost use Rattle.op_data.specs.Ends.{Ends};
 ghost use Rattle.op_parts.specs.Room.{HasWaitRoom};
-ghost use Rattle.volume_state.specs.Room.{KeepsEnds};
-ghost use Rattle.volume_state.specs.Tried.{Gives, HasHoldRoom};
+ghost use Rattle.volume_state.specs.Tried.{Leaves};
 
 use crate::bytes::{copy_of_bytes, length_of};
 use crate::locked::read_is_locked;
@@ -89,9 +88,7 @@ fn read_in_room(
     requires may { MayUse volume.old.content }
     requires room { HasWaitRoom volume.old.content volume.old.spare blockers }
     requires part { part ≡ part_at volume.old.content reading.stream reading.at reading.count }
-    ensures gives { Gives (read_range volume.old.content reading.handle reading.key reading.stream reading.at reading.count) volume.old.content volume.new.content result }
-    ensures room { HasHoldRoom result volume.new.spare }
-    ensures ends { KeepsEnds volume.old volume.new }
+    ensures leaves { Leaves (read_range volume.old.content reading.handle reading.key reading.stream reading.at reading.count) volume.old volume.new result }
 {
     let mut blockers = blockers;
     let Reading {
@@ -115,9 +112,7 @@ fn read_in_room(
 fn read_range(alloc: Global, volume: &mut Volume, reading: Reading) -> Tried
     requires lives { IsTrue (lives volume.old.content.streams reading.stream) }
     requires may { MayUse volume.old.content }
-    ensures gives { Gives (read_range volume.old.content reading.handle reading.key reading.stream reading.at reading.count) volume.old.content volume.new.content result }
-    ensures room { HasHoldRoom result volume.new.spare }
-    ensures ends { KeepsEnds volume.old volume.new }
+    ensures leaves { Leaves (read_range volume.old.content reading.handle reading.key reading.stream reading.at reading.count) volume.old volume.new result }
 {
     let Ok(part) = part_at(alloc, volume, reading.stream, reading.at, reading.count) else {
         return Tried::NoMemory;
@@ -132,9 +127,7 @@ fn read_range(alloc: Global, volume: &mut Volume, reading: Reading) -> Tried
 #[tactic(auto, using(crate::proofs::HandleLaws::stream_lives), unfolding(fsa_model::specs::Read::read_at, fsa_model::specs::Read::read_by, fsa_model::specs::Read::read_stream))]
 fn read_at(alloc: Global, volume: &mut Volume, id: u64, at: u64, count: u32) -> Tried
     requires may { MayUse volume.old.content }
-    ensures gives { Gives (read_at volume.old.content id at count) volume.old.content volume.new.content result }
-    ensures room { HasHoldRoom result volume.new.spare }
-    ensures ends { KeepsEnds volume.old volume.new }
+    ensures leaves { Leaves (read_at volume.old.content id at count) volume.old volume.new result }
 {
     let Some(row) = volume.handle(id) else {
         return Tried::ends(Status::InvalidHandle);
@@ -165,9 +158,7 @@ fn read_at(alloc: Global, volume: &mut Volume, id: u64, at: u64, count: u32) -> 
 #[tactic(auto, unfolding(fsa_model::specs::Read::try_read))]
 fn read(alloc: Global, volume: &mut Volume, client: u32, handle: u32, at: u64, count: u32) -> Tried
     requires may { MayUse volume.old.content }
-    ensures gives { Gives (try_read volume.old.content client handle at count) volume.old.content volume.new.content result }
-    ensures room { HasHoldRoom result volume.new.spare }
-    ensures ends { KeepsEnds volume.old volume.new }
+    ensures leaves { Leaves (try_read volume.old.content client handle at count) volume.old volume.new result }
 {
     let Some(id) = volume.handle_of(client, handle) else {
         return Tried::ends(Status::InvalidHandle);
@@ -185,9 +176,7 @@ fn read(alloc: Global, volume: &mut Volume, client: u32, handle: u32, at: u64, c
 pub fn try_read(alloc: Global, volume: &mut Volume, call: &Call, _turn: u64) -> Tried
     requires verb { IsRead call.now.what }
     requires may { MayUse volume.old.content }
-    ensures gives { Gives (asked_read volume.old.content call.now.client call.now.what) volume.old.content volume.new.content result }
-    ensures room { HasHoldRoom result volume.new.spare }
-    ensures ends { KeepsEnds volume.old volume.new }
+    ensures leaves { Leaves (asked_read volume.old.content call.now.client call.now.what) volume.old volume.new result }
 {
     let What::Ask(Request::Read { handle, at, count }) = &call.what else {
         unreachable!()

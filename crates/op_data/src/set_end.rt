@@ -10,7 +10,7 @@ ghost use Rattle.op_data.specs.Ends.{Ends};
 ghost use Rattle.fsa_model.specs.SetEnd.{set_end_at, set_end_grown, set_end_to, try_set_end};
 ghost use Rattle.op_parts.specs.Room.{HasWaitRoom};
 ghost use Rattle.volume_state.specs.Room.{KeepsEnds};
-ghost use Rattle.volume_state.specs.Tried.{Gives, HasHoldRoom};
+ghost use Rattle.volume_state.specs.Tried.{Leaves};
 
 use crate::growth::growth_fault;
 use crate::resized::{Resizing, set_end_in_place};
@@ -56,9 +56,7 @@ fn set_end_in_room(
     requires room { HasWaitRoom volume.old.content volume.old.spare blockers }
     requires fault { fault ≡ growth_fault volume.old.content resizing.stream resizing.end }
     requires put { IfNone fault (HasEndRoom volume.old.content volume.old.spare resizing.link resizing.stream resizing.end) }
-    ensures gives { Gives (set_end_to volume.old.content resizing.handle resizing.key resizing.link resizing.stream resizing.end) volume.old.content volume.new.content result }
-    ensures room { HasHoldRoom result volume.new.spare }
-    ensures ends { KeepsEnds volume.old volume.new }
+    ensures leaves { Leaves (set_end_to volume.old.content resizing.handle resizing.key resizing.link resizing.stream resizing.end) volume.old volume.new result }
 {
     let mut blockers = blockers;
     let Resizing {
@@ -83,9 +81,7 @@ fn set_end_to(alloc: Global, volume: &mut Volume, resizing: Resizing) -> Tried
     requires lives { IsTrue (lives volume.old.content.streams resizing.stream) }
     requires may { MayUse volume.old.content }
     requires place { resizing.end ≤ largest_end }
-    ensures gives { Gives (set_end_to volume.old.content resizing.handle resizing.key resizing.link resizing.stream resizing.end) volume.old.content volume.new.content result }
-    ensures room { HasHoldRoom result volume.new.spare }
-    ensures ends { KeepsEnds volume.old volume.new }
+    ensures leaves { Leaves (set_end_to volume.old.content resizing.handle resizing.key resizing.link resizing.stream resizing.end) volume.old volume.new result }
 {
     let fault = growth_fault(volume, resizing.stream, resizing.end);
     let Ok(blockers) = room_to_resize(alloc, volume, resizing, fault) else {
@@ -98,9 +94,7 @@ fn set_end_to(alloc: Global, volume: &mut Volume, resizing: Resizing) -> Tried
 #[tactic(auto, using(crate::proofs::HandleLaws::stream_lives), unfolding(fsa_model::specs::SetEnd::set_end_at, fsa_model::specs::SetEnd::set_end_by, fsa_model::specs::SetEnd::set_end_stream))]
 fn set_end_at(alloc: Global, volume: &mut Volume, id: u64, end: u64) -> Tried
     requires may { MayUse volume.old.content }
-    ensures gives { Gives (set_end_at volume.old.content id end) volume.old.content volume.new.content result }
-    ensures room { HasHoldRoom result volume.new.spare }
-    ensures ends { KeepsEnds volume.old volume.new }
+    ensures leaves { Leaves (set_end_at volume.old.content id end) volume.old volume.new result }
 {
     let Some(row) = volume.handle(id) else {
         return Tried::ends(Status::InvalidHandle);
@@ -128,9 +122,7 @@ fn set_end_at(alloc: Global, volume: &mut Volume, id: u64, end: u64) -> Tried
 #[tactic(auto, unfolding(fsa_model::specs::SetEnd::try_set_end))]
 fn set_end(alloc: Global, volume: &mut Volume, client: u32, handle: u32, end: u64) -> Tried
     requires may { MayUse volume.old.content }
-    ensures gives { Gives (try_set_end volume.old.content client handle end) volume.old.content volume.new.content result }
-    ensures room { HasHoldRoom result volume.new.spare }
-    ensures ends { KeepsEnds volume.old volume.new }
+    ensures leaves { Leaves (try_set_end volume.old.content client handle end) volume.old volume.new result }
 {
     let Some(id) = volume.handle_of(client, handle) else {
         return Tried::ends(Status::InvalidHandle);
@@ -148,9 +140,7 @@ fn set_end(alloc: Global, volume: &mut Volume, client: u32, handle: u32, end: u6
 pub fn try_set_end(alloc: Global, volume: &mut Volume, call: &Call, _turn: u64) -> Tried
     requires verb { IsSetEnd call.now.what }
     requires may { MayUse volume.old.content }
-    ensures gives { Gives (asked_set_end volume.old.content call.now.client call.now.what) volume.old.content volume.new.content result }
-    ensures room { HasHoldRoom result volume.new.spare }
-    ensures ends { KeepsEnds volume.old volume.new }
+    ensures leaves { Leaves (asked_set_end volume.old.content call.now.client call.now.what) volume.old volume.new result }
 {
     let What::Ask(Request::SetEnd { handle, length }) = &call.what else {
         unreachable!()

@@ -3,8 +3,7 @@
 ghost use Rattle.std.specs.Prelude.{◌≡◌, is_some};
 ghost use Rattle.op_data.specs.Calls.{IsDone, IsUnlock, asked_unlock};
 ghost use Rattle.fsa_model.specs.Locking.{try_unlock, unlock_at};
-ghost use Rattle.volume_state.specs.Room.{KeepsEnds};
-ghost use Rattle.volume_state.specs.Tried.{Gives};
+ghost use Rattle.volume_state.specs.Tried.{Leaves};
 
 use fsa_types::{Call, Request, Status, What};
 use std::alloc::Global;
@@ -13,9 +12,8 @@ use volume_state::{Tried, Volume};
 // Unlocks through the handle of this number.
 #[tactic(auto, unfolding(fsa_model::specs::Locking::unlock_at, fsa_model::specs::Locking::unlock_by, fsa_model::specs::Locking::unlock_range))]
 fn unlock_at(volume: &mut Volume, id: u64, at: u64, count: u64) -> Tried
-    ensures gives { Gives (unlock_at volume.old.content id at count) volume.old.content volume.new.content result }
+    ensures leaves { Leaves (unlock_at volume.old.content id at count) volume.old volume.new result }
     ensures done { IsDone result }
-    ensures ends { KeepsEnds volume.old volume.new }
     ensures beside { volume.new.beside ≡ volume.old.beside }
     ensures spare { volume.new.spare ≡ volume.old.spare }
 {
@@ -34,9 +32,8 @@ fn unlock_at(volume: &mut Volume, id: u64, at: u64, count: u64) -> Tried
 // One try of an unlock.
 #[tactic(auto, unfolding(fsa_model::specs::Locking::try_unlock))]
 fn unlock(volume: &mut Volume, client: u32, handle: u32, at: u64, count: u64) -> Tried
-    ensures gives { Gives (try_unlock volume.old.content client handle at count) volume.old.content volume.new.content result }
+    ensures leaves { Leaves (try_unlock volume.old.content client handle at count) volume.old volume.new result }
     ensures done { IsDone result }
-    ensures ends { KeepsEnds volume.old volume.new }
     ensures beside { volume.new.beside ≡ volume.old.beside }
     ensures spare { volume.new.spare ≡ volume.old.spare }
 {
@@ -50,9 +47,8 @@ fn unlock(volume: &mut Volume, client: u32, handle: u32, at: u64, count: u64) ->
 /// one. It always ends, takes no memory and uses no room. `_alloc` and `_turn` are those of every try.
 pub fn try_unlock(_alloc: Global, volume: &mut Volume, call: &Call, _turn: u64) -> Tried
     requires verb { IsUnlock call.now.what }
-    ensures gives { Gives (asked_unlock volume.old.content call.now.client call.now.what) volume.old.content volume.new.content result }
+    ensures leaves { Leaves (asked_unlock volume.old.content call.now.client call.now.what) volume.old volume.new result }
     ensures done { IsDone result }
-    ensures ends { KeepsEnds volume.old volume.new }
     ensures beside { volume.new.beside ≡ volume.old.beside }
     ensures spare { volume.new.spare ≡ volume.old.spare }
 {

@@ -11,7 +11,7 @@ ghost use Rattle.op_data.specs.Conditions.{HasWriteRoom, MayUse};
 ghost use Rattle.op_data.specs.Ends.{Ends};
 ghost use Rattle.op_parts.specs.Room.{HasWaitRoom};
 ghost use Rattle.volume_state.specs.Room.{KeepsEnds};
-ghost use Rattle.volume_state.specs.Tried.{Gives, HasHoldRoom};
+ghost use Rattle.volume_state.specs.Tried.{Leaves};
 
 use crate::bytes::length_of;
 use crate::growth::growth_fault;
@@ -83,9 +83,7 @@ fn write_in_room(
     requires room { HasWaitRoom volume.old.content volume.old.spare blockers }
     requires fault { fault ≡ growth_fault volume.old.content writing.stream (writing.at + length writing.bytes.now) }
     requires put { IfNone fault (HasWriteRoom volume.old.content volume.old.spare writing.link writing.stream writing.at (length writing.bytes.now)) }
-    ensures gives { Gives (write_range volume.old.content writing.entry.handle writing.entry.key writing.entry.link writing.entry.stream writing.entry.at writing.entry.bytes.now) volume.old.content volume.new.content result }
-    ensures room { HasHoldRoom result volume.new.spare }
-    ensures ends { KeepsEnds volume.old volume.new }
+    ensures leaves { Leaves (write_range volume.old.content writing.entry.handle writing.entry.key writing.entry.link writing.entry.stream writing.entry.at writing.entry.bytes.now) volume.old volume.new result }
 {
     let mut blockers = blockers;
     let Writing {
@@ -110,9 +108,7 @@ fn write_range(alloc: Global, volume: &mut Volume, writing: Writing) -> Tried
     requires lives { IsTrue (lives volume.old.content.streams writing.stream) }
     requires may { MayUse volume.old.content }
     requires place { writing.at + length writing.bytes.now ≤ largest_end }
-    ensures gives { Gives (write_range volume.old.content writing.entry.handle writing.entry.key writing.entry.link writing.entry.stream writing.entry.at writing.entry.bytes.now) volume.old.content volume.new.content result }
-    ensures room { HasHoldRoom result volume.new.spare }
-    ensures ends { KeepsEnds volume.old volume.new }
+    ensures leaves { Leaves (write_range volume.old.content writing.entry.handle writing.entry.key writing.entry.link writing.entry.stream writing.entry.at writing.entry.bytes.now) volume.old volume.new result }
 {
     let end = writing.at + writing.bytes.len() as u64;
     let fault = growth_fault(volume, writing.stream, end);
@@ -126,9 +122,7 @@ fn write_range(alloc: Global, volume: &mut Volume, writing: Writing) -> Tried
 #[tactic(auto, using(crate::proofs::HandleLaws::stream_lives), unfolding(fsa_model::specs::Write::write_at, fsa_model::specs::Write::write_by, fsa_model::specs::Write::write_stream, fsa_model::specs::Write::write_at_place))]
 fn write_at(alloc: Global, volume: &mut Volume, id: u64, at: Option<u64>, bytes: &[u8]) -> Tried
     requires may { MayUse volume.old.content }
-    ensures gives { Gives (write_at volume.old.content id at bytes.now) volume.old.content volume.new.content result }
-    ensures room { HasHoldRoom result volume.new.spare }
-    ensures ends { KeepsEnds volume.old volume.new }
+    ensures leaves { Leaves (write_at volume.old.content id at bytes.now) volume.old volume.new result }
 {
     let Some(row) = volume.handle(id) else {
         return Tried::ends(Status::InvalidHandle);
@@ -169,9 +163,7 @@ fn write(
     bytes: &[u8],
 ) -> Tried
     requires may { MayUse volume.old.content }
-    ensures gives { Gives (try_write volume.old.content client handle at bytes.now) volume.old.content volume.new.content result }
-    ensures room { HasHoldRoom result volume.new.spare }
-    ensures ends { KeepsEnds volume.old volume.new }
+    ensures leaves { Leaves (try_write volume.old.content client handle at bytes.now) volume.old volume.new result }
 {
     let Some(id) = volume.handle_of(client, handle) else {
         return Tried::ends(Status::InvalidHandle);
@@ -189,9 +181,7 @@ fn write(
 pub fn try_write(alloc: Global, volume: &mut Volume, call: &Call, _turn: u64) -> Tried
     requires verb { IsWrite call.now.what }
     requires may { MayUse volume.old.content }
-    ensures gives { Gives (asked_write volume.old.content call.now.client call.now.what) volume.old.content volume.new.content result }
-    ensures room { HasHoldRoom result volume.new.spare }
-    ensures ends { KeepsEnds volume.old volume.new }
+    ensures leaves { Leaves (asked_write volume.old.content call.now.client call.now.what) volume.old volume.new result }
 {
     let What::Ask(Request::Write { handle, at, bytes }) = &call.what else {
         unreachable!()

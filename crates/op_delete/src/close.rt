@@ -9,7 +9,7 @@ ghost use Rattle.op_delete.specs.Calls.{IsClose, asked_close};
 ghost use Rattle.op_delete.specs.Conditions.{MayEnd};
 ghost use Rattle.op_delete.specs.Room.{HasSweepRoom, KeepsRoom, NotesTakeNoMore, close_dirs, close_units};
 ghost use Rattle.volume_state.specs.Room.{KeepsEnds};
-ghost use Rattle.volume_state.specs.Tried.{Gives, HasHoldRoom};
+ghost use Rattle.volume_state.specs.Tried.{Leaves};
 ghost use Rattle.fsa_types.specs.declared.status.Status.TheVariants as status;
 
 use crate::ends::{Ending, end_calls};
@@ -91,9 +91,7 @@ pub fn close(volume: &mut Volume, id: u64, handle: &HandleRow)
 
 // This handle is closed, once there is room.
 fn close_row(volume: &mut Volume, id: u64, handle: &HandleRow) -> Tried
-    ensures gives { Gives (ends_with (with_closed volume.old.content id handle.now) status.Success) volume.old.content volume.new.content result }
-    ensures room { HasHoldRoom result volume.new.spare }
-    ensures ends { KeepsEnds volume.old volume.new }
+    ensures leaves { Leaves (ends_with (with_closed volume.old.content id handle.now) status.Success) volume.old volume.new result }
 {
     if let Err(NoMemory) = room_to_close(volume, handle) {
         return Tried::NoMemory;
@@ -105,9 +103,7 @@ fn close_row(volume: &mut Volume, id: u64, handle: &HandleRow) -> Tried
 // The handle of this number is closed.
 #[tactic(auto, unfolding(fsa_model::specs::Close::close_at))]
 fn close_at(volume: &mut Volume, id: u64) -> Tried
-    ensures gives { Gives (close_at volume.old.content id) volume.old.content volume.new.content result }
-    ensures room { HasHoldRoom result volume.new.spare }
-    ensures ends { KeepsEnds volume.old volume.new }
+    ensures leaves { Leaves (close_at volume.old.content id) volume.old volume.new result }
 {
     let Some(row) = volume.handle(id) else {
         return Tried::ends(Status::InvalidHandle);
@@ -119,9 +115,7 @@ fn close_at(volume: &mut Volume, id: u64) -> Tried
 // A client's handle of this number is closed.
 #[tactic(auto, unfolding(fsa_model::specs::Close::try_close))]
 fn close_named(volume: &mut Volume, client: u32, number: u32) -> Tried
-    ensures gives { Gives (try_close volume.old.content client number) volume.old.content volume.new.content result }
-    ensures room { HasHoldRoom result volume.new.spare }
-    ensures ends { KeepsEnds volume.old volume.new }
+    ensures leaves { Leaves (try_close volume.old.content client number) volume.old volume.new result }
 {
     match volume.handle_of(client, number) {
         None => Tried::ends(Status::InvalidHandle),
@@ -138,9 +132,7 @@ fn close_named(volume: &mut Volume, client: u32, number: u32) -> Tried
 pub fn try_close(_alloc: Global, volume: &mut Volume, call: &Call, _turn: u64) -> Tried
     requires verb { IsClose call.now.what }
     requires may { MayEnd volume.old.content call.now.client }
-    ensures gives { Gives (asked_close volume.old.content call.now.client call.now.what) volume.old.content volume.new.content result }
-    ensures room { HasHoldRoom result volume.new.spare }
-    ensures ends { KeepsEnds volume.old volume.new }
+    ensures leaves { Leaves (asked_close volume.old.content call.now.client call.now.what) volume.old volume.new result }
 {
     let What::Ask(Request::Close { handle }) = &call.what else {
         unreachable!()

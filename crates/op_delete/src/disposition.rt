@@ -9,8 +9,7 @@ ghost use Rattle.fsa_model.specs.SetDisposition.{delete_by, delete_marked, set_d
 ghost use Rattle.op_delete.specs.Calls.{IsSetDisposition, asked_set_disposition};
 ghost use Rattle.op_delete.specs.Conditions.{MayMark};
 ghost use Rattle.op_parts.specs.Room.{HasWaitRoom};
-ghost use Rattle.volume_state.specs.Room.{KeepsEnds};
-ghost use Rattle.volume_state.specs.Tried.{Gives, HasHoldRoom};
+ghost use Rattle.volume_state.specs.Tried.{Leaves};
 
 use crate::close::bare;
 use crate::marks::{marked_handles, set_mark};
@@ -27,9 +26,7 @@ fn delete_in_room(volume: &mut Volume, id: u64, handle: &HandleRow, blockers: Bl
     requires may { MayMark volume.old.content }
     requires room { HasWaitRoom volume.old.content volume.old.spare blockers }
     requires empty { IfSome (row_of volume.old.content.links handle.now.link) (λ row. has_child volume.old.content.links row.file ≡ false) }
-    ensures gives { Gives (delete_marked volume.old.content id handle.now) volume.old.content volume.new.content result }
-    ensures room { HasHoldRoom result volume.new.spare }
-    ensures ends { KeepsEnds volume.old volume.new }
+    ensures leaves { Leaves (delete_marked volume.old.content id handle.now) volume.old volume.new result }
 {
     let mut blockers = blockers;
     let on = marked_handles(volume, handle);
@@ -45,9 +42,7 @@ fn delete_in_room(volume: &mut Volume, id: u64, handle: &HandleRow, blockers: Bl
 fn delete_marked(alloc: Global, volume: &mut Volume, id: u64, handle: &HandleRow) -> Tried
     requires may { MayMark volume.old.content }
     requires empty { IfSome (row_of volume.old.content.links handle.now.link) (λ row. has_child volume.old.content.links row.file ≡ false) }
-    ensures gives { Gives (delete_marked volume.old.content id handle.now) volume.old.content volume.new.content result }
-    ensures room { HasHoldRoom result volume.new.spare }
-    ensures ends { KeepsEnds volume.old volume.new }
+    ensures leaves { Leaves (delete_marked volume.old.content id handle.now) volume.old volume.new result }
 {
     let Ok(blockers) = room_to_wait(alloc, volume, &Need::nothing()) else {
         return Tried::NoMemory;
@@ -74,9 +69,7 @@ fn is_of_parent(volume: &Volume, handle: &HandleRow) -> bool
 #[tactic(auto, unfolding(fsa_model::specs::SetDisposition::delete_by))]
 fn delete_by(alloc: Global, volume: &mut Volume, id: u64, handle: &HandleRow) -> Tried
     requires may { MayMark volume.old.content }
-    ensures gives { Gives (delete_by volume.old.content id handle.now) volume.old.content volume.new.content result }
-    ensures room { HasHoldRoom result volume.new.spare }
-    ensures ends { KeepsEnds volume.old volume.new }
+    ensures leaves { Leaves (delete_by volume.old.content id handle.now) volume.old volume.new result }
 {
     if is_kept(volume, handle) {
         return Tried::ends(Status::CannotDelete);
@@ -97,9 +90,7 @@ fn set_disposition_by(
     delete: bool,
 ) -> Tried
     requires may { MayMark volume.old.content }
-    ensures gives { Gives (set_disposition_by volume.old.content id handle.now delete) volume.old.content volume.new.content result }
-    ensures room { HasHoldRoom result volume.new.spare }
-    ensures ends { KeepsEnds volume.old volume.new }
+    ensures leaves { Leaves (set_disposition_by volume.old.content id handle.now delete) volume.old volume.new result }
 {
     if !has_right(handle.access, AccessMask::DELETE) {
         return Tried::ends(Status::AccessDenied);
@@ -115,9 +106,7 @@ fn set_disposition_by(
 #[tactic(auto, unfolding(fsa_model::specs::SetDisposition::set_disposition_at))]
 fn set_disposition_at(alloc: Global, volume: &mut Volume, id: u64, delete: bool) -> Tried
     requires may { MayMark volume.old.content }
-    ensures gives { Gives (set_disposition_at volume.old.content id delete) volume.old.content volume.new.content result }
-    ensures room { HasHoldRoom result volume.new.spare }
-    ensures ends { KeepsEnds volume.old volume.new }
+    ensures leaves { Leaves (set_disposition_at volume.old.content id delete) volume.old volume.new result }
 {
     let Some(row) = volume.handle(id) else {
         return Tried::ends(Status::InvalidHandle);
@@ -136,9 +125,7 @@ fn set_by_handle(
     delete: bool,
 ) -> Tried
     requires may { MayMark volume.old.content }
-    ensures gives { Gives (try_set_disposition volume.old.content client handle delete) volume.old.content volume.new.content result }
-    ensures room { HasHoldRoom result volume.new.spare }
-    ensures ends { KeepsEnds volume.old volume.new }
+    ensures leaves { Leaves (try_set_disposition volume.old.content client handle delete) volume.old volume.new result }
 {
     let Some(id) = volume.handle_of(client, handle) else {
         return Tried::ends(Status::InvalidHandle);
@@ -156,9 +143,7 @@ fn set_by_handle(
 pub fn try_set_disposition(alloc: Global, volume: &mut Volume, call: &Call, _turn: u64) -> Tried
     requires verb { IsSetDisposition call.now.what }
     requires may { MayMark volume.old.content }
-    ensures gives { Gives (asked_set_disposition volume.old.content call.now.client call.now.what) volume.old.content volume.new.content result }
-    ensures room { HasHoldRoom result volume.new.spare }
-    ensures ends { KeepsEnds volume.old volume.new }
+    ensures leaves { Leaves (asked_set_disposition volume.old.content call.now.client call.now.what) volume.old volume.new result }
 {
     let What::Ask(Request::SetDisposition { handle, delete }) = &call.what else {
         unreachable!()

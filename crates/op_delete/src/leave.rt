@@ -10,7 +10,7 @@ ghost use Rattle.op_delete.specs.Calls.{IsLeave, asked_leave};
 ghost use Rattle.op_delete.specs.Conditions.{MayEnd};
 ghost use Rattle.op_delete.specs.Room.{CountsOne, HasRoomForAll, HasSweepRoom, IsFirst, KeepsRoom, NotesTakeNoMore, all_dirs, all_units, close_dirs, close_units};
 ghost use Rattle.volume_state.specs.Room.{KeepsEnds};
-ghost use Rattle.volume_state.specs.Tried.{Gives, HasHoldRoom};
+ghost use Rattle.volume_state.specs.Tried.{Leaves};
 
 use crate::close::{bare, close};
 use crate::ends::{Ending, end_calls};
@@ -177,9 +177,7 @@ fn client_gone(volume: &mut Volume, client: u32)
 #[tactic(auto, unfolding(fsa_model::specs::Close::try_leave))]
 fn leave(volume: &mut Volume, client: u32) -> Tried
     requires may { MayEnd volume.old.content client }
-    ensures gives { Gives (try_leave volume.old.content client) volume.old.content volume.new.content result }
-    ensures room { HasHoldRoom result volume.new.spare }
-    ensures ends { KeepsEnds volume.old volume.new }
+    ensures leaves { Leaves (try_leave volume.old.content client) volume.old volume.new result }
 {
     if let Err(NoMemory) = room_to_leave(volume, client) {
         return Tried::NoMemory;
@@ -198,9 +196,7 @@ fn leave(volume: &mut Volume, client: u32) -> Tried
 pub fn try_leave(_alloc: Global, volume: &mut Volume, call: &Call, _turn: u64) -> Tried
     requires verb { IsLeave call.now.what }
     requires may { MayEnd volume.old.content call.now.client }
-    ensures gives { Gives (asked_leave volume.old.content call.now.client call.now.what) volume.old.content volume.new.content result }
-    ensures room { HasHoldRoom result volume.new.spare }
-    ensures ends { KeepsEnds volume.old volume.new }
+    ensures leaves { Leaves (asked_leave volume.old.content call.now.client call.now.what) volume.old volume.new result }
 {
     let What::Leave = &call.what else {
         unreachable!()

@@ -7,7 +7,7 @@ ghost use Rattle.fsa_types.specs.Rows.{lives};
 ghost use Rattle.fsa_model.specs.Watching.{due_size, is_notify_filter, notify_at, notify_due, report, try_notify, watch_of, with_watch_begun, with_watch_seen};
 ghost use Rattle.op_dir.specs.Calls.{IsNotify, asked_notify};
 ghost use Rattle.volume_state.specs.Room.{KeepsEnds};
-ghost use Rattle.volume_state.specs.Tried.{Gives, HasHoldRoom};
+ghost use Rattle.volume_state.specs.Tried.{Leaves};
 
 use bitflags::Flags;
 use fsa_types::{
@@ -62,9 +62,7 @@ fn room_to_watch(volume: &mut Volume, watches: u32) -> Result<(), NoMemory>
 fn begun(volume: &mut Volume, id: u64, filter: u32, tree: bool) -> Tried
     requires living { IsTrue (lives volume.old.content.handles id) }
     requires new { watch_of volume.old.content id ≡ None }
-    ensures gives { (room : ℕ) → Gives (notify_due (with_watch_begun volume.old.content id filter tree) id room) volume.old.content volume.new.content result }
-    ensures room { HasHoldRoom result volume.new.spare }
-    ensures ends { KeepsEnds volume.old volume.new }
+    ensures leaves { (room : ℕ) → Leaves (notify_due (with_watch_begun volume.old.content id filter tree) id room) volume.old volume.new result }
 {
     if let Err(NoMemory) = room_to_watch(volume, 1) {
         return Tried::NoMemory;
@@ -75,9 +73,7 @@ fn begun(volume: &mut Volume, id: u64, filter: u32, tree: bool) -> Tried
 
 // What is due is reported at once; where nothing is, the call waits.
 fn notify_due(alloc: Global, volume: &mut Volume, id: u64, room: u32) -> Tried
-    ensures gives { Gives (notify_due volume.old.content id room) volume.old.content volume.new.content result }
-    ensures room { HasHoldRoom result volume.new.spare }
-    ensures ends { KeepsEnds volume.old volume.new }
+    ensures leaves { Leaves (notify_due volume.old.content id room) volume.old volume.new result }
 {
     if volume.is_something_due(id) {
         return match report(alloc, volume, id, room) {
@@ -101,9 +97,7 @@ fn notify_watching(
     room: u32,
 ) -> Tried
     requires living { IsTrue (lives volume.old.content.handles id) }
-    ensures gives { Gives (notify_due (with_watch_begun volume.old.content id filter tree) id room) volume.old.content volume.new.content result }
-    ensures room { HasHoldRoom result volume.new.spare }
-    ensures ends { KeepsEnds volume.old volume.new }
+    ensures leaves { Leaves (notify_due (with_watch_begun volume.old.content id filter tree) id room) volume.old volume.new result }
 {
     if volume.has_watch(id) {
         notify_due(alloc, volume, id, room)
@@ -142,9 +136,7 @@ fn notify_at(
     room: u32,
 ) -> Tried
     requires living { IsTrue (lives volume.old.content.handles id) }
-    ensures gives { Gives (notify_at volume.old.content id filter tree room) volume.old.content volume.new.content result }
-    ensures room { HasHoldRoom result volume.new.spare }
-    ensures ends { KeepsEnds volume.old volume.new }
+    ensures leaves { Leaves (notify_at volume.old.content id filter tree room) volume.old volume.new result }
 {
     let Some(handle) = volume.handle(id) else {
         return Tried::ends(Status::InvalidHandle);
@@ -175,9 +167,7 @@ fn notify(
     tree: bool,
     room: u32,
 ) -> Tried
-    ensures gives { Gives (try_notify volume.old.content client handle filter tree room) volume.old.content volume.new.content result }
-    ensures room { HasHoldRoom result volume.new.spare }
-    ensures ends { KeepsEnds volume.old volume.new }
+    ensures leaves { Leaves (try_notify volume.old.content client handle filter tree room) volume.old volume.new result }
 {
     let Some(id) = volume.handle_of(client, handle) else {
         return Tried::ends(Status::InvalidHandle);
@@ -195,9 +185,7 @@ fn notify(
 /// changes nothing. No room for ends is used. `_turn` is the number of the turn; nothing here needs it.
 pub fn try_notify(alloc: Global, volume: &mut Volume, call: &Call, _turn: u64) -> Tried
     requires verb { IsNotify call.now.what }
-    ensures gives { Gives (asked_notify volume.old.content call.now.client call.now.what) volume.old.content volume.new.content result }
-    ensures room { HasHoldRoom result volume.new.spare }
-    ensures ends { KeepsEnds volume.old volume.new }
+    ensures leaves { Leaves (asked_notify volume.old.content call.now.client call.now.what) volume.old volume.new result }
 {
     let What::Ask(
         Request::Notify {

@@ -9,7 +9,7 @@ ghost use Rattle.op_dir.specs.Calls.{IsQueryDir, asked_query_dir};
 ghost use Rattle.op_dir.specs.Listing.{Lists};
 ghost use Rattle.volume_rows.specs.Cursors.{cursor_of};
 ghost use Rattle.volume_state.specs.Room.{KeepsEnds};
-ghost use Rattle.volume_state.specs.Tried.{Gives, HasHoldRoom};
+ghost use Rattle.volume_state.specs.Tried.{Gives, HasHoldRoom, Leaves};
 
 use crate::begun::{Begun, begun_enumeration, is_refused};
 use crate::kinds::{head_size, pack_kind};
@@ -95,9 +95,7 @@ fn query_dir_in(
 ) -> Tried
     requires sound { is_refused begun.expression ≡ false }
     requires room { head_size (pack_kind kind) ≤ room }
-    ensures gives { Gives (query_dir_in volume.old.content id dir kind begun.expression (cursor_of begun.cursor) room) volume.old.content volume.new.content result }
-    ensures room { HasHoldRoom result volume.new.spare }
-    ensures ends { KeepsEnds volume.old volume.new }
+    ensures leaves { Leaves (query_dir_in volume.old.content id dir kind begun.expression (cursor_of begun.cursor) room) volume.old volume.new result }
 {
     match list_begun(alloc, volume, dir, kind, &begun, room) {
         Ok(listing) => list_entries(volume, id, kind, begun, listing),
@@ -117,9 +115,7 @@ fn query_dir_at(
     restart: bool,
     room: u32,
 ) -> Tried
-    ensures gives { Gives (query_dir_at volume.old.content id kind expression.now restart room) volume.old.content volume.new.content result }
-    ensures room { HasHoldRoom result volume.new.spare }
-    ensures ends { KeepsEnds volume.old volume.new }
+    ensures leaves { Leaves (query_dir_at volume.old.content id kind expression.now restart room) volume.old volume.new result }
 {
     let Some(handle) = volume.handle(id) else {
         return Tried::ends(Status::InvalidHandle);
@@ -160,9 +156,7 @@ fn query_dir(
     restart: bool,
     room: u32,
 ) -> Tried
-    ensures gives { Gives (try_query_dir volume.old.content client handle kind expression.now restart room) volume.old.content volume.new.content result }
-    ensures room { HasHoldRoom result volume.new.spare }
-    ensures ends { KeepsEnds volume.old volume.new }
+    ensures leaves { Leaves (try_query_dir volume.old.content client handle kind expression.now restart room) volume.old volume.new result }
 {
     let Some(id) = volume.handle_of(client, handle) else {
         return Tried::ends(Status::InvalidHandle);
@@ -177,9 +171,7 @@ fn query_dir(
 /// changes nothing. No room for ends is used. `_turn` is the number of the turn; nothing here needs it.
 pub fn try_query_dir(alloc: Global, volume: &mut Volume, call: &Call, _turn: u64) -> Tried
     requires verb { IsQueryDir call.now.what }
-    ensures gives { Gives (asked_query_dir volume.old.content call.now.client call.now.what) volume.old.content volume.new.content result }
-    ensures room { HasHoldRoom result volume.new.spare }
-    ensures ends { KeepsEnds volume.old volume.new }
+    ensures leaves { Leaves (asked_query_dir volume.old.content call.now.client call.now.what) volume.old volume.new result }
 {
     let What::Ask(
         Request::QueryDir {

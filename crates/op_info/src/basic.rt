@@ -5,7 +5,7 @@ ghost use Rattle.fsa_model.specs.SetBasic.{set_basic_at, set_basic_by, set_basic
 ghost use Rattle.op_info.specs.Calls.{IsSetBasic, asked_set_basic};
 ghost use Rattle.op_parts.specs.Room.{HasNoteRoom};
 ghost use Rattle.volume_state.specs.Room.{KeepsEnds};
-ghost use Rattle.volume_state.specs.Tried.{Gives, HasHoldRoom};
+ghost use Rattle.volume_state.specs.Tried.{Leaves};
 
 use crate::basics::{Basics, attributes_set, basic_bits, has_no_time, has_wrong_attributes};
 use crate::room::room_to_note;
@@ -58,9 +58,7 @@ fn set_in_room(volume: &mut Volume, link: u64, file: u64, asked: &Basics) -> Res
 // What is asked is set, unless it can't be.
 #[tactic(auto, unfolding(fsa_model::specs::SetBasic::set_basic_of))]
 fn set_basic_of(volume: &mut Volume, link: u64, file: u64, asked: &Basics) -> Tried
-    ensures gives { Gives (set_basic_of volume.old.content link file asked.now) volume.old.content volume.new.content result }
-    ensures room { HasHoldRoom result volume.new.spare }
-    ensures ends { KeepsEnds volume.old volume.new }
+    ensures leaves { Leaves (set_basic_of volume.old.content link file asked.now) volume.old volume.new result }
 {
     if has_no_time(asked) {
         return Tried::ends(Status::InvalidParameter);
@@ -77,9 +75,7 @@ fn set_basic_of(volume: &mut Volume, link: u64, file: u64, asked: &Basics) -> Tr
 // Of the file of the handle of this number; the handle's right comes first.
 #[tactic(auto, unfolding(fsa_model::specs::SetBasic::set_basic_at, fsa_model::specs::SetBasic::set_basic_by))]
 fn set_basic_at(volume: &mut Volume, id: u64, asked: &Basics) -> Tried
-    ensures gives { Gives (set_basic_at volume.old.content id asked.now) volume.old.content volume.new.content result }
-    ensures room { HasHoldRoom result volume.new.spare }
-    ensures ends { KeepsEnds volume.old volume.new }
+    ensures leaves { Leaves (set_basic_at volume.old.content id asked.now) volume.old volume.new result }
 {
     let Some(handle) = volume.handle(id) else {
         return Tried::ends(Status::InvalidHandle);
@@ -97,9 +93,7 @@ fn set_basic_at(volume: &mut Volume, id: u64, asked: &Basics) -> Tried
 // One try of it.
 #[tactic(auto, unfolding(fsa_model::specs::SetBasic::try_set_basic))]
 fn set_by_handle(volume: &mut Volume, client: u32, handle: u32, asked: &Basics) -> Tried
-    ensures gives { Gives (try_set_basic volume.old.content client handle asked.now) volume.old.content volume.new.content result }
-    ensures room { HasHoldRoom result volume.new.spare }
-    ensures ends { KeepsEnds volume.old volume.new }
+    ensures leaves { Leaves (try_set_basic volume.old.content client handle asked.now) volume.old volume.new result }
 {
     let Some(id) = volume.handle_of(client, handle) else {
         return Tried::ends(Status::InvalidHandle);
@@ -114,9 +108,7 @@ fn set_by_handle(volume: &mut Volume, client: u32, handle: u32, asked: &Basics) 
 /// room for ends is used. `_alloc` and `_turn`, the number of the turn, aren't needed here.
 pub fn try_set_basic(_alloc: Global, volume: &mut Volume, call: &Call, _turn: u64) -> Tried
     requires verb { IsSetBasic call.now.what }
-    ensures gives { Gives (asked_set_basic volume.old.content call.now.client call.now.what) volume.old.content volume.new.content result }
-    ensures room { HasHoldRoom result volume.new.spare }
-    ensures ends { KeepsEnds volume.old volume.new }
+    ensures leaves { Leaves (asked_set_basic volume.old.content call.now.client call.now.what) volume.old volume.new result }
 {
     let What::Ask(
         Request::SetBasic {

@@ -3,8 +3,7 @@
 ghost use Rattle.std.specs.Prelude.{◌≡◌};
 ghost use Rattle.fsa_model.specs.QueryInfo.{fixed_size, got, needs_attributes, query_file, query_info_at, query_info_by, try_query_info};
 ghost use Rattle.op_info.specs.Calls.{IsQueryInfo, asked_query_info};
-ghost use Rattle.volume_state.specs.Room.{KeepsEnds};
-ghost use Rattle.volume_state.specs.Tried.{Gives, HasHoldRoom};
+ghost use Rattle.volume_state.specs.Tried.{Leaves};
 
 use crate::kinds::{basic_of, standard_of, tag_of};
 use crate::streams::query_streams_by;
@@ -52,8 +51,7 @@ fn query_file(
     kind: InfoKind,
     room: u32,
 ) -> Tried
-    ensures gives { Gives (query_file volume.now.content handle.now file kind room) volume.now.content volume.now.content result }
-    ensures room { HasHoldRoom result volume.now.spare }
+    ensures leaves { Leaves (query_file volume.now.content handle.now file kind room) volume.now volume.now result }
 {
     match kind {
         InfoKind::Basic => match basic_of(alloc, volume, file) {
@@ -85,8 +83,7 @@ fn query_info_by(
     kind: InfoKind,
     room: u32,
 ) -> Tried
-    ensures gives { Gives (query_info_by volume.now.content handle.now kind room) volume.now.content volume.now.content result }
-    ensures room { HasHoldRoom result volume.now.spare }
+    ensures leaves { Leaves (query_info_by volume.now.content handle.now kind room) volume.now volume.now result }
 {
     if room < fixed_size(kind) {
         return Tried::ends(Status::InfoLengthMismatch);
@@ -103,8 +100,7 @@ fn query_info_by(
 // Of the handle of this number.
 #[tactic(auto, unfolding(fsa_model::specs::QueryInfo::query_info_at))]
 fn query_info_at(alloc: Global, volume: &Volume, id: u64, kind: InfoKind, room: u32) -> Tried
-    ensures gives { Gives (query_info_at volume.now.content id kind room) volume.now.content volume.now.content result }
-    ensures room { HasHoldRoom result volume.now.spare }
+    ensures leaves { Leaves (query_info_at volume.now.content id kind room) volume.now volume.now result }
 {
     let Some(handle) = volume.handle(id) else {
         return Tried::ends(Status::InvalidHandle);
@@ -122,8 +118,7 @@ fn query_by_handle(
     kind: InfoKind,
     room: u32,
 ) -> Tried
-    ensures gives { Gives (try_query_info volume.now.content client handle kind room) volume.now.content volume.now.content result }
-    ensures room { HasHoldRoom result volume.now.spare }
+    ensures leaves { Leaves (try_query_info volume.now.content client handle kind room) volume.now volume.now result }
 {
     let Some(id) = volume.handle_of(client, handle) else {
         return Tried::ends(Status::InvalidHandle);
@@ -138,9 +133,7 @@ fn query_by_handle(
 /// the bytes. No room for ends is used. `_turn` is the number of the turn; nothing here needs it.
 pub fn try_query_info(alloc: Global, volume: &mut Volume, call: &Call, _turn: u64) -> Tried
     requires verb { IsQueryInfo call.now.what }
-    ensures gives { Gives (asked_query_info volume.old.content call.now.client call.now.what) volume.old.content volume.new.content result }
-    ensures room { HasHoldRoom result volume.new.spare }
-    ensures ends { KeepsEnds volume.old volume.new }
+    ensures leaves { Leaves (asked_query_info volume.old.content call.now.client call.now.what) volume.old volume.new result }
 {
     let What::Ask(Request::QueryInfo { handle, kind, room }) = &call.what else {
         unreachable!()

@@ -5,7 +5,7 @@ ghost use Rattle.fsa_types.specs.Request.{dacl_fits, what_fits};
 ghost use Rattle.fsa_model.specs.Security.{set_security_at, set_security_of, try_set_security, with_security};
 ghost use Rattle.op_info.specs.Calls.{IsSetSecurity, asked_set_security};
 ghost use Rattle.volume_state.specs.Room.{KeepsEnds};
-ghost use Rattle.volume_state.specs.Tried.{Gives, HasHoldRoom};
+ghost use Rattle.volume_state.specs.Tried.{Leaves};
 
 use crate::asked::{is_foreign, lacks_right};
 use crate::change::set_security;
@@ -50,9 +50,7 @@ fn set_security_of(
 ) -> Tried
     requires client { client < length volume.old.content.clients }
     requires fits { IsTrue (dacl_fits dacl.now) }
-    ensures gives { Gives (set_security_of volume.old.content client link file owner dacl.now) volume.old.content volume.new.content result }
-    ensures room { HasHoldRoom result volume.new.spare }
-    ensures ends { KeepsEnds volume.old volume.new }
+    ensures leaves { Leaves (set_security_of volume.old.content client link file owner dacl.now) volume.old volume.new result }
 {
     if is_foreign(volume, client, owner) {
         return Tried::ends(Status::AccessDenied);
@@ -78,9 +76,7 @@ fn set_security_at(
 ) -> Tried
     requires client { client < length volume.old.content.clients }
     requires fits { IsTrue (dacl_fits dacl.now) }
-    ensures gives { Gives (set_security_at volume.old.content client id owner dacl.now) volume.old.content volume.new.content result }
-    ensures room { HasHoldRoom result volume.new.spare }
-    ensures ends { KeepsEnds volume.old volume.new }
+    ensures leaves { Leaves (set_security_at volume.old.content client id owner dacl.now) volume.old volume.new result }
 {
     let Some(handle) = volume.handle(id) else {
         return Tried::ends(Status::InvalidHandle);
@@ -107,9 +103,7 @@ fn set_by_handle(
 ) -> Tried
     requires client { client < length volume.old.content.clients }
     requires fits { IsTrue (dacl_fits dacl.now) }
-    ensures gives { Gives (try_set_security volume.old.content client handle owner dacl.now) volume.old.content volume.new.content result }
-    ensures room { HasHoldRoom result volume.new.spare }
-    ensures ends { KeepsEnds volume.old volume.new }
+    ensures leaves { Leaves (try_set_security volume.old.content client handle owner dacl.now) volume.old volume.new result }
 {
     let Some(id) = volume.handle_of(client, handle) else {
         return Tried::ends(Status::InvalidHandle);
@@ -126,9 +120,7 @@ pub fn try_set_security(alloc: Global, volume: &mut Volume, call: &Call, _turn: 
     requires verb { IsSetSecurity call.now.what }
     requires fits { IsTrue (what_fits call.now.what) }
     requires client { call.now.client < length volume.old.content.clients }
-    ensures gives { Gives (asked_set_security volume.old.content call.now.client call.now.what) volume.old.content volume.new.content result }
-    ensures room { HasHoldRoom result volume.new.spare }
-    ensures ends { KeepsEnds volume.old volume.new }
+    ensures leaves { Leaves (asked_set_security volume.old.content call.now.client call.now.what) volume.old volume.new result }
 {
     let What::Ask(
         Request::SetSecurity {

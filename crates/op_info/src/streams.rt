@@ -6,7 +6,7 @@ ghost use Rattle.fsa_types.specs.Rows.{lives, row_of};
 ghost use Rattle.fsa_model.specs.QueryInfo.{query_streams, query_streams_by, stream_rows, streams_reply};
 ghost use Rattle.fsa_model.specs.Shown.{space_shown};
 ghost use Rattle.op_info.specs.Streams.{IsWalked};
-ghost use Rattle.volume_state.specs.Tried.{Gives, HasHoldRoom};
+ghost use Rattle.volume_state.specs.Tried.{Leaves};
 
 use fsa_types::{Body, Bytes, Name, NoMemory, PackKind, Reply, Status};
 use op_parts::{length_shown, space_shown};
@@ -81,8 +81,7 @@ fn streams_reply(status: Status, bytes: Bytes) -> Tried
 // All rows; or where not all fit, the whole ones that do.
 #[tactic(auto, unfolding(fsa_model::specs::QueryInfo::query_streams))]
 fn query_streams(alloc: Global, volume: &Volume, file: u64, room: u32) -> Tried
-    ensures gives { Gives (query_streams volume.now.content file room) volume.now.content volume.now.content result }
-    ensures room { HasHoldRoom result volume.now.spare }
+    ensures leaves { Leaves (query_streams volume.now.content file room) volume.now volume.now result }
 {
     let Ok(rows) = stream_rows(alloc, volume, file) else {
         return Tried::NoMemory;
@@ -108,8 +107,7 @@ pub fn query_streams_by(
     file: u64,
     room: u32,
 ) -> Tried
-    ensures gives { Gives (query_streams_by volume.now.content handle.now file room) volume.now.content volume.now.content result }
-    ensures room { HasHoldRoom result volume.now.spare }
+    ensures leaves { Leaves (query_streams_by volume.now.content handle.now file room) volume.now volume.now result }
 {
     if handle.stream.is_none() {
         return Tried::ends(Status::Success);

@@ -15,7 +15,7 @@ ghost use Rattle.op_parts.specs.Room.{HasWaitRoom};
 ghost use Rattle.op_parts.specs.Walks.{IsIn, ReachesHolder, walked_of};
 ghost use Rattle.volume_state.specs.Living.{CanBeLinked, CanHold};
 ghost use Rattle.volume_state.specs.Room.{KeepsEnds};
-ghost use Rattle.volume_state.specs.Tried.{Gives, HasHoldRoom};
+ghost use Rattle.volume_state.specs.Tried.{Gives, Leaves};
 
 use crate::naming::{Named, Naming, new_name, parts_of_name};
 use crate::replacement::{replace_fault, replace_link};
@@ -130,9 +130,7 @@ fn link_in_room(
     requires name { name ≡ new_name named.now }
     requires link { IsReplaceable volume.old.content replaced dir name }
     requires other { (linked_file volume.old.content replaced == named.now.file) ≡ false }
-    ensures gives { Gives (link_over_broken volume.old.content named.now dir replaced) volume.old.content volume.new.content result }
-    ensures room { HasHoldRoom result volume.new.spare }
-    ensures ends { KeepsEnds volume.old volume.new }
+    ensures leaves { Leaves (link_over_broken volume.old.content named.now dir replaced) volume.old volume.new result }
 {
     let mut blockers = blockers;
     let (acting, key) = (Some(named.handle()), named.key());
@@ -157,9 +155,7 @@ fn link_over_broken(
     requires file { CanBeLinked volume.old.content named.now.file }
     requires link { IsReplaceable volume.old.content replaced dir (new_name named.now) }
     requires other { (linked_file volume.old.content replaced == named.now.file) ≡ false }
-    ensures gives { Gives (link_over_broken volume.old.content named.now dir replaced) volume.old.content volume.new.content result }
-    ensures room { HasHoldRoom result volume.new.spare }
-    ensures ends { KeepsEnds volume.old volume.new }
+    ensures leaves { Leaves (link_over_broken volume.old.content named.now dir replaced) volume.old volume.new result }
 {
     let Ok(name) = Name::copy_of(alloc, named.name()) else {
         return Tried::NoMemory;
@@ -186,9 +182,7 @@ fn link_over_other(
     requires file { CanBeLinked volume.old.content named.now.file }
     requires child { child_of volume.old.content dir (new_name named.now) ≡ Some replaced }
     requires other { (linked_file volume.old.content replaced == named.now.file) ≡ false }
-    ensures gives { Gives (link_over_other volume.old.content named.now dir replaced) volume.old.content volume.new.content result }
-    ensures room { HasHoldRoom result volume.new.spare }
-    ensures ends { KeepsEnds volume.old volume.new }
+    ensures leaves { Leaves (link_over_other volume.old.content named.now dir replaced) volume.old volume.new result }
 {
     match replace_fault(volume, named.asked(), replaced) {
         Some(status) => Tried::ends(status),
@@ -204,9 +198,7 @@ fn link_over(alloc: Global, volume: &mut Volume, named: &Named, dir: u64, replac
     requires holds { CanHold volume.old.content dir }
     requires file { CanBeLinked volume.old.content named.now.file }
     requires child { child_of volume.old.content dir (new_name named.now) ≡ Some replaced }
-    ensures gives { Gives (link_over volume.old.content named.now dir replaced) volume.old.content volume.new.content result }
-    ensures room { HasHoldRoom result volume.new.spare }
-    ensures ends { KeepsEnds volume.old volume.new }
+    ensures leaves { Leaves (link_over volume.old.content named.now dir replaced) volume.old volume.new result }
 {
     if linked_file(volume, replaced) != named.file() {
         return link_over_other(alloc, volume, named, dir, replaced);
@@ -241,9 +233,7 @@ fn link_into(alloc: Global, volume: &mut Volume, named: &Named, dir: u64) -> Tri
     requires client { named.now.client < length volume.old.content.clients }
     requires holds { CanHold volume.old.content dir }
     requires file { CanBeLinked volume.old.content named.now.file }
-    ensures gives { Gives (link_into volume.old.content named.now dir) volume.old.content volume.new.content result }
-    ensures room { HasHoldRoom result volume.new.spare }
-    ensures ends { KeepsEnds volume.old volume.new }
+    ensures leaves { Leaves (link_into volume.old.content named.now dir) volume.old volume.new result }
 {
     if !grants(volume, dir, named.client(), AccessMask::WRITE_DATA.bits()) {
         return Tried::ends(Status::AccessDenied);
@@ -273,9 +263,7 @@ fn link_walked(
     requires some { 0 < length (components naming.now.path) }
     requires holds { ReachesHolder volume.old.content walked }
     requires place { IsIn walked (components parts.now) }
-    ensures gives { Gives (link_walked volume.old.content naming.now (walked_of walked)) volume.old.content volume.new.content result }
-    ensures room { HasHoldRoom result volume.new.spare }
-    ensures ends { KeepsEnds volume.old volume.new }
+    ensures leaves { Leaves (link_walked volume.old.content naming.now (walked_of walked)) volume.old volume.new result }
 {
     match walked {
         Walked::Barred(status) => Tried::ends(status),
@@ -302,9 +290,7 @@ fn link_file(alloc: Global, volume: &mut Volume, naming: &Naming) -> Tried
     requires may { MayName volume.old.content }
     requires client { naming.now.client < length volume.old.content.clients }
     requires file { CanBeLinked volume.old.content naming.now.file }
-    ensures gives { Gives (link_file volume.old.content naming.now) volume.old.content volume.new.content result }
-    ensures room { HasHoldRoom result volume.new.spare }
-    ensures ends { KeepsEnds volume.old volume.new }
+    ensures leaves { Leaves (link_file volume.old.content naming.now) volume.old volume.new result }
 {
     if is_link_marked(volume, naming.link) {
         return Tried::ends(Status::AccessDenied);
@@ -324,9 +310,7 @@ fn link_file(alloc: Global, volume: &mut Volume, naming: &Naming) -> Tried
 #[tactic(auto, unfolding(fsa_model::specs::Link::link_at, fsa_model::specs::Link::link_by))]
 fn link_at(alloc: Global, volume: &mut Volume, id: u64, path: &[u16], replace: bool) -> Tried
     requires may { MayName volume.old.content }
-    ensures gives { Gives (link_at volume.old.content id path.now replace) volume.old.content volume.new.content result }
-    ensures room { HasHoldRoom result volume.new.spare }
-    ensures ends { KeepsEnds volume.old volume.new }
+    ensures leaves { Leaves (link_at volume.old.content id path.now replace) volume.old volume.new result }
 {
     let Some(row) = volume.handle(id) else {
         return Tried::ends(Status::InvalidHandle);
@@ -360,9 +344,7 @@ fn link(
     replace: bool,
 ) -> Tried
     requires may { MayName volume.old.content }
-    ensures gives { Gives (try_link volume.old.content client handle path.now replace) volume.old.content volume.new.content result }
-    ensures room { HasHoldRoom result volume.new.spare }
-    ensures ends { KeepsEnds volume.old volume.new }
+    ensures leaves { Leaves (try_link volume.old.content client handle path.now replace) volume.old volume.new result }
 {
     let Some(id) = volume.handle_of(client, handle) else {
         return Tried::ends(Status::InvalidHandle);
@@ -380,9 +362,7 @@ fn link(
 pub fn try_link(alloc: Global, volume: &mut Volume, call: &Call, _turn: u64) -> Tried
     requires verb { IsLink call.now.what }
     requires may { MayName volume.old.content }
-    ensures gives { Gives (asked_link volume.old.content call.now.client call.now.what) volume.old.content volume.new.content result }
-    ensures room { HasHoldRoom result volume.new.spare }
-    ensures ends { KeepsEnds volume.old volume.new }
+    ensures leaves { Leaves (asked_link volume.old.content call.now.client call.now.what) volume.old volume.new result }
 {
     let What::Ask(
         Request::Link {

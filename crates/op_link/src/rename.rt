@@ -14,7 +14,7 @@ ghost use Rattle.op_link.specs.Conditions.{CanRename, CanReplace, EndsOrHolds, F
 ghost use Rattle.op_parts.specs.Walks.{IsIn, ReachesHolder, walked_of};
 ghost use Rattle.volume_state.specs.Living.{CanHold};
 ghost use Rattle.volume_state.specs.Room.{KeepsEnds};
-ghost use Rattle.volume_state.specs.Tried.{Gives, HasHoldRoom};
+ghost use Rattle.volume_state.specs.Tried.{Gives, Leaves};
 
 use crate::breaks::break_to_name;
 use crate::moved::{is_elsewhere, keeps_name, rename};
@@ -280,9 +280,7 @@ fn rename_into(alloc: Global, volume: &mut Volume, named: &Named, dir: u64) -> T
     requires client { named.now.client < length volume.old.content.clients }
     requires holds { CanHold volume.old.content dir }
     requires file { named.now.file ≡ linked_file volume.old.content named.now.link }
-    ensures gives { Gives (rename_into volume.old.content named.now dir) volume.old.content volume.new.content result }
-    ensures room { HasHoldRoom result volume.new.spare }
-    ensures ends { KeepsEnds volume.old volume.new }
+    ensures leaves { Leaves (rename_into volume.old.content named.now dir) volume.old volume.new result }
 {
     let Ok(name) = Name::copy_of(alloc, named.name()) else {
         return Tried::NoMemory;
@@ -315,9 +313,7 @@ fn rename_walked(
     requires some { 0 < length (components naming.now.path) }
     requires holds { ReachesHolder volume.old.content walked }
     requires place { IsIn walked (components parts.now) }
-    ensures gives { Gives (rename_walked volume.old.content naming.now (walked_of walked)) volume.old.content volume.new.content result }
-    ensures room { HasHoldRoom result volume.new.spare }
-    ensures ends { KeepsEnds volume.old volume.new }
+    ensures leaves { Leaves (rename_walked volume.old.content naming.now (walked_of walked)) volume.old volume.new result }
 {
     match walked {
         Walked::Barred(status) => Tried::ends(status),
@@ -335,9 +331,7 @@ fn rename_link(alloc: Global, volume: &mut Volume, naming: &Naming, access: u32)
     requires may { MayName volume.old.content }
     requires client { naming.now.client < length volume.old.content.clients }
     requires file { naming.now.file ≡ linked_file volume.old.content naming.now.link }
-    ensures gives { Gives (rename_link volume.old.content naming.now access) volume.old.content volume.new.content result }
-    ensures room { HasHoldRoom result volume.new.spare }
-    ensures ends { KeepsEnds volume.old volume.new }
+    ensures leaves { Leaves (rename_link volume.old.content naming.now access) volume.old volume.new result }
 {
     if !has_right(access, AccessMask::DELETE) {
         return Tried::ends(Status::AccessDenied);
@@ -356,9 +350,7 @@ fn rename_link(alloc: Global, volume: &mut Volume, naming: &Naming, access: u32)
 #[tactic(auto, unfolding(fsa_model::specs::Rename::rename_at, fsa_model::specs::Rename::rename_by))]
 fn rename_at(alloc: Global, volume: &mut Volume, id: u64, path: &[u16], replace: bool) -> Tried
     requires may { MayName volume.old.content }
-    ensures gives { Gives (rename_at volume.old.content id path.now replace) volume.old.content volume.new.content result }
-    ensures room { HasHoldRoom result volume.new.spare }
-    ensures ends { KeepsEnds volume.old volume.new }
+    ensures leaves { Leaves (rename_at volume.old.content id path.now replace) volume.old volume.new result }
 {
     let Some(row) = volume.handle(id) else {
         return Tried::ends(Status::InvalidHandle);
@@ -390,9 +382,7 @@ fn rename_by_handle(
     replace: bool,
 ) -> Tried
     requires may { MayName volume.old.content }
-    ensures gives { Gives (try_rename volume.old.content client handle path.now replace) volume.old.content volume.new.content result }
-    ensures room { HasHoldRoom result volume.new.spare }
-    ensures ends { KeepsEnds volume.old volume.new }
+    ensures leaves { Leaves (try_rename volume.old.content client handle path.now replace) volume.old volume.new result }
 {
     let Some(id) = volume.handle_of(client, handle) else {
         return Tried::ends(Status::InvalidHandle);
@@ -411,9 +401,7 @@ fn rename_by_handle(
 pub fn try_rename(alloc: Global, volume: &mut Volume, call: &Call, _turn: u64) -> Tried
     requires verb { IsRename call.now.what }
     requires may { MayName volume.old.content }
-    ensures gives { Gives (asked_rename volume.old.content call.now.client call.now.what) volume.old.content volume.new.content result }
-    ensures room { HasHoldRoom result volume.new.spare }
-    ensures ends { KeepsEnds volume.old volume.new }
+    ensures leaves { Leaves (asked_rename volume.old.content call.now.client call.now.what) volume.old volume.new result }
 {
     let What::Ask(
         Request::Rename {

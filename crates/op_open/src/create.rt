@@ -12,8 +12,7 @@ ghost use Rattle.op_open.specs.Calls.{IsCreate, asked_try};
 ghost use Rattle.op_open.specs.Conditions.{IsOpenBy, IsThere, MayOpen};
 ghost use Rattle.op_parts.specs.Walks.{IsIn, ReachesHolder, walked_of};
 ghost use Rattle.volume_state.specs.Living.{CanHold, is_link_to};
-ghost use Rattle.volume_state.specs.Room.{KeepsEnds};
-ghost use Rattle.volume_state.specs.Tried.{Gives, HasHoldRoom};
+ghost use Rattle.volume_state.specs.Tried.{Leaves};
 
 use crate::asked::{Asked, only_makes, overwrites};
 use crate::make::{create_missing, create_stream};
@@ -50,9 +49,7 @@ fn create_on_stream(
 ) -> Tried
     requires may { MayOpen volume.old.content opening.now.client opening.now.number }
     requires living { IsOpenBy volume.old.content link (Some stream) }
-    ensures gives { Gives (create_on_stream volume.old.content opening.now link file stream) volume.old.content volume.new.content result }
-    ensures room { HasHoldRoom result volume.new.spare }
-    ensures ends { KeepsEnds volume.old volume.new }
+    ensures leaves { Leaves (create_on_stream volume.old.content opening.now link file stream) volume.old volume.new result }
 {
     let asked = opening.asked();
     if opening.names_stream() && is_marked(volume, stream) {
@@ -111,9 +108,7 @@ fn create_in_file(
     requires linked { IsTrue (is_link_to volume.old.content.links link file) }
     requires file { IsTrue (lives volume.old.content.files file) }
     requires no_directory { is_directory volume.old.content.files file ≡ false }
-    ensures gives { Gives (create_in_file volume.old.content opening.now link file) volume.old.content volume.new.content result }
-    ensures room { HasHoldRoom result volume.new.spare }
-    ensures ends { KeepsEnds volume.old volume.new }
+    ensures leaves { Leaves (create_in_file volume.old.content opening.now link file) volume.old volume.new result }
 {
     match volume.stream_of(file, opening.stream_name()) {
         Some(stream) => create_on_stream(alloc, volume, opening, link, file, stream),
@@ -139,9 +134,7 @@ fn create_there(
 ) -> Tried
     requires may { MayOpen volume.old.content opening.now.client opening.now.number }
     requires there { IsThere volume.old.content link file }
-    ensures gives { Gives (create_there volume.old.content opening.now link file) volume.old.content volume.new.content result }
-    ensures room { HasHoldRoom result volume.new.spare }
-    ensures ends { KeepsEnds volume.old volume.new }
+    ensures leaves { Leaves (create_there volume.old.content opening.now link file) volume.old volume.new result }
 {
     let asked = opening.asked();
     if only_makes(asked.disposition) && !opening.names_stream() {
@@ -171,9 +164,7 @@ fn create_found(
 ) -> Tried
     requires may { MayOpen volume.old.content opening.now.client opening.now.number }
     requires there { IsThere volume.old.content link file }
-    ensures gives { Gives (create_found volume.old.content opening.now link file) volume.old.content volume.new.content result }
-    ensures room { HasHoldRoom result volume.new.spare }
-    ensures ends { KeepsEnds volume.old volume.new }
+    ensures leaves { Leaves (create_found volume.old.content opening.now link file) volume.old volume.new result }
 {
     if has_point(volume, file) && !opening.asked().opens_point() {
         return stopped(alloc, volume, file, &[]);
@@ -186,9 +177,7 @@ fn create_found(
 fn create_by_link(alloc: Global, volume: &mut Volume, opening: &Opening, link: u64) -> Tried
     requires may { MayOpen volume.old.content opening.now.client opening.now.number }
     requires lives { IsTrue (lives volume.old.content.links link) }
-    ensures gives { Gives (create_by_link volume.old.content opening.now link) volume.old.content volume.new.content result }
-    ensures room { HasHoldRoom result volume.new.spare }
-    ensures ends { KeepsEnds volume.old volume.new }
+    ensures leaves { Leaves (create_by_link volume.old.content opening.now link) volume.old volume.new result }
 {
     let Some(row) = volume.link(link) else {
         return Tried::ends(Status::ObjectNameNotFound);
@@ -211,9 +200,7 @@ fn create_named(
 ) -> Tried
     requires may { MayOpen volume.old.content opening.now.client opening.now.number }
     requires holds { CanHold volume.old.content dir }
-    ensures gives { Gives (create_named volume.old.content opening.now dir name.now) volume.old.content volume.new.content result }
-    ensures room { HasHoldRoom result volume.new.spare }
-    ensures ends { KeepsEnds volume.old volume.new }
+    ensures leaves { Leaves (create_named volume.old.content opening.now dir name.now) volume.old volume.new result }
 {
     match volume.child(dir, name) {
         Some(link) => create_by_link(alloc, volume, opening, link),
@@ -234,9 +221,7 @@ fn create_walked(
     requires path { parts.now ≡ opening.now.path }
     requires holds { ReachesHolder volume.old.content walked }
     requires place { IsIn walked (components parts.now) }
-    ensures gives { Gives (create_walked volume.old.content opening.now (walked_of walked)) volume.old.content volume.new.content result }
-    ensures room { HasHoldRoom result volume.new.spare }
-    ensures ends { KeepsEnds volume.old volume.new }
+    ensures leaves { Leaves (create_walked volume.old.content opening.now (walked_of walked)) volume.old volume.new result }
 {
     match walked {
         Walked::Barred(status) => Tried::ends(status),
@@ -262,9 +247,7 @@ fn create_walked(
 fn create_at(alloc: Global, volume: &mut Volume, asked: &Asked, parts: &PathParts) -> Tried
     requires may { MayOpen volume.old.content asked.now.client asked.now.number }
     requires path { parts.now ≡ asked.now.path }
-    ensures gives { Gives (create_at volume.old.content asked.now) volume.old.content volume.new.content result }
-    ensures room { HasHoldRoom result volume.new.spare }
-    ensures ends { KeepsEnds volume.old volume.new }
+    ensures leaves { Leaves (create_at volume.old.content asked.now) volume.old volume.new result }
 {
     let opening = Opening::new(asked, parts);
     if opening.has_stream_part() && asked.wants_directory() {
@@ -278,9 +261,7 @@ fn create_at(alloc: Global, volume: &mut Volume, asked: &Asked, parts: &PathPart
 #[tactic(auto, unfolding(fsa_model::specs::Open::try_create))]
 fn create(alloc: Global, volume: &mut Volume, asked: &Asked) -> Tried
     requires may { MayOpen volume.old.content asked.now.client asked.now.number }
-    ensures gives { Gives (try_create volume.old.content asked.now) volume.old.content volume.new.content result }
-    ensures room { HasHoldRoom result volume.new.spare }
-    ensures ends { KeepsEnds volume.old volume.new }
+    ensures leaves { Leaves (try_create volume.old.content asked.now) volume.old volume.new result }
 {
     if asked.is_invalid() {
         return Tried::ends(Status::InvalidParameter);
@@ -308,9 +289,7 @@ fn create(alloc: Global, volume: &mut Volume, asked: &Asked) -> Tried
 pub fn try_create(alloc: Global, volume: &mut Volume, call: &Call, _turn: u64) -> Tried
     requires verb { IsCreate call.now.what }
     requires may { MayOpen volume.old.content call.now.client call.now.number }
-    ensures gives { Gives (asked_try volume.old.content call.now.client call.now.number call.now.what) volume.old.content volume.new.content result }
-    ensures room { HasHoldRoom result volume.new.spare }
-    ensures ends { KeepsEnds volume.old volume.new }
+    ensures leaves { Leaves (asked_try volume.old.content call.now.client call.now.number call.now.what) volume.old volume.new result }
 {
     let What::Ask(
         Request::Create {

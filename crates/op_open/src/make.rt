@@ -14,7 +14,7 @@ ghost use Rattle.volume_state.specs.VolumeView.{room_for};
 ghost use Rattle.fsa_model.specs.Changes.{units_noted, dirs_noted};
 ghost use Rattle.volume_state.specs.Living.{CanHold, is_link_to};
 ghost use Rattle.volume_state.specs.Paths.{units_in, dirs_in};
-ghost use Rattle.volume_state.specs.Tried.{Gives, HasHoldRoom};
+ghost use Rattle.volume_state.specs.Tried.{Leaves};
 ghost use Rattle.fsa_types.specs.declared.reply.Action.TheVariants as action;
 ghost use Rattle.fsa_types.specs.declared.status.Status.TheVariants as status;
 
@@ -132,9 +132,7 @@ fn make_directory(
     requires may { MayOpen volume.old.content asked.now.client asked.now.number }
     requires holds { CanHold volume.old.content dir }
     requires new { child_of volume.old.content dir name.now ≡ None }
-    ensures gives { Gives (make_directory volume.old.content asked.now dir name.now) volume.old.content volume.new.content result }
-    ensures room { HasHoldRoom result volume.new.spare }
-    ensures ends { KeepsEnds volume.old volume.new }
+    ensures leaves { Leaves (make_directory volume.old.content asked.now dir name.now) volume.old volume.new result }
 {
     let Ok(name) = Name::copy_of(alloc, name) else {
         return Tried::NoMemory;
@@ -193,9 +191,7 @@ fn make_plain_file(
     requires may { MayOpen volume.old.content asked.now.client asked.now.number }
     requires holds { CanHold volume.old.content dir }
     requires new { child_of volume.old.content dir name.now ≡ None }
-    ensures gives { Gives (Opens (with_new_file volume.old.content asked.now dir name.now) status.Success action.Created) volume.old.content volume.new.content result }
-    ensures room { HasHoldRoom result volume.new.spare }
-    ensures ends { KeepsEnds volume.old volume.new }
+    ensures leaves { Leaves (Opens (with_new_file volume.old.content asked.now dir name.now) status.Success action.Created) volume.old volume.new result }
 {
     let Ok(name) = Name::copy_of(alloc, name) else {
         return Tried::NoMemory;
@@ -288,9 +284,7 @@ fn make_file_with_stream(
     requires new { child_of volume.old.content dir name.now ≡ None }
     requires stream { stream.now ≡ stream_name asked.now.path }
     requires named { same_name volume.old.content.table [] stream.now ≡ false }
-    ensures gives { Gives (Opens (with_new_file_and_stream volume.old.content asked.now dir name.now) status.Success action.Created) volume.old.content volume.new.content result }
-    ensures room { HasHoldRoom result volume.new.spare }
-    ensures ends { KeepsEnds volume.old volume.new }
+    ensures leaves { Leaves (Opens (with_new_file_and_stream volume.old.content asked.now dir name.now) status.Success action.Created) volume.old volume.new result }
 {
     let Ok(name) = Name::copy_of(alloc, name) else {
         return Tried::NoMemory;
@@ -323,9 +317,7 @@ fn make_file(
     requires stream { stream.now ≡ stream_name asked.now.path }
     requires named { named ≡ names_stream asked.now.path }
     requires differs { named ≡ true → same_name volume.old.content.table [] stream.now ≡ false }
-    ensures gives { Gives (make_file volume.old.content asked.now dir name.now) volume.old.content volume.new.content result }
-    ensures room { HasHoldRoom result volume.new.spare }
-    ensures ends { KeepsEnds volume.old volume.new }
+    ensures leaves { Leaves (make_file volume.old.content asked.now dir name.now) volume.old volume.new result }
 {
     if named {
         return make_file_with_stream(alloc, volume, asked, dir, name, stream);
@@ -355,9 +347,7 @@ pub fn create_missing(
     requires may { MayOpen volume.old.content opening.now.client opening.now.number }
     requires holds { CanHold volume.old.content dir }
     requires new { child_of volume.old.content dir name.now ≡ None }
-    ensures gives { Gives (create_missing volume.old.content opening.now dir name.now) volume.old.content volume.new.content result }
-    ensures room { HasHoldRoom result volume.new.spare }
-    ensures ends { KeepsEnds volume.old volume.new }
+    ensures leaves { Leaves (create_missing volume.old.content opening.now dir name.now) volume.old volume.new result }
 {
     let asked = opening.asked();
     if only_opens(asked.disposition) {
@@ -399,9 +389,7 @@ pub fn create_stream(
     requires file { IsTrue (lives volume.old.content.files file) }
     requires no_directory { is_directory volume.old.content.files file ≡ false }
     requires new { stream_of volume.old.content file (stream_name opening.now.path) ≡ None }
-    ensures gives { Gives (create_stream volume.old.content opening.now link file) volume.old.content volume.new.content result }
-    ensures room { HasHoldRoom result volume.new.spare }
-    ensures ends { KeepsEnds volume.old volume.new }
+    ensures leaves { Leaves (create_stream volume.old.content opening.now link file) volume.old volume.new result }
 {
     let asked = opening.asked();
     if only_opens(asked.disposition) {
@@ -481,9 +469,7 @@ fn make_stream(
     requires no_directory { is_directory volume.old.content.files file ≡ false }
     requires name { name.now ≡ stream_name asked.now.path }
     requires new { stream_of volume.old.content file name.now ≡ None }
-    ensures gives { Gives (Opens (with_new_stream volume.old.content asked.now link file) status.Success action.Created) volume.old.content volume.new.content result }
-    ensures room { HasHoldRoom result volume.new.spare }
-    ensures ends { KeepsEnds volume.old volume.new }
+    ensures leaves { Leaves (Opens (with_new_stream volume.old.content asked.now link file) status.Success action.Created) volume.old volume.new result }
 {
     let Ok(name) = Name::copy_of(alloc, name) else {
         return Tried::NoMemory;

@@ -6,7 +6,7 @@ ghost use Rattle.fsa_model.specs.Lookups.{handle_of};
 ghost use Rattle.op_open.specs.Conditions.{HasOpenRoom, IsOpenBy, MayOpen, noted_stream};
 ghost use Rattle.op_parts.specs.Room.{HasNoteRoom};
 ghost use Rattle.volume_state.specs.Room.{KeepsEnds};
-ghost use Rattle.volume_state.specs.Tried.{Gives, HasHoldRoom};
+ghost use Rattle.volume_state.specs.Tried.{Leaves};
 
 use crate::asked::{Asked, overwrites};
 use crate::breaks::clashed;
@@ -41,9 +41,7 @@ fn open_existing(
     requires may { MayOpen volume.old.content asked.now.client asked.now.number }
     requires living { IsOpenBy volume.old.content link stream }
     requires room { HasOpenRoom volume.old.content volume.old.spare blockers }
-    ensures gives { Gives (open_existing volume.old.content asked.now link stream on) volume.old.content volume.new.content result }
-    ensures room { HasHoldRoom result volume.new.spare }
-    ensures ends { KeepsEnds volume.old volume.new }
+    ensures leaves { Leaves (open_existing volume.old.content asked.now link stream on) volume.old volume.new result }
 {
     if !asked.wants_more() {
         open_handle(volume, asked, link, stream);
@@ -171,9 +169,7 @@ fn overwrite_existing(
     requires named { named ≡ names_stream asked.now.path }
     requires room { HasOpenRoom volume.old.content volume.old.spare blockers }
     requires note { HasNoteRoom volume.old.content volume.old.spare link (noted_stream stream named) }
-    ensures gives { Gives (overwrite_existing volume.old.content asked.now link file stream) volume.old.content volume.new.content result }
-    ensures room { HasHoldRoom result volume.new.spare }
-    ensures ends { KeepsEnds volume.old volume.new }
+    ensures leaves { Leaves (overwrite_existing volume.old.content asked.now link file stream) volume.old volume.new result }
 {
     let mut blockers = blockers;
     let on = HandleSet::Stream(stream);
@@ -190,9 +186,7 @@ fn open_in_room(volume: &mut Volume, asked: &Asked, link: u64, blockers: Blocker
     requires may { MayOpen volume.old.content asked.now.client asked.now.number }
     requires living { IsOpenBy volume.old.content link None }
     requires room { HasOpenRoom volume.old.content volume.old.spare blockers }
-    ensures gives { Gives (open_granted volume.old.content asked.now link) volume.old.content volume.new.content result }
-    ensures room { HasHoldRoom result volume.new.spare }
-    ensures ends { KeepsEnds volume.old volume.new }
+    ensures leaves { Leaves (open_granted volume.old.content asked.now link) volume.old volume.new result }
 {
     let on = HandleSet::Link(link);
     if volume.clashes(on, asked.access(), asked.share) {
@@ -205,9 +199,7 @@ fn open_in_room(volume: &mut Volume, asked: &Asked, link: u64, blockers: Blocker
 fn open_granted(alloc: Global, volume: &mut Volume, asked: &Asked, link: u64) -> Tried
     requires may { MayOpen volume.old.content asked.now.client asked.now.number }
     requires living { IsOpenBy volume.old.content link None }
-    ensures gives { Gives (open_granted volume.old.content asked.now link) volume.old.content volume.new.content result }
-    ensures room { HasHoldRoom result volume.new.spare }
-    ensures ends { KeepsEnds volume.old volume.new }
+    ensures leaves { Leaves (open_granted volume.old.content asked.now link) volume.old volume.new result }
 {
     let Ok(blockers) = room_to_open(alloc, volume) else {
         return Tried::NoMemory;
@@ -226,9 +218,7 @@ pub fn open_directory(
 ) -> Tried
     requires may { MayOpen volume.old.content asked.now.client asked.now.number }
     requires living { IsOpenBy volume.old.content link None }
-    ensures gives { Gives (open_directory volume.old.content asked.now link file) volume.old.content volume.new.content result }
-    ensures room { HasHoldRoom result volume.new.spare }
-    ensures ends { KeepsEnds volume.old volume.new }
+    ensures leaves { Leaves (open_directory volume.old.content asked.now link file) volume.old volume.new result }
 {
     if !grants(volume, file, asked.client, asked.access()) {
         return Tried::ends(Status::AccessDenied);
@@ -253,9 +243,7 @@ pub fn open_stream(
     requires may { MayOpen volume.old.content asked.now.client asked.now.number }
     requires living { IsOpenBy volume.old.content link (Some stream) }
     requires named { named ≡ names_stream asked.now.path }
-    ensures gives { Gives (open_stream volume.old.content asked.now link file stream) volume.old.content volume.new.content result }
-    ensures room { HasHoldRoom result volume.new.spare }
-    ensures ends { KeepsEnds volume.old volume.new }
+    ensures leaves { Leaves (open_stream volume.old.content asked.now link file stream) volume.old volume.new result }
 {
     let noted = noted_stream(stream, named);
     let Ok(blockers) = room_to_overwrite(alloc, volume, link, noted) else {

@@ -4,8 +4,7 @@ ghost use Rattle.std.specs.Prelude.{◌≡◌, ◌≤◌, true, false};
 ghost use Rattle.fsa_types.specs.Oplocks.{has_read};
 ghost use Rattle.fsa_model.specs.Grant.{ack_at, try_ack};
 ghost use Rattle.op_oplock.specs.Calls.{IsAck, asked_ack};
-ghost use Rattle.volume_state.specs.Room.{KeepsEnds};
-ghost use Rattle.volume_state.specs.Tried.{Gives, HasAnswer, HasHoldRoom};
+ghost use Rattle.volume_state.specs.Tried.{HasAnswer, Leaves};
 
 use crate::room::room_to_stay;
 use fsa_types::{Body, Call, Interim, Level, NoMemory, Request, Status, What};
@@ -28,10 +27,8 @@ fn acknowledged(kept: Level) -> Tried
 #[tactic(auto, using(crate::proofs::AckLaws::gives_answer), unfolding(fsa_model::specs::Grant::ack_at))]
 fn answer(volume: &mut Volume, id: u64, level: Level, turn: u64) -> Tried
     requires room { 1 ≤ volume.old.spare.pending }
-    ensures gives { Gives (ack_at volume.old.content id level turn) volume.old.content volume.new.content result }
+    ensures leaves { Leaves (ack_at volume.old.content id level turn) volume.old volume.new result }
     ensures answer { HasAnswer result }
-    ensures room { HasHoldRoom result volume.new.spare }
-    ensures ends { KeepsEnds volume.old volume.new }
 {
     match volume.answer_break(id, level, turn) {
         None => Tried::ends(Status::InvalidOplockProtocol),
@@ -41,10 +38,8 @@ fn answer(volume: &mut Volume, id: u64, level: Level, turn: u64) -> Tried
 
 // The same, where there is room.
 fn ack_at(volume: &mut Volume, id: u64, level: Level, turn: u64) -> Tried
-    ensures gives { Gives (ack_at volume.old.content id level turn) volume.old.content volume.new.content result }
+    ensures leaves { Leaves (ack_at volume.old.content id level turn) volume.old volume.new result }
     ensures memory { 1 ≤ volume.old.spare.pending → HasAnswer result }
-    ensures room { HasHoldRoom result volume.new.spare }
-    ensures ends { KeepsEnds volume.old volume.new }
 {
     if let Err(NoMemory) = room_to_stay(volume) {
         return Tried::NoMemory;
@@ -55,10 +50,8 @@ fn ack_at(volume: &mut Volume, id: u64, level: Level, turn: u64) -> Tried
 // One try of an acknowledgement.
 #[tactic(auto, unfolding(fsa_model::specs::Grant::try_ack))]
 fn ack(volume: &mut Volume, client: u32, handle: u32, level: Level, turn: u64) -> Tried
-    ensures gives { Gives (try_ack volume.old.content client handle level turn) volume.old.content volume.new.content result }
+    ensures leaves { Leaves (try_ack volume.old.content client handle level turn) volume.old volume.new result }
     ensures memory { 1 ≤ volume.old.spare.pending → HasAnswer result }
-    ensures room { HasHoldRoom result volume.new.spare }
-    ensures ends { KeepsEnds volume.old volume.new }
 {
     let Some(id) = volume.handle_of(client, handle) else {
         return Tried::ends(Status::InvalidHandle);
@@ -75,10 +68,8 @@ fn ack(volume: &mut Volume, client: u32, handle: u32, level: Level, turn: u64) -
 /// `_alloc` is that of every try.
 pub fn try_ack(_alloc: Global, volume: &mut Volume, call: &Call, turn: u64) -> Tried
     requires verb { IsAck call.now.what }
-    ensures gives { Gives (asked_ack volume.old.content call.now.client turn call.now.what) volume.old.content volume.new.content result }
+    ensures leaves { Leaves (asked_ack volume.old.content call.now.client turn call.now.what) volume.old volume.new result }
     ensures memory { 1 ≤ volume.old.spare.pending → HasAnswer result }
-    ensures room { HasHoldRoom result volume.new.spare }
-    ensures ends { KeepsEnds volume.old volume.new }
 {
     let What::Ask(Request::Ack { handle, level }) = &call.what else {
         unreachable!()

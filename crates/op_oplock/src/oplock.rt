@@ -4,8 +4,8 @@ ghost use Rattle.std.specs.Prelude.{◌≡◌, ◌≤◌, Some};
 ghost use Rattle.fsa_model.specs.Grant.{oplock_at, oplock_on, try_oplock};
 ghost use Rattle.op_oplock.specs.Calls.{IsOplock, asked_oplock};
 ghost use Rattle.volume_state.specs.Oplocks.{key_of_handle};
-ghost use Rattle.volume_state.specs.Room.{KeepsEnds, stream_of_handle};
-ghost use Rattle.volume_state.specs.Tried.{Gives, HasHoldRoom};
+ghost use Rattle.volume_state.specs.Room.{stream_of_handle};
+ghost use Rattle.volume_state.specs.Tried.{Leaves};
 
 use crate::room::room_to_grant;
 use fsa_types::{Call, Interim, Level, NoMemory, Request, Status, What};
@@ -17,9 +17,7 @@ use volume_state::{Grant, Tried, Volume};
 fn oplock_on(volume: &mut Volume, id: u64, key: u64, stream: u64, level: Level, turn: u64) -> Tried
     requires stream { stream_of_handle volume.old.content id ≡ Some stream }
     requires key { key_of_handle volume.old.content id ≡ key }
-    ensures gives { Gives (oplock_on volume.old.content id key stream level turn) volume.old.content volume.new.content result }
-    ensures room { HasHoldRoom result volume.new.spare }
-    ensures ends { KeepsEnds volume.old volume.new }
+    ensures leaves { Leaves (oplock_on volume.old.content id key stream level turn) volume.old volume.new result }
 {
     if let Err(NoMemory) = room_to_grant(volume, id) {
         return Tried::NoMemory;
@@ -33,9 +31,7 @@ fn oplock_on(volume: &mut Volume, id: u64, key: u64, stream: u64, level: Level, 
 // An oplock of the handle of this number; a directory has none.
 #[tactic(auto, unfolding(fsa_model::specs::Grant::oplock_at, fsa_model::specs::Grant::oplock_by))]
 fn oplock_at(volume: &mut Volume, id: u64, level: Level, turn: u64) -> Tried
-    ensures gives { Gives (oplock_at volume.old.content id level turn) volume.old.content volume.new.content result }
-    ensures room { HasHoldRoom result volume.new.spare }
-    ensures ends { KeepsEnds volume.old volume.new }
+    ensures leaves { Leaves (oplock_at volume.old.content id level turn) volume.old volume.new result }
 {
     let Some(row) = volume.handle(id) else {
         return Tried::ends(Status::InvalidHandle);
@@ -50,9 +46,7 @@ fn oplock_at(volume: &mut Volume, id: u64, level: Level, turn: u64) -> Tried
 // One try of an oplock's request.
 #[tactic(auto, unfolding(fsa_model::specs::Grant::try_oplock))]
 fn oplock(volume: &mut Volume, client: u32, handle: u32, level: Level, turn: u64) -> Tried
-    ensures gives { Gives (try_oplock volume.old.content client handle level turn) volume.old.content volume.new.content result }
-    ensures room { HasHoldRoom result volume.new.spare }
-    ensures ends { KeepsEnds volume.old volume.new }
+    ensures leaves { Leaves (try_oplock volume.old.content client handle level turn) volume.old volume.new result }
 {
     let Some(id) = volume.handle_of(client, handle) else {
         return Tried::ends(Status::InvalidHandle);
@@ -68,9 +62,7 @@ fn oplock(volume: &mut Volume, client: u32, handle: u32, level: Level, turn: u64
 /// nothing. `_alloc` is that of every try.
 pub fn try_oplock(_alloc: Global, volume: &mut Volume, call: &Call, turn: u64) -> Tried
     requires verb { IsOplock call.now.what }
-    ensures gives { Gives (asked_oplock volume.old.content call.now.client turn call.now.what) volume.old.content volume.new.content result }
-    ensures room { HasHoldRoom result volume.new.spare }
-    ensures ends { KeepsEnds volume.old volume.new }
+    ensures leaves { Leaves (asked_oplock volume.old.content call.now.client turn call.now.what) volume.old volume.new result }
 {
     let What::Ask(Request::Oplock { handle, level }) = &call.what else {
         unreachable!()

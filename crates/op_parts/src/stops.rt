@@ -5,7 +5,7 @@ ghost use Rattle.fsa_types.specs.declared.reply.Body.{Body as TheBody};
 ghost use Rattle.fsa_model.specs.Open.{stop_status, stopped};
 ghost use Rattle.fsa_model.specs.Outcome.{Done, refused};
 ghost use Rattle.fsa_model.specs.Volume.{Volume as Content};
-ghost use Rattle.volume_state.specs.Tried.{Gives, HasHoldRoom};
+ghost use Rattle.volume_state.specs.Tried.{Leaves};
 
 use fsa_types::{Body, IO_REPARSE_TAG_SYMLINK, Name, Reply, Status, TryCopy};
 use std::alloc::Global;
@@ -24,8 +24,7 @@ fn stop_status(tag: u32) -> Status
 /// The request is stopped by a file's reparse point, and these units of the path are left.
 #[tactic(auto, unfolding(fsa_model::specs::Open::stopped))]
 pub fn stopped(alloc: Global, volume: &Volume, file: u64, rest: &[u16]) -> Tried
-    ensures gives { Gives (stopped volume.now.content file rest.now) volume.now.content volume.now.content result }
-    ensures room { HasHoldRoom result volume.now.spare }
+    ensures leaves { Leaves (stopped volume.now.content file rest.now) volume.now volume.now result }
 {
     let Some(row) = volume.file(file) else {
         return Tried::ends(Status::ObjectPathNotFound);
