@@ -1,12 +1,12 @@
 //! The lines of a turn, written to a sink.
 
-ghost use Rattle.std.specs.Prelude.{◌≡◌, ◌≤◌, ◌++◌, map, IfSome, OnOk, OnErr, IsErrOf};
+ghost use Rattle.std.specs.Prelude.{◌≡◌, ◌++◌, map, IfSome, OnOk, OnErr};
 ghost use Rattle.fsa_model.specs.Outcome.{out_of};
 ghost use Rattle.fsa_model.specs.Setup.{client_of};
 ghost use Rattle.fsa_model.specs.Text.{bytes_text, last_line, turn_text};
 ghost use Rattle.wire_io.specs.Faults.{FailsLast, HasCause};
 ghost use Rattle.wire_io.specs.Sink.{Appends, AppendsPart};
-ghost use Rattle.text_out.specs.Writes.{Writes};
+ghost use Rattle.text_out.specs.Writes.{TellsFaults, Writes};
 
 use crate::bytes::{PART, write_bytes};
 use crate::text::{push_after_bytes, push_before_bytes, push_last, push_turn};
@@ -87,10 +87,7 @@ fn write_long_turn<K: Sink>(
 ) -> Result<(), TextFault>
     requires { out.now.answer ≡ Answer.Ended (record { status = status; body = Body.Got bytes.now }) }
     ensures writes { Writes (K.written sink.old) (K.written sink.new) (turn_text (map client_of names.now.items) call.now (out_of out.now)) result }
-    ensures later { K.faults sink.old ≤ K.faults sink.new }
-    ensures failed { IsErrOf result TextFault.Failed → FailsLast (K.faults sink.old) (K.faults sink.new) (K.written sink.new).since_fault }
-    ensures unfailed { OnOk result (K.faults sink.new ≡ K.faults sink.old) }
-    ensures no_memory { IsErrOf result TextFault.NoMemory → K.faults sink.new ≡ K.faults sink.old }
+    ensures faults { TellsFaults (K.faults sink.old) (K.faults sink.new) (K.written sink.new).since_fault result }
 {
     let mut before = Vec::new(alloc);
     push_before_bytes(&mut before, names, call, status)?;
@@ -109,10 +106,7 @@ fn write_short_turn<K: Sink>(
     out: &Out,
 ) -> Result<(), TextFault>
     ensures writes { Writes (K.written sink.old) (K.written sink.new) (turn_text (map client_of names.now.items) call.now (out_of out.now)) result }
-    ensures later { K.faults sink.old ≤ K.faults sink.new }
-    ensures failed { IsErrOf result TextFault.Failed → FailsLast (K.faults sink.old) (K.faults sink.new) (K.written sink.new).since_fault }
-    ensures unfailed { OnOk result (K.faults sink.new ≡ K.faults sink.old) }
-    ensures no_memory { IsErrOf result TextFault.NoMemory → K.faults sink.new ≡ K.faults sink.old }
+    ensures faults { TellsFaults (K.faults sink.old) (K.faults sink.new) (K.written sink.new).since_fault result }
 {
     let mut lines = Vec::new(alloc);
     push_turn(&mut lines, names, call, out)?;
@@ -131,10 +125,7 @@ pub fn write_turn<K: Sink>(
     out: &Out,
 ) -> Result<(), TextFault>
     ensures writes { Writes (K.written sink.old) (K.written sink.new) (turn_text (map client_of names.now.items) call.now (out_of out.now)) result }
-    ensures later { K.faults sink.old ≤ K.faults sink.new }
-    ensures failed { IsErrOf result TextFault.Failed → FailsLast (K.faults sink.old) (K.faults sink.new) (K.written sink.new).since_fault }
-    ensures unfailed { OnOk result (K.faults sink.new ≡ K.faults sink.old) }
-    ensures no_memory { IsErrOf result TextFault.NoMemory → K.faults sink.new ≡ K.faults sink.old }
+    ensures faults { TellsFaults (K.faults sink.old) (K.faults sink.new) (K.written sink.new).since_fault result }
 {
     match long_answer(&out.answer) {
         Some((status, bytes)) => write_long_turn(alloc, sink, names, call, out, status, bytes),
@@ -145,10 +136,7 @@ pub fn write_turn<K: Sink>(
 /// Writes the last line: the number of turns. `Failed` and `NoMemory` are as in `write_turn`.
 pub fn write_last<K: Sink>(alloc: Global, sink: &mut K, turns: u32) -> Result<(), TextFault>
     ensures writes { Writes (K.written sink.old) (K.written sink.new) (last_line turns) result }
-    ensures later { K.faults sink.old ≤ K.faults sink.new }
-    ensures failed { IsErrOf result TextFault.Failed → FailsLast (K.faults sink.old) (K.faults sink.new) (K.written sink.new).since_fault }
-    ensures unfailed { OnOk result (K.faults sink.new ≡ K.faults sink.old) }
-    ensures no_memory { IsErrOf result TextFault.NoMemory → K.faults sink.new ≡ K.faults sink.old }
+    ensures faults { TellsFaults (K.faults sink.old) (K.faults sink.new) (K.written sink.new).since_fault result }
 {
     let mut line = Vec::new(alloc);
     push_last(&mut line, turns)?;
