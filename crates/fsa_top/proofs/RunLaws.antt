@@ -34,13 +34,14 @@ use Rattle.history_laws.proofs.WholeLaws.{Scheduled-goes_on, left_falls, some_ru
 use Rattle.fsa_machine.specs.MachineView.{MachineView}
 use Rattle.wire_io.specs.Sink.{Written, Appends, AppendsPart}
 use Rattle.wire_io.proofs.SinkLaws.{Appends-append, Appends-none, AppendsPart-append, AppendsPart-longer, AppendsPart-none, AppendsPart-whole}
+use Rattle.text_out.specs.Writes.{Writes}
+use Rattle.text_out.specs.declared.write.TextFault.{TextFault}
+use Rattle.text_out.specs.declared.write.TextFault.TheVariants.{Failed, NoMemory}
 use Rattle.fsa_top.specs.Order.{AreNextPlaces, IsLeastCursor, IsWithinLimits}
 use Rattle.fsa_top.specs.Runs.{IsHistory, WritesPart, WritesText}
 use Rattle.fsa_top.specs.Progress.{IsNextAt, MadeTurn, MakesTurn, WroteTurns, Progress}
 use Rattle.fsa_top.specs.declared.order.Order.{Order}
-use Rattle.fsa_top.specs.declared.run.RunFault.{RunFault}
 use Rattle.fsa_top.proofs.OrderLaws.{length-all_calls}
-use Rattle.fsa_top.specs.declared.run.RunFault.TheVariants.{Failed, NoMemory}
 
 pub OnErr-any : {T E : Type 0} (r : Result T E) (P : Type 0) → P → OnErr r P
 OnErr-any (Ok x) P p = tt
@@ -201,6 +202,18 @@ WroteTurns-begun script history written none = subst (λ (h : List HistoryEntry)
 
 -- ---- what was written so far
 
+-- where a text wasn't written whole, a part of it was, or nothing
+pub Writes-part : (old now : Written) (text : List ℕ) (fault : TextFault) → 0 < length text → Writes old now text (Err fault) → AppendsPart old now text
+Writes-part old now text Failed long wrote = wrote
+Writes-part old now text NoMemory long wrote = subst (λ (w : Written). AppendsPart old w text) (sym wrote) (AppendsPart-none old text long)
+
+-- a turn was made, and its lines were written so
+pub MakesTurn-made : (old new : MachineView) (call : Call) (out : TurnOut) (before now : Written) (result : Result (Unit {0}) TextFault) → MadeTurn old new call out
+    → Writes before now (turn_text old.setup.clients call out) result → MakesTurn old new call before now result
+MakesTurn-made old new call out before now (Ok done) made wrote = (out, made, wrote)
+MakesTurn-made old new call out before now (Err Failed) made wrote = (out, made, wrote)
+MakesTurn-made old new call out before now (Err NoMemory) made wrote = wrote
+
 some_last : (rest : List ℕ) (turns : ℕ) → 0 < length (rest ++ last_line turns)
 some_last rest turns = omega (arith, length-append rest (last_line turns))
 
@@ -229,16 +242,12 @@ WroteTurns-front script old new call out first mid now is_read setup is made fro
     (subst (AppendsPart first now) (sym (shown-turn script old new call out setup made)) (AppendsPart-append first mid now _ _ shows.wrote front)))
 
 -- a turn that wasn't made, or whose lines weren't written
-pub MakesTurn-part : (script : Script) (old new : MachineView) (call : Call) (first mid now : Written) (fault : RunFault) → IsReadScript script → old.setup ≡ script.setup → next script old.entries ≡ Some call
+pub MakesTurn-part : (script : Script) (old new : MachineView) (call : Call) (first mid now : Written) (fault : TextFault) → IsReadScript script → old.setup ≡ script.setup → next script old.entries ≡ Some call
     → MakesTurn old new call mid now (Err fault) → WroteTurns script old.entries first mid → WritesPart script first now
 MakesTurn-part script old new call first mid now Failed is_read setup is makes shows = WroteTurns-front script old new call makes.0 first mid now is_read setup is makes.1 makes.2 shows
 MakesTurn-part script old new call first mid now NoMemory is_read setup is makes shows = subst (WritesPart script first) (sym makes) (WroteTurns-part script old.entries first mid is_read shows)
 
 -- ---- the end
-
--- nothing of the last line was written
-pub last_none : (old now : Written) (turns : ℕ) → now ≡ old → AppendsPart old now (last_line turns)
-last_none old now turns same = subst (λ (w : Written). AppendsPart old w (last_line turns)) (sym same) (AppendsPart-none old (last_line turns) (omega arith))
 
 -- a part of the last line was written behind the lines of all turns
 pub WroteTurns-last_part : (script : Script) (history : List HistoryEntry) (first mid now : Written) → HasAllCalls script history → WroteTurns script history first mid → AppendsPart mid now (last_line (length history)) → WritesPart script first now

@@ -1,6 +1,6 @@
 -- The text of a history that is there already, written turn by turn.
 use Rattle.std.proofs.Common.{◌≡◌, ℕ, zero, suc, ◌+◌, List, [], ◌∷◌, ◌++◌, length, map, take, drop, true, false, Some, None, IsSome, refl, ap, sym, subst, ◌∙◌, append_assoc, append-nil, arith, inl, inr}
-use Rattle.std.specs.Prelude.{slice_get}
+use Rattle.std.specs.Prelude.{Result, Ok, Err, OnErr, OnOk, slice_get}
 use Rattle.fsa_types.specs.declared.request.Call.{Call}
 use Rattle.fsa_model.specs.History.{HistoryEntry, Run, run}
 use Rattle.fsa_model.specs.Outcome.{TurnOut}
@@ -9,8 +9,11 @@ use Rattle.fsa_model.specs.Text.{last_line, text, turn_text, turns_text}
 use Rattle.fsa_model.proofs.HistoryLaws.{run-gives}
 use Rattle.fsa_model.proofs.RowLaws.{option_cases}
 use Rattle.wire_io.specs.Sink.{Written, Appends, AppendsPart}
-use Rattle.wire_io.proofs.SinkLaws.{Appends-append, Appends-none, AppendsPart-append, AppendsPart-longer, AppendsPart-none}
+use Rattle.wire_io.proofs.SinkLaws.{Appends-append, Appends-none, AppendsPart-append, AppendsPart-longer}
+use Rattle.text_out.specs.Writes.{Writes}
+use Rattle.text_out.specs.declared.write.TextFault.{TextFault}
 use Rattle.fsa_top.specs.Shown.{ShowsFirst, ShowsTurn}
+use Rattle.fsa_top.proofs.RunLaws.{Writes-part}
 
 text_of_none : (clients : List Client) (history : List HistoryEntry) → turns_text clients history [] ≡ []
 text_of_none clients [] = refl
@@ -100,6 +103,10 @@ first-last_part script history first mid now some shows last =
     let r = some_run script history some in
     subst (AppendsPart first now) (sym (text_is script history r.0 r.1)) (AppendsPart-append first mid now _ _ (all_turns script history first mid r.0 r.1 shows) last)
 
--- nothing of the lines of a turn
-pub turn_none : (clients : List Client) (call : Call) (out : TurnOut) (old now : Written) → now ≡ old → AppendsPart old now (turn_text clients call out)
-turn_none clients call out old now same = subst (λ (w : Written). AppendsPart old w (turn_text clients call out)) (sym same) (AppendsPart-none old (turn_text clients call out) (omega arith))
+-- what was written of the lines of one turn
+pub ShowsTurn-wrote : (script : Script) (history : List HistoryEntry) (turn : ℕ) (call : Call) (out : TurnOut) (old now : Written) (result : Result (Unit {0}) TextFault)
+    → slice_get (map (λ (entry : HistoryEntry). entry.call) history) turn ≡ Some call → ((r : Run) → run script.setup history ≡ Some r → slice_get r.outs turn ≡ Some out)
+    → Writes old now (turn_text script.setup.clients call out) result
+    → OnOk result (ShowsTurn Appends script history turn old now) × OnErr result (ShowsTurn AppendsPart script history turn old now)
+ShowsTurn-wrote script history turn call out old now (Ok done) at gave wrote = ((call, out, at, gave, wrote), tt)
+ShowsTurn-wrote script history turn call out old now (Err fault) at gave wrote = (tt, (call, out, at, gave, Writes-part old now (turn_text script.setup.clients call out) fault (omega arith) wrote))

@@ -11,10 +11,10 @@ use Rattle.history_laws.specs.Named.{IsReadScript}
 use Rattle.history_laws.specs.GoesOn.{how_many_left}
 use Rattle.fsa_machine.specs.MachineView.{GaveOut, MachineView}
 use Rattle.wire_io.specs.Sink.{Written, Appends, AppendsPart}
+use Rattle.text_out.specs.declared.write.TextFault.{TextFault}
+use Rattle.text_out.specs.declared.write.TextFault.TheVariants.{Failed, NoMemory}
 use Rattle.fsa_top.specs.Order.{AreNextPlaces, IsWithinLimits}
 use Rattle.fsa_top.specs.declared.order.Order.{Order}
-use Rattle.fsa_top.specs.declared.run.RunFault.{RunFault}
-use Rattle.fsa_top.specs.declared.run.RunFault.TheVariants.{Failed, NoMemory}
 
 -- the machine's history is a schedule of the script, and the order knows which of its calls were made
 pub record Progress (script : Script) (seen : MachineView) (order : Order) : Type 0 where
@@ -47,7 +47,7 @@ pub record MadeTurn (old new : MachineView) (call : Call) (out : TurnOut) : Type
 
 -- the turn was made and its lines were written; where the sink failed, a part of them was; where there was no
 -- memory, nothing was
-abbrev pub MakesTurn : MachineView → MachineView → Call → Written → Written → Result (Unit {0}) RunFault → Type 0
+abbrev pub MakesTurn : MachineView → MachineView → Call → Written → Written → Result (Unit {0}) TextFault → Type 0
 MakesTurn old new call written written_now (Ok done) =
     (out : TurnOut) × MadeTurn old new call out × Appends written written_now (turn_text old.setup.clients call out)
 MakesTurn old new call written written_now (Err Failed) =

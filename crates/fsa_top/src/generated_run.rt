@@ -12,12 +12,13 @@ ghost use Rattle.fsa_top.specs.Summaries.{IsSummary, WritesSummary, WritesSummar
 
 use crate::nowhere::Nowhere;
 use crate::order::Order;
-use crate::run::{RunFault, begin, run_calls};
+use crate::run::{begin, run_calls};
 use crate::summary::summary_of;
 use fsa_machine::VolumeMachine;
 use fsa_types::NoMemory;
 use script_read::{Script, a_generated_script_is_read, generate};
 use std::alloc::Global;
+use text_out::TextFault;
 use wire_io::{Failed, Sink, put_all};
 
 // The machine after all calls of a script.
@@ -34,8 +35,8 @@ fn machine_after(alloc: Global, script: &Script) -> Result<VolumeMachine, NoMemo
     let mut nowhere = Nowhere;
     match run_calls(alloc, &mut machine, script, &mut order, &mut nowhere) {
         Ok(()) => Ok(machine),
-        Err(RunFault::NoMemory) => Err(NoMemory),
-        Err(RunFault::Failed) => unreachable!(),
+        Err(TextFault::NoMemory) => Err(NoMemory),
+        Err(TextFault::Failed) => unreachable!(),
     }
 }
 

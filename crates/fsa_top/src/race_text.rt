@@ -8,13 +8,12 @@ ghost use Rattle.fsa_model.specs.Setup.{client_of};
 ghost use Rattle.fsa_model.specs.Text.{text, turn_text};
 ghost use Rattle.history_laws.specs.Named.{IsReadScript};
 ghost use Rattle.script_read.specs.ScriptView.{contents};
-ghost use Rattle.wire_io.specs.Faults.{FailsLast};
+ghost use Rattle.text_out.specs.Writes.{TellsFaults};
 ghost use Rattle.wire_io.specs.Sink.{Appends, AppendsPart};
 ghost use Rattle.client_race.specs.Races.{CanRace};
 ghost use Rattle.fsa_top.specs.Shown.{ShowsFirst, ShowsTurn};
 ghost use Rattle.fsa_top.specs.Runs.{WritesWhole, WritesWholePart};
 
-use crate::run::{RunFault, put_last};
 use client_race::race;
 use fsa_machine::VolumeMachine;
 use script_read::Script;
@@ -22,7 +21,7 @@ use std::alloc::Global;
 use std::rt::Clock;
 use std::sync::Wait;
 use std::thread::Threads;
-use text_out::{TextFault, write_turn};
+use text_out::{TextFault, write_last, write_turn};
 use wire_io::{Gate, Sink};
 
 // Writes the lines of the turn at this place of a machine's history.
@@ -32,28 +31,21 @@ fn put_turn<K: Sink>(
     script: &Script,
     turn: u64,
     sink: &mut K,
-) -> Result<(), RunFault>
+) -> Result<(), TextFault>
     requires setup { machine.now.setup ≡ (contents script.now).setup }
     requires runs { IsSome (run (contents script.now).setup machine.now.entries) }
     requires within { turn < length machine.now.entries }
     ensures ok { OnOk result (ShowsTurn Appends (contents script.now) machine.now.entries turn (K.written sink.old) (K.written sink.new)) }
     ensures part { OnErr result (ShowsTurn AppendsPart (contents script.now) machine.now.entries turn (K.written sink.old) (K.written sink.new)) }
-    ensures later { K.faults sink.old ≤ K.faults sink.new }
-    ensures failed { IsErrOf result RunFault.Failed → FailsLast (K.faults sink.old) (K.faults sink.new) (K.written sink.new).since_fault }
-    ensures unfailed { OnOk result (K.faults sink.new ≡ K.faults sink.old) }
-    ensures no_memory { IsErrOf result RunFault.NoMemory → K.faults sink.new ≡ K.faults sink.old }
+    ensures faults { TellsFaults (K.faults sink.old) (K.faults sink.new) (K.written sink.new).since_fault result }
 {
-    match write_turn(
+    write_turn(
         alloc,
         sink,
         script.clients(),
         machine.call_at(turn),
         machine.out_at(turn),
-    ) {
-        Ok(()) => Ok(()),
-        Err(TextFault::Failed) => Err(RunFault::Failed),
-        Err(TextFault::NoMemory) => Err(RunFault::NoMemory),
-    }
+    )
 }
 
 // Writes the lines of each turn of a machine's history.
@@ -62,15 +54,12 @@ fn put_turns<K: Sink>(
     machine: &VolumeMachine,
     script: &Script,
     sink: &mut K,
-) -> Result<(), RunFault>
+) -> Result<(), TextFault>
     requires setup { machine.now.setup ≡ (contents script.now).setup }
     requires runs { IsSome (run (contents script.now).setup machine.now.entries) }
     ensures ok { OnOk result (ShowsFirst (contents script.now) machine.now.entries (length machine.now.entries) (K.written sink.old) (K.written sink.new)) }
     ensures part { OnErr result (AppendsPart (K.written sink.old) (K.written sink.new) (text (contents script.now) machine.now.entries)) }
-    ensures later { K.faults sink.old ≤ K.faults sink.new }
-    ensures failed { IsErrOf result RunFault.Failed → FailsLast (K.faults sink.old) (K.faults sink.new) (K.written sink.new).since_fault }
-    ensures unfailed { OnOk result (K.faults sink.new ≡ K.faults sink.old) }
-    ensures no_memory { IsErrOf result RunFault.NoMemory → K.faults sink.new ≡ K.faults sink.old }
+    ensures faults { TellsFaults (K.faults sink.old) (K.faults sink.new) (K.written sink.new).since_fault result }
 {
     for turn in 0..machine.len() {
         put_turn(alloc, machine, script, turn, sink)?;
@@ -84,19 +73,16 @@ fn put_text<K: Sink>(
     machine: &VolumeMachine,
     script: &Script,
     sink: &mut K,
-) -> Result<(), RunFault>
+) -> Result<(), TextFault>
     requires setup { machine.now.setup ≡ (contents script.now).setup }
     requires runs { IsSome (run (contents script.now).setup machine.now.entries) }
     requires few { length machine.now.entries < 2 ^ 32 }
     ensures ok { OnOk result (Appends (K.written sink.old) (K.written sink.new) (text (contents script.now) machine.now.entries)) }
     ensures part { OnErr result (AppendsPart (K.written sink.old) (K.written sink.new) (text (contents script.now) machine.now.entries)) }
-    ensures later { K.faults sink.old ≤ K.faults sink.new }
-    ensures failed { IsErrOf result RunFault.Failed → FailsLast (K.faults sink.old) (K.faults sink.new) (K.written sink.new).since_fault }
-    ensures unfailed { OnOk result (K.faults sink.new ≡ K.faults sink.old) }
-    ensures no_memory { IsErrOf result RunFault.NoMemory → K.faults sink.new ≡ K.faults sink.old }
+    ensures faults { TellsFaults (K.faults sink.old) (K.faults sink.new) (K.written sink.new).since_fault result }
 {
     put_turns(alloc, machine, script, sink)?;
-    put_last(alloc, machine.len() as u32, sink)?;
+    write_last(alloc, sink, machine.len() as u32)?;
     Ok(())
 }
 
@@ -109,17 +95,14 @@ pub fn race_script<R: Threads + Wait + Clock + Sync, K: Sink, G: Gate + Sync>(
     script: &Script,
     sink: &mut K,
     gate: &G,
-) -> Result<(), RunFault>
+) -> Result<(), TextFault>
     requires is_read { IsReadScript (contents script.now) }
     requires can { CanRace (contents script.now) }
     requires gate { (client number : ℕ) → G.is_for gate.now client number }
     ensures ok { OnOk result (WritesWhole (contents script.now) (K.written sink.old) (K.written sink.new)) }
-    ensures part { IsErrOf result RunFault.Failed → WritesWholePart (contents script.now) (K.written sink.old) (K.written sink.new) }
-    ensures memory { IsErrOf result RunFault.NoMemory → (sink.new ≡ sink.old) ⊎ WritesWholePart (contents script.now) (K.written sink.old) (K.written sink.new) }
-    ensures later { K.faults sink.old ≤ K.faults sink.new }
-    ensures failed { IsErrOf result RunFault.Failed → FailsLast (K.faults sink.old) (K.faults sink.new) (K.written sink.new).since_fault }
-    ensures unfailed { OnOk result (K.faults sink.new ≡ K.faults sink.old) }
-    ensures no_memory { IsErrOf result RunFault.NoMemory → K.faults sink.new ≡ K.faults sink.old }
+    ensures part { IsErrOf result TextFault.Failed → WritesWholePart (contents script.now) (K.written sink.old) (K.written sink.new) }
+    ensures memory { IsErrOf result TextFault.NoMemory → (sink.new ≡ sink.old) ⊎ WritesWholePart (contents script.now) (K.written sink.old) (K.written sink.new) }
+    ensures faults { TellsFaults (K.faults sink.old) (K.faults sink.new) (K.written sink.new).since_fault result }
 {
     let machine = race(rt, alloc, script, gate)?;
     put_text(alloc, &machine, script, sink)

@@ -6,16 +6,14 @@ ghost use Rattle.fsa_model.specs.LineCalls.{HaveSids, IsLineCall};
 ghost use Rattle.fsa_model.specs.Outcome.{out_of};
 ghost use Rattle.fsa_model.specs.Schedule.{HasAllCalls, all_calls, calls_of, leave_after};
 ghost use Rattle.fsa_model.specs.Setup.{client_of};
-ghost use Rattle.fsa_model.specs.Text.{last_line};
 ghost use Rattle.history_laws.specs.Named.{IsReadScript};
 ghost use Rattle.history_laws.specs.GoesOn.{how_many_left};
-ghost use Rattle.wire_io.specs.Faults.{FailsLast};
-ghost use Rattle.wire_io.specs.Sink.{Appends, AppendsPart, Written};
+ghost use Rattle.wire_io.specs.Sink.{Written};
 ghost use Rattle.script_read.specs.ScriptView.{contents};
+ghost use Rattle.text_out.specs.Writes.{TellsFaults};
 ghost use Rattle.fsa_top.specs.Order.{IsWithinLimits};
 ghost use Rattle.fsa_top.specs.Runs.{WritesPart, WritesText};
 ghost use Rattle.fsa_top.specs.Progress.{IsNextAt, MadeTurn, MakesTurn, WroteTurns, Progress};
-ghost use Rattle.fsa_top.specs.declared.run.RunFault.TheVariants.{Failed, NoMemory};
 
 use crate::order::Order;
 use fsa_machine::VolumeMachine;
@@ -24,26 +22,6 @@ use script_read::Script;
 use std::alloc::Global;
 use text_out::{TextFault, write_last, write_turn};
 use wire_io::Sink;
-
-/// Why a run stopped.
-#[derive(Clone, Copy, Debug, PartialEq, Eq)]
-pub enum RunFault {
-    /// The sink failed.
-    Failed,
-    /// There was no memory.
-    NoMemory,
-}
-
-impl From<fsa_types::NoMemory> for RunFault {
-    ghost use Rattle.std.specs.Prelude.{◌≡◌};
-    ghost use Rattle.fsa_top.specs.declared.run.RunFault.TheVariants.{NoMemory};
-
-    ghost from_gives = { λ _ fault. fault ≡ NoMemory };
-
-    fn from(_error: fsa_types::NoMemory) -> RunFault {
-        RunFault::NoMemory
-    }
-}
 
 // Makes a turn of a call; the machine keeps a copy of it.
 fn turn_of(
@@ -71,23 +49,16 @@ fn make_turn<K: Sink>(
     clients: &ClientList,
     call: &Call,
     sink: &mut K,
-) -> Result<(), RunFault>
+) -> Result<(), TextFault>
     requires asked { IsLineCall (length machine.old.setup.clients) call.now }
     requires number { call.now.number ≡ calls_of call.now.client (map (λ entry. entry.call) machine.old.entries) + 1 }
     requires few { length machine.old.entries < 1000000 }
     requires clients { map client_of clients.now.items ≡ machine.old.setup.clients }
     ensures made { MakesTurn machine.old machine.new call.now (K.written sink.old) (K.written sink.new) result }
-    ensures later { K.faults sink.old ≤ K.faults sink.new }
-    ensures failed { IsErrOf result RunFault.Failed → FailsLast (K.faults sink.old) (K.faults sink.new) (K.written sink.new).since_fault }
-    ensures unfailed { OnOk result (K.faults sink.new ≡ K.faults sink.old) }
-    ensures no_memory { IsErrOf result RunFault.NoMemory → K.faults sink.new ≡ K.faults sink.old }
+    ensures faults { TellsFaults (K.faults sink.old) (K.faults sink.new) (K.written sink.new).since_fault result }
 {
     let out = turn_of(alloc, machine, call)?;
-    match write_turn(alloc, sink, clients, call, &out) {
-        Ok(()) => Ok(()),
-        Err(TextFault::Failed) => Err(RunFault::Failed),
-        Err(TextFault::NoMemory) => Err(RunFault::NoMemory),
-    }
+    write_turn(alloc, sink, clients, call, &out)
 }
 
 // How many of these calls are this client's.
@@ -124,17 +95,14 @@ fn make_turn_at<K: Sink>(
     script: &Script,
     place: usize,
     sink: &mut K,
-) -> Result<(), RunFault>
+) -> Result<(), TextFault>
     requires within { IsWithinLimits (contents script.now) }
     requires setup { machine.old.setup ≡ (contents script.now).setup }
     requires few { length machine.old.entries < 1000000 }
     requires there { place < length (all_calls (contents script.now)) }
     requires asked { (call : Call) → slice_get (all_calls (contents script.now)) place ≡ Some call → IsLineCall (length machine.old.setup.clients) call × (call.number ≡ calls_of call.client (map (λ entry. entry.call) machine.old.entries) + 1) }
     ensures made { (call : Call) → slice_get (all_calls (contents script.now)) place ≡ Some call → MakesTurn machine.old machine.new call (K.written sink.old) (K.written sink.new) result }
-    ensures later { K.faults sink.old ≤ K.faults sink.new }
-    ensures failed { IsErrOf result RunFault.Failed → FailsLast (K.faults sink.old) (K.faults sink.new) (K.written sink.new).since_fault }
-    ensures unfailed { OnOk result (K.faults sink.new ≡ K.faults sink.old) }
-    ensures no_memory { IsErrOf result RunFault.NoMemory → K.faults sink.new ≡ K.faults sink.old }
+    ensures faults { TellsFaults (K.faults sink.old) (K.faults sink.new) (K.written sink.new).since_fault result }
 {
     let clients = script.clients();
     let lines = script.lines().as_slice();
@@ -154,17 +122,14 @@ fn take_turn<K: Sink>(
     order: &mut Order,
     place: usize,
     sink: &mut K,
-) -> Result<(), RunFault>
+) -> Result<(), TextFault>
     requires stands { Progress (contents script.now) machine.old order.old }
     requires next { IsNextAt (contents script.now) machine.old.entries place }
     ensures stands { OnOk result (Progress (contents script.now) machine.new order.new) }
     ensures fewer { OnOk result (how_many_left (contents script.now) machine.new.entries < how_many_left (contents script.now) machine.old.entries) }
     ensures shows { OnOk result ((first : Written) → WroteTurns (contents script.now) machine.old.entries first (K.written sink.old) → WroteTurns (contents script.now) machine.new.entries first (K.written sink.new)) }
     ensures part { OnErr result ((first : Written) → WroteTurns (contents script.now) machine.old.entries first (K.written sink.old) → WritesPart (contents script.now) first (K.written sink.new)) }
-    ensures later { K.faults sink.old ≤ K.faults sink.new }
-    ensures failed { IsErrOf result RunFault.Failed → FailsLast (K.faults sink.old) (K.faults sink.new) (K.written sink.new).since_fault }
-    ensures unfailed { OnOk result (K.faults sink.new ≡ K.faults sink.old) }
-    ensures no_memory { IsErrOf result RunFault.NoMemory → K.faults sink.new ≡ K.faults sink.old }
+    ensures faults { TellsFaults (K.faults sink.old) (K.faults sink.new) (K.written sink.new).since_fault result }
 {
     make_turn_at(alloc, machine, script, place, sink)?;
     order.go_on(script, place);
@@ -179,7 +144,7 @@ pub fn run_calls<K: Sink>(
     script: &Script,
     order: &mut Order,
     sink: &mut K,
-) -> Result<(), RunFault>
+) -> Result<(), TextFault>
     requires stands { Progress (contents script.now) machine.old order.old }
     requires shows { WroteTurns (contents script.now) machine.old.entries (K.written sink.old) (K.written sink.old) }
     ensures setup { OnOk result (machine.new.setup ≡ (contents script.now).setup) }
@@ -187,10 +152,7 @@ pub fn run_calls<K: Sink>(
     ensures ok { OnOk result (WroteTurns (contents script.now) machine.new.entries (K.written sink.old) (K.written sink.new)) }
     ensures all { OnOk result (HasAllCalls (contents script.now) machine.new.entries) }
     ensures part { OnErr result (WritesPart (contents script.now) (K.written sink.old) (K.written sink.new)) }
-    ensures later { K.faults sink.old ≤ K.faults sink.new }
-    ensures failed { IsErrOf result RunFault.Failed → FailsLast (K.faults sink.old) (K.faults sink.new) (K.written sink.new).since_fault }
-    ensures unfailed { OnOk result (K.faults sink.new ≡ K.faults sink.old) }
-    ensures no_memory { IsErrOf result RunFault.NoMemory → K.faults sink.new ≡ K.faults sink.old }
+    ensures faults { TellsFaults (K.faults sink.old) (K.faults sink.new) (K.written sink.new).since_fault result }
 {
     'turns: while let Some(place) = order.next_place(script, machine) {
         take_turn(alloc, machine, script, order, place, sink)?;
@@ -209,23 +171,6 @@ pub fn begin(alloc: Global, script: &Script) -> Result<VolumeMachine, fsa_types:
     VolumeMachine::new(alloc, Setup { table, clients })
 }
 
-/// Writes the last line: how many turns there are.
-#[tactic(auto, using(crate::proofs::RunLaws::last_none))]
-pub fn put_last<K: Sink>(alloc: Global, turns: u32, sink: &mut K) -> Result<(), RunFault>
-    ensures ok { OnOk result (Appends (K.written sink.old) (K.written sink.new) (last_line turns)) }
-    ensures part { OnErr result (AppendsPart (K.written sink.old) (K.written sink.new) (last_line turns)) }
-    ensures failed { IsErrOf result RunFault.Failed → FailsLast (K.faults sink.old) (K.faults sink.new) (K.written sink.new).since_fault }
-    ensures unfailed { OnOk result (K.faults sink.new ≡ K.faults sink.old) }
-    ensures no_memory { IsErrOf result RunFault.NoMemory → K.faults sink.new ≡ K.faults sink.old }
-    ensures later { K.faults sink.old ≤ K.faults sink.new }
-{
-    match write_last(alloc, sink, turns) {
-        Ok(()) => Ok(()),
-        Err(TextFault::Failed) => Err(RunFault::Failed),
-        Err(TextFault::NoMemory) => Err(RunFault::NoMemory),
-    }
-}
-
 // Makes all calls of a script on this machine, and writes the text of the history.
 fn run_on<K: Sink>(
     alloc: Global,
@@ -233,35 +178,29 @@ fn run_on<K: Sink>(
     script: &Script,
     order: &mut Order,
     sink: &mut K,
-) -> Result<(), RunFault>
+) -> Result<(), TextFault>
     requires stands { Progress (contents script.now) machine.old order.old }
     requires shows { WroteTurns (contents script.now) machine.old.entries (K.written sink.old) (K.written sink.old) }
     ensures ok { OnOk result (WritesText (contents script.now) (K.written sink.old) (K.written sink.new)) }
     ensures part { OnErr result (WritesPart (contents script.now) (K.written sink.old) (K.written sink.new)) }
-    ensures later { K.faults sink.old ≤ K.faults sink.new }
-    ensures failed { IsErrOf result RunFault.Failed → FailsLast (K.faults sink.old) (K.faults sink.new) (K.written sink.new).since_fault }
-    ensures unfailed { OnOk result (K.faults sink.new ≡ K.faults sink.old) }
-    ensures no_memory { IsErrOf result RunFault.NoMemory → K.faults sink.new ≡ K.faults sink.old }
+    ensures faults { TellsFaults (K.faults sink.old) (K.faults sink.new) (K.written sink.new).since_fault result }
 {
     run_calls(alloc, machine, script, order, sink)?;
-    put_last(alloc, machine.len() as u32, sink)?;
+    write_last(alloc, sink, machine.len() as u32)?;
     Ok(())
 }
 
 /// Runs a script: makes all its calls on a new machine, and writes the text of the history.
 /// `Failed` where the sink failed, `NoMemory` where there was no memory; a part of the text of a
 /// history that has all calls is written then, or nothing.
-pub fn run_script<K: Sink>(alloc: Global, script: &Script, sink: &mut K) -> Result<(), RunFault>
+pub fn run_script<K: Sink>(alloc: Global, script: &Script, sink: &mut K) -> Result<(), TextFault>
     requires is_read { IsReadScript (contents script.now) }
     requires within { IsWithinLimits (contents script.now) }
     requires sids { HaveSids (contents script.now).setup.clients }
     ensures ok { OnOk result (WritesText (contents script.now) (K.written sink.old) (K.written sink.new)) }
-    ensures part { IsErrOf result RunFault.Failed → WritesPart (contents script.now) (K.written sink.old) (K.written sink.new) }
-    ensures memory { IsErrOf result RunFault.NoMemory → (sink.new ≡ sink.old) ⊎ WritesPart (contents script.now) (K.written sink.old) (K.written sink.new) }
-    ensures later { K.faults sink.old ≤ K.faults sink.new }
-    ensures failed { IsErrOf result RunFault.Failed → FailsLast (K.faults sink.old) (K.faults sink.new) (K.written sink.new).since_fault }
-    ensures unfailed { OnOk result (K.faults sink.new ≡ K.faults sink.old) }
-    ensures no_memory { IsErrOf result RunFault.NoMemory → K.faults sink.new ≡ K.faults sink.old }
+    ensures part { IsErrOf result TextFault.Failed → WritesPart (contents script.now) (K.written sink.old) (K.written sink.new) }
+    ensures memory { IsErrOf result TextFault.NoMemory → (sink.new ≡ sink.old) ⊎ WritesPart (contents script.now) (K.written sink.old) (K.written sink.new) }
+    ensures faults { TellsFaults (K.faults sink.old) (K.faults sink.new) (K.written sink.new).since_fault result }
 {
     let mut order = Order::new(alloc, script)?;
     let mut machine = begin(alloc, script)?;

@@ -14,13 +14,14 @@ use crate::generated_run::run_generated;
 use crate::limits::{Limit, MOST_SCRIPT_BYTES, limit_of};
 use crate::lines::{is_race, is_run, say_bad, say_limit, say_usage};
 use crate::race_text::race_script;
-use crate::run::{RunFault, run_script};
+use crate::run::run_script;
 use crate::seed::seed_of;
 use script_read::{ReadFault, Script, read_script};
 use std::alloc::Global;
 use std::rt::Clock;
 use std::sync::Wait;
 use std::thread::Threads;
+use text_out::TextFault;
 use wire_io::{Gate, Sink, Source, read_all};
 
 // The script that these bytes are, where they pass no limit; else the status, whose line is written.
@@ -102,8 +103,8 @@ fn run_read<K: Sink>(alloc: Global, script: &Script, sink: &mut K) -> u8
 {
     match run_script(alloc, script, sink) {
         Ok(()) => 0,
-        Err(RunFault::Failed) => 4,
-        Err(RunFault::NoMemory) => 5,
+        Err(TextFault::Failed) => 4,
+        Err(TextFault::NoMemory) => 5,
     }
 }
 
@@ -121,8 +122,8 @@ fn race_read<R: Threads + Wait + Clock + Sync, K: Sink, G: Gate + Sync>(
 {
     match race_script(rt, alloc, script, sink, gate) {
         Ok(()) => 0,
-        Err(RunFault::Failed) => 4,
-        Err(RunFault::NoMemory) => 5,
+        Err(TextFault::Failed) => 4,
+        Err(TextFault::NoMemory) => 5,
     }
 }
 

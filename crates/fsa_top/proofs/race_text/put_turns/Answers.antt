@@ -1,14 +1,14 @@
 use Rattle.std.proofs.Common.{◌≡◌, ◌∙◌, ℕ, length, arith, subst}
 use Rattle.script_read.specs.ScriptView.{contents}
 use Rattle.fsa_top.specs.Shown.{ShowsFirst}
-use Rattle.fsa_top.specs.declared.run.RunFault.{RunFault}
+use Rattle.text_out.specs.declared.write.TextFault.{TextFault}
 use Rattle.fsa_top.proofs.RunLaws.{OnErr-any}
 use Rattle.fsa_top.proofs.ShownLaws.{first-part, first-turn}
 use Rattle.fsa_top.proofs.race_text.put_turns.Goals as goal
 
 pub returns-in_err-put_turn-clause-part : goal.returns-in_err-put_turn-clause-part
 returns-in_err-put_turn-clause-part g c =
-    OnErr-any {T = Unit {0}} {E = RunFault} c.from_residual.result _
+    OnErr-any {T = Unit {0}} {E = TextFault} c.from_residual.result _
     (first-part (contents c.args.script.now) c.args.machine.now.entries c.loop-turn.turn (g.K.Sink.written c.args.sink.now) (g.K.Sink.written c.loop-turn.sink) (g.K.Sink.written c.put_turn.new.sink)
     c.requires.runs c.loop-turn.invariant.shows c.in_err-put_turn.ensures.part)
 
@@ -16,7 +16,7 @@ pub loop-turn-preserved : goal.loop-turn-preserved
 loop-turn-preserved g c = record {
   shows = first-turn (contents c.args.script.now) c.args.machine.now.entries c.loop-turn.turn (g.K.Sink.written c.args.sink.now) (g.K.Sink.written c.loop-turn.sink) (g.K.Sink.written c.put_turn.new.sink)
       c.loop-turn.invariant.shows c.in_ok-put_turn.ensures.ok;
-  unfailed = c.in_ok-put_turn.ensures.unfailed ∙ c.loop-turn.invariant.unfailed;
+  unfailed = c.in_ok-put_turn.ensures.faults.unfailed ∙ c.loop-turn.invariant.unfailed;
 }
 
 pub returns-clause-ok : goal.returns-clause-ok

@@ -2,7 +2,7 @@ use Rattle.std.proofs.Common.{Some, ap, ◌∙◌}
 use Rattle.std.proofs.lemmas.Option.{slice_get_within}
 use Rattle.fsa_model.specs.Schedule.{all_calls}
 use Rattle.script_read.specs.ScriptView.{contents}
-use Rattle.fsa_top.specs.declared.run.RunFault.{RunFault}
+use Rattle.text_out.specs.declared.write.TextFault.{TextFault}
 use Rattle.fsa_top.proofs.OrderLaws.{same_call}
 use Rattle.fsa_top.proofs.RunLaws.{MakesTurn-part, OnErr-any, WroteTurns-turn, Progress-room, Progress-turn, left-turn, next-asked}
 use Rattle.fsa_top.proofs.run.take_turn.Goals as goal
@@ -14,7 +14,7 @@ make_turn_at-requires-clause-asked g c = λ call at.
 
 pub returns-in_err-make_turn_at-clause-part : goal.returns-in_err-make_turn_at-clause-part
 returns-in_err-make_turn_at-clause-part g c =
-    OnErr-any {T = Unit {0}} {E = RunFault} c.from_residual.result _
+    OnErr-any {T = Unit {0}} {E = TextFault} c.from_residual.result _
     (λ first shows. MakesTurn-part (contents c.args.script.now) c.args.machine.now c.make_turn_at.new.machine c.requires.next.call first (g.K.Sink.written c.args.sink.now) (g.K.Sink.written c.make_turn_at.new.sink)
     c.in_err-make_turn_at.field-0.0 c.requires.stands.is_read c.requires.stands.setup c.requires.next.is (c.in_err-make_turn_at.ensures.made c.requires.next.call c.requires.next.at) shows)
 
