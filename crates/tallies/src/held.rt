@@ -17,6 +17,9 @@ impl Model for Held {
     ghost also_owns = { λ _. ftrue };
 }
 
+// It owns nothing.
+unsafe impl Send for Held {}
+
 impl Held {
     // No open is held.
     pub(crate) fn none() -> Held
