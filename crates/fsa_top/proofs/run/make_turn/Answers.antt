@@ -12,5 +12,5 @@ returns-clause-made g c =
     let now = g.K.Sink.written c.write_turn.new.sink in
     let call = c.args.call.now in
     let out = out_of c.in_ok-out.out in
-    MakesTurn-made c.args.machine.now c.turn_of.new.machine call out before now c.write_turn.result c.in_ok-out.ensures
+    MakesTurn-made c.args.machine.now c.turn_of.new.machine call out before now c.write_turn.result c.in_ok-out.ensures.made
     (subst (λ (clients : List Client). Writes before now (turn_text clients call out) c.write_turn.result) c.requires.clients c.write_turn.ensures.writes)
