@@ -9,8 +9,8 @@ ghost use Rattle.volume_state.specs.Tried.{Leaves};
 
 use crate::points::{may_set_point, put_point};
 use fsa_types::{
-    Bytes, Call, IO_REPARSE_TAG_RESERVED_ONE, IO_REPARSE_TAG_RESERVED_ZERO, MICROSOFT_TAG, NoMemory,
-    Request, Status, What,
+    Bytes, Call, IO_REPARSE_TAG_RESERVED_ONE, IO_REPARSE_TAG_RESERVED_ZERO, MICROSOFT_TAG,
+    NoMemory, Request, Status, What,
 };
 use op_parts::{file_of_link, is_link_of_parent};
 use pack_info::read_reparse;
