@@ -1,5 +1,5 @@
 -- Laws of a run: one more turn, and its end; what was written is a part of the text of a schedule with all calls.
-use Rattle.std.proofs.Common.{◌≡◌, ℕ, ◌+◌, ◌<◌, ◌≤◌, Result, Ok, Err, OnErr, List, [], ◌∷◌, ◌++◌, length, length-append, length-set, get_or, not, map, take, ◌⊎◌, Some, None, All, ap, sym, subst, ◌∙◌, append_assoc, arith, inl, inr}
+use Rattle.std.proofs.Common.{◌≡◌, ℕ, ◌+◌, ◌<◌, ◌≤◌, Result, Ok, Err, OnErr, OnOk, List, [], ◌∷◌, ◌++◌, length, length-append, length-set, get_or, not, map, take, ◌⊎◌, Some, None, All, ap, sym, subst, ◌∙◌, append_assoc, arith, inl, inr}
 use Rattle.std.specs.Prelude.{option_and_then, slice_get, slice_index_or, slice_set}
 use Rattle.std.proofs.lemmas.List.Elements.{All-cons, All-nil}
 use Rattle.std.proofs.lemmas.Option.{slice_get-get_or}
@@ -33,8 +33,9 @@ use Rattle.history_laws.proofs.SameText.{same_text}
 use Rattle.history_laws.proofs.WholeLaws.{Scheduled-goes_on, left_falls, some_run}
 use Rattle.fsa_machine.specs.MachineView.{MachineView}
 use Rattle.wire_io.specs.Sink.{Written, Appends, AppendsPart}
-use Rattle.wire_io.proofs.SinkLaws.{Appends-append, Appends-none, AppendsPart-append, AppendsPart-longer, AppendsPart-none, AppendsPart-whole}
-use Rattle.text_out.specs.Writes.{Writes}
+use Rattle.wire_io.proofs.SinkLaws.{AppendsPart-longer, AppendsPart-whole}
+use Rattle.text_out.specs.Writes.{Adds, Finishes, Gathers, GivesUp}
+use Rattle.text_out.proofs.GatherLaws.{Gathers-all, Gathers-append, Gathers-more, Gathers-more_part, Gathers-none, Gathers-part}
 use Rattle.text_out.specs.declared.write.TextFault.{TextFault}
 use Rattle.text_out.specs.declared.write.TextFault.TheVariants.{Failed, NoMemory}
 use Rattle.fsa_top.specs.Order.{AreNextPlaces, IsLeastCursor, IsWithinLimits}
@@ -120,11 +121,11 @@ shown-turn script old new call out setup made =
     ∙ ap (λ (o : TurnOut). shown_turns script old.entries ++ turn_text script.setup.clients call o) turns.out_is
     ∙ ap (λ (s : Setup). shown_turns script old.entries ++ turn_text s.clients call out) (sym setup)
 
-pub WroteTurns-turn : (script : Script) (old new : MachineView) (call : Call) (out : TurnOut) (first mid now : Written) → old.setup ≡ script.setup → next script old.entries ≡ Some call → MadeTurn old new call out
-    → Appends mid now (turn_text old.setup.clients call out) → WroteTurns script old.entries first mid → WroteTurns script new.entries first now
-WroteTurns-turn script old new call out first mid now setup is made wrote shows = record {
+pub WroteTurns-turn : (script : Script) (old new : MachineView) (call : Call) (out : TurnOut) (first mid now : Written) (held held_now : List ℕ) → old.setup ≡ script.setup → next script old.entries ≡ Some call → MadeTurn old new call out
+    → Gathers mid now held held_now (turn_text old.setup.clients call out) → WroteTurns script old.entries first mid held → WroteTurns script new.entries first now held_now
+WroteTurns-turn script old new call out first mid now held held_now setup is made wrote shows = record {
   scheduled = scheduled-turn script old new call out setup shows.scheduled is made;
-  wrote = subst (Appends first now) (sym (shown-turn script old new call out setup made)) (Appends-append first mid now _ _ shows.wrote wrote);
+  wrote = subst (Gathers first now [] held_now) (sym (shown-turn script old new call out setup made)) (Gathers-append first mid now [] held held_now _ _ shows.wrote wrote);
 }
 
 -- fewer calls are left
@@ -197,22 +198,24 @@ Progress-begun script seen order is_read within setup none follows long first = 
   cursors = subst (λ (history : List HistoryEntry). StandAt (all_calls script) history order.places.items) (sym none) (calls-begun script order.places.items is_read long first);
 }
 
-pub WroteTurns-begun : (script : Script) (history : List HistoryEntry) (written : Written) → history ≡ [] → WroteTurns script history written written
-WroteTurns-begun script history written none = subst (λ (h : List HistoryEntry). WroteTurns script h written written) (sym none) (record { scheduled = Scheduled-none script; wrote = Appends-none written })
+pub WroteTurns-begun : (script : Script) (history : List HistoryEntry) (written : Written) (held : List ℕ) → history ≡ [] → held ≡ [] → WroteTurns script history written written held
+WroteTurns-begun script history written held none empty =
+    subst (WroteTurns script history written written) (sym empty)
+    (subst (λ (h : List HistoryEntry). WroteTurns script h written written []) (sym none) (record { scheduled = Scheduled-none script; wrote = Gathers-none written [] }))
 
 -- ---- what was written so far
 
--- where a text wasn't written whole, a part of it was, or nothing
-pub Writes-part : (old now : Written) (text : List ℕ) (fault : TextFault) → 0 < length text → Writes old now text (Err fault) → AppendsPart old now text
-Writes-part old now text Failed long wrote = wrote
-Writes-part old now text NoMemory long wrote = subst (λ (w : Written). AppendsPart old w text) (sym wrote) (AppendsPart-none old text long)
+-- a turn was made, and its lines were added so
+pub MakesTurn-made : (old new : MachineView) (call : Call) (out : TurnOut) (before now : Written) (held held_now : List ℕ) (result : Result (Unit {0}) TextFault) → MadeTurn old new call out
+    → Adds before now held held_now (turn_text old.setup.clients call out) result → MakesTurn old new call before now held held_now result
+MakesTurn-made old new call out before now held held_now (Ok done) made wrote = (out, made, wrote)
+MakesTurn-made old new call out before now held held_now (Err Failed) made wrote = inl (out, made, wrote.0)
+MakesTurn-made old new call out before now held held_now (Err NoMemory) made wrote = wrote.0
 
--- a turn was made, and its lines were written so
-pub MakesTurn-made : (old new : MachineView) (call : Call) (out : TurnOut) (before now : Written) (result : Result (Unit {0}) TextFault) → MadeTurn old new call out
-    → Writes before now (turn_text old.setup.clients call out) result → MakesTurn old new call before now result
-MakesTurn-made old new call out before now (Ok done) made wrote = (out, made, wrote)
-MakesTurn-made old new call out before now (Err Failed) made wrote = (out, made, wrote)
-MakesTurn-made old new call out before now (Err NoMemory) made wrote = wrote
+-- none was made, and what was gathered was put
+pub MakesTurn-none : (old new : MachineView) (call : Call) (before now : Written) (held held_now : List ℕ) (fault : TextFault) → GivesUp before now held held_now fault → MakesTurn old new call before now held held_now (Err fault)
+MakesTurn-none old new call before now held held_now Failed put = inr put.0
+MakesTurn-none old new call before now held held_now NoMemory put = put.0
 
 some_last : (rest : List ℕ) (turns : ℕ) → 0 < length (rest ++ last_line turns)
 some_last rest turns = omega (arith, length-append rest (last_line turns))
@@ -226,32 +229,49 @@ whole_part : (script : Script) (history whole : List HistoryEntry) (first now : 
 whole_part script history whole first now goes part =
     (whole, goes.scheduled, goes.all, run-coherent script.setup whole, run-watches_report script.setup whole, subst (AppendsPart first now) (sym (text_split script whole (shown_turns script history) goes.shows.0 goes.shows.1)) part)
 
-pub WroteTurns-part : (script : Script) (history : List HistoryEntry) (first now : Written) → IsReadScript script → WroteTurns script history first now → WritesPart script first now
-WroteTurns-part script history first now is_read shows =
+-- what was gathered was put
+WroteTurns-put : (script : Script) (history : List HistoryEntry) (first mid now : Written) (held : List ℕ) → IsReadScript script → WroteTurns script history first mid held → Appends mid now held → WritesPart script first now
+WroteTurns-put script history first mid now held is_read shows put =
     let goes = Scheduled-goes_on script history is_read shows.scheduled in
     whole_part script history goes.0 first now goes.1
-    (AppendsPart-whole first now (shown_turns script history) (goes.1.shows.0 ++ last_line (length goes.0)) (some_last goes.1.shows.0 (length goes.0)) shows.wrote)
+    (AppendsPart-whole first now (shown_turns script history) (goes.1.shows.0 ++ last_line (length goes.0)) (some_last goes.1.shows.0 (length goes.0))
+    (Gathers-all first mid now [] held (shown_turns script history) shows.wrote put))
 
--- so it is with a part of the lines of the next turn
-WroteTurns-front : (script : Script) (old new : MachineView) (call : Call) (out : TurnOut) (first mid now : Written) → IsReadScript script → old.setup ≡ script.setup → next script old.entries ≡ Some call → MadeTurn old new call out
-    → AppendsPart mid now (turn_text old.setup.clients call out) → WroteTurns script old.entries first mid → WritesPart script first now
-WroteTurns-front script old new call out first mid now is_read setup is made front shows =
+-- or a part of it
+WroteTurns-part : (script : Script) (history : List HistoryEntry) (first mid now : Written) (held : List ℕ) → IsReadScript script → WroteTurns script history first mid held → AppendsPart mid now held → WritesPart script first now
+WroteTurns-part script history first mid now held is_read shows part =
+    let goes = Scheduled-goes_on script history is_read shows.scheduled in
+    whole_part script history goes.0 first now goes.1
+    (AppendsPart-longer first now (shown_turns script history) (goes.1.shows.0 ++ last_line (length goes.0)) (Gathers-part first mid now [] held (shown_turns script history) shows.wrote part))
+
+-- so it is with a part of that and of the lines of the next turn
+WroteTurns-front : (script : Script) (old new : MachineView) (call : Call) (out : TurnOut) (first mid now : Written) (held : List ℕ) → IsReadScript script → old.setup ≡ script.setup → next script old.entries ≡ Some call → MadeTurn old new call out
+    → AppendsPart mid now (held ++ turn_text old.setup.clients call out) → WroteTurns script old.entries first mid held → WritesPart script first now
+WroteTurns-front script old new call out first mid now held is_read setup is made front shows =
     let goes = Scheduled-goes_on script new.entries is_read (scheduled-turn script old new call out setup shows.scheduled is made) in
     whole_part script new.entries goes.0 first now goes.1
     (AppendsPart-longer first now (shown_turns script new.entries) (goes.1.shows.0 ++ last_line (length goes.0))
-    (subst (AppendsPart first now) (sym (shown-turn script old new call out setup made)) (AppendsPart-append first mid now _ _ shows.wrote front)))
+    (subst (AppendsPart first now) (sym (shown-turn script old new call out setup made)) (Gathers-more_part first mid now [] held _ _ shows.wrote front)))
 
--- a turn that wasn't made, or whose lines weren't written
-pub MakesTurn-part : (script : Script) (old new : MachineView) (call : Call) (first mid now : Written) (fault : TextFault) → IsReadScript script → old.setup ≡ script.setup → next script old.entries ≡ Some call
-    → MakesTurn old new call mid now (Err fault) → WroteTurns script old.entries first mid → WritesPart script first now
-MakesTurn-part script old new call first mid now Failed is_read setup is makes shows = WroteTurns-front script old new call makes.0 first mid now is_read setup is makes.1 makes.2 shows
-MakesTurn-part script old new call first mid now NoMemory is_read setup is makes shows = subst (WritesPart script first) (sym makes) (WroteTurns-part script old.entries first mid is_read shows)
+-- a turn that wasn't made, or whose lines weren't added
+pub MakesTurn-part : (script : Script) (old new : MachineView) (call : Call) (first mid now : Written) (held held_now : List ℕ) (fault : TextFault) → IsReadScript script → old.setup ≡ script.setup → next script old.entries ≡ Some call
+    → MakesTurn old new call mid now held held_now (Err fault) → WroteTurns script old.entries first mid held → WritesPart script first now
+MakesTurn-part script old new call first mid now held held_now Failed is_read setup is makes shows = elim makes [
+  | inl some ↦ WroteTurns-front script old new call some.0 first mid now held is_read setup is some.1 some.2 shows
+  | inr part ↦ WroteTurns-part script old.entries first mid now held is_read shows part
+]
+MakesTurn-part script old new call first mid now held held_now NoMemory is_read setup is makes shows = WroteTurns-put script old.entries first mid now held is_read shows makes
 
 -- ---- the end
 
--- a part of the last line was written behind the lines of all turns
-pub WroteTurns-last_part : (script : Script) (history : List HistoryEntry) (first mid now : Written) → HasAllCalls script history → WroteTurns script history first mid → AppendsPart mid now (last_line (length history)) → WritesPart script first now
-WroteTurns-last_part script history first mid now all shows last = (history, shows.scheduled, all, run-coherent script.setup history, run-watches_report script.setup history, AppendsPart-append first mid now _ _ shows.wrote last)
+-- a part of what is gathered and of the last line was written, behind the lines of all turns but these; or what is
+-- gathered was
+WroteTurns-last_part : (script : Script) (history : List HistoryEntry) (first mid now : Written) (held held_now : List ℕ) (fault : TextFault) → HasAllCalls script history → WroteTurns script history first mid held → Finishes mid now held held_now (last_line (length history)) (Err fault)
+    → WritesPart script first now
+WroteTurns-last_part script history first mid now held held_now Failed all shows last =
+    (history, shows.scheduled, all, run-coherent script.setup history, run-watches_report script.setup history, Gathers-more_part first mid now [] held _ _ shows.wrote last.0)
+WroteTurns-last_part script history first mid now held held_now NoMemory all shows last =
+    (history, shows.scheduled, all, run-coherent script.setup history, run-watches_report script.setup history, AppendsPart-whole first now (shown_turns script history) (last_line (length history)) (omega arith) (Gathers-all first mid now [] held _ shows.wrote last.0))
 
 -- a schedule that has all calls is the one history with its text
 pub history-one : (script : Script) (history : List HistoryEntry) → IsReadScript script → Scheduled script history → HasAllCalls script history → IsHistory script history
@@ -264,9 +284,15 @@ history-one script history is_read scheduled all = record {
   plainly = λ none. text-plain script history is_read scheduled all none;
 }
 
--- the last line was
-pub WroteTurns-whole : (script : Script) (history : List HistoryEntry) (first mid now : Written) → IsReadScript script → HasAllCalls script history → WroteTurns script history first mid → Appends mid now (last_line (length history)) → WritesText script first now
-WroteTurns-whole script history first mid now is_read all shows last = (history, history-one script history is_read shows.scheduled all, Appends-append first mid now _ _ shows.wrote last)
+-- all of it and the last line were
+WroteTurns-whole : (script : Script) (history : List HistoryEntry) (first mid now : Written) (held : List ℕ) → IsReadScript script → HasAllCalls script history → WroteTurns script history first mid held → Appends mid now (held ++ last_line (length history))
+    → WritesText script first now
+WroteTurns-whole script history first mid now held is_read all shows last = (history, history-one script history is_read shows.scheduled all, Gathers-more first mid now [] held _ _ shows.wrote last)
+
+pub WroteTurns-finished : (script : Script) (history : List HistoryEntry) (first mid now : Written) (held held_now : List ℕ) (result : Result (Unit {0}) TextFault) → IsReadScript script → HasAllCalls script history → WroteTurns script history first mid held
+    → Finishes mid now held held_now (last_line (length history)) result → OnOk result (WritesText script first now) × OnErr result (WritesPart script first now)
+WroteTurns-finished script history first mid now held held_now (Ok done) is_read all shows last = (WroteTurns-whole script history first mid now held is_read all shows last.0, tt)
+WroteTurns-finished script history first mid now held held_now (Err fault) is_read all shows last = (tt, WroteTurns-last_part script history first mid now held held_now fault all shows last)
 
 -- where no call is next
 pub Progress-all : (script : Script) (seen : MachineView) (order : Order) → Progress script seen order → next script seen.entries ≡ None → HasAllCalls script seen.entries

@@ -1,5 +1,5 @@
 -- The text of a history that is there already, written turn by turn.
-use Rattle.std.proofs.Common.{◌≡◌, ℕ, zero, suc, ◌+◌, List, [], ◌∷◌, ◌++◌, length, map, take, drop, true, false, Some, None, IsSome, refl, ap, sym, subst, ◌∙◌, append_assoc, append-nil, arith, inl, inr}
+use Rattle.std.proofs.Common.{◌≡◌, ℕ, zero, suc, ◌+◌, ◌<◌, List, [], ◌∷◌, ◌++◌, length, map, take, drop, true, false, Some, None, IsSome, refl, ap, sym, subst, ◌∙◌, append_assoc, append-nil, arith, inl, inr}
 use Rattle.std.specs.Prelude.{Result, Ok, Err, OnErr, OnOk, slice_get}
 use Rattle.fsa_types.specs.declared.request.Call.{Call}
 use Rattle.fsa_model.specs.History.{HistoryEntry, Run, run}
@@ -9,11 +9,12 @@ use Rattle.fsa_model.specs.Text.{last_line, text, turn_text, turns_text}
 use Rattle.fsa_model.proofs.HistoryLaws.{run-gives}
 use Rattle.fsa_model.proofs.RowLaws.{option_cases}
 use Rattle.wire_io.specs.Sink.{Written, Appends, AppendsPart}
-use Rattle.wire_io.proofs.SinkLaws.{Appends-append, Appends-none, AppendsPart-append, AppendsPart-longer}
-use Rattle.text_out.specs.Writes.{Writes}
+use Rattle.wire_io.proofs.SinkLaws.{AppendsPart-longer, AppendsPart-whole}
+use Rattle.text_out.specs.Writes.{Adds, Finishes, Gathers}
 use Rattle.text_out.specs.declared.write.TextFault.{TextFault}
+use Rattle.text_out.specs.declared.write.TextFault.TheVariants.{Failed, NoMemory}
+use Rattle.text_out.proofs.GatherLaws.{Gathers-all, Gathers-append, Gathers-more, Gathers-more_part, Gathers-none}
 use Rattle.fsa_top.specs.Shown.{ShowsFirst, ShowsTurn}
-use Rattle.fsa_top.proofs.RunLaws.{Writes-part}
 
 text_of_none : (clients : List Client) (history : List HistoryEntry) → turns_text clients history [] ≡ []
 text_of_none clients [] = refl
@@ -43,15 +44,15 @@ turns_next clients (entry ∷ history) (first ∷ outs) (suc turn) call out at g
     ap (λ (rest : List ℕ). turn_text clients entry.call first ++ rest) (turns_next clients history outs turn call out at gave)
     ∙ sym (append_assoc (turn_text clients entry.call first) (turns_text clients (take turn history) (take turn outs)) (turn_text clients call out))
 
-pub first-begun : (script : Script) (history : List HistoryEntry) (written : Written) → ShowsFirst script history 0 written written
-first-begun script history written r runs = Appends-none written
+pub first-begun : (script : Script) (history : List HistoryEntry) (written : Written) (held : List ℕ) → held ≡ [] → ShowsFirst script history 0 written written held
+first-begun script history written held none r runs = subst (λ (h : List ℕ). Gathers written written [] h []) (sym none) (Gathers-none written [])
 
-pub first-turn : (script : Script) (history : List HistoryEntry) (turn : ℕ) (first mid now : Written) → ShowsFirst script history turn first mid → ShowsTurn Appends script history turn mid now
-    → ShowsFirst script history (turn + 1) first now
-first-turn script history turn first mid now before next r runs =
-    subst (λ (n : ℕ). Appends first now (turns_text script.setup.clients (take n history) (take n r.outs))) (let same : suc turn ≡ turn + 1 = omega arith in same)
-    (subst (Appends first now) (sym (turns_next script.setup.clients history r.outs turn next.0 next.1 next.2 (next.3 r runs)))
-    (Appends-append first mid now _ _ (before r runs) next.4))
+pub first-turn : (script : Script) (history : List HistoryEntry) (turn : ℕ) (first mid now : Written) (held held_now : List ℕ) → ShowsFirst script history turn first mid held → ShowsTurn script history turn (Gathers mid now held held_now)
+    → ShowsFirst script history (turn + 1) first now held_now
+first-turn script history turn first mid now held held_now before next r runs =
+    subst (λ (n : ℕ). Gathers first now [] held_now (turns_text script.setup.clients (take n history) (take n r.outs))) (let same : suc turn ≡ turn + 1 = omega arith in same)
+    (subst (Gathers first now [] held_now) (sym (turns_next script.setup.clients history r.outs turn next.0 next.1 next.2 (next.3 r runs)))
+    (Gathers-append first mid now [] held held_now _ _ (before r runs) next.4))
 
 -- a run that is there
 some_run : (script : Script) (history : List HistoryEntry) → IsSome (run script.setup history) → (r : Run) × (run script.setup history ≡ Some r)
@@ -64,14 +65,18 @@ text_is : (script : Script) (history : List HistoryEntry) (r : Run) → run scri
 text_is script history r runs = rw runs refl
 
 -- a part of the lines of one turn, behind those before it
-pub first-part : (script : Script) (history : List HistoryEntry) (turn : ℕ) (first mid now : Written) → IsSome (run script.setup history) → ShowsFirst script history turn first mid → ShowsTurn AppendsPart script history turn mid now
-    → AppendsPart first now (text script history)
-first-part script history turn first mid now some before next =
+lines-part : (first mid now : Written) (held held_now front lines : List ℕ) (fault : TextFault) → 0 < length lines → Gathers first mid [] held front → Adds mid now held held_now lines (Err fault) → AppendsPart first now (front ++ lines)
+lines-part first mid now held held_now front lines Failed some before part = Gathers-more_part first mid now [] held front lines before part.0
+lines-part first mid now held held_now front lines NoMemory some before put = AppendsPart-whole first now front lines some (Gathers-all first mid now [] held front before put.0)
+
+pub first-part : (script : Script) (history : List HistoryEntry) (turn : ℕ) (first mid now : Written) (held held_now : List ℕ) (fault : TextFault) → IsSome (run script.setup history) → ShowsFirst script history turn first mid held
+    → ShowsTurn script history turn (λ lines. Adds mid now held held_now lines (Err fault)) → AppendsPart first now (text script history)
+first-part script history turn first mid now held held_now fault some before next =
     let r = some_run script history some in
     let clients : List Client = script.setup.clients in
     let rest : List ℕ = turns_text clients (drop (suc turn) history) (drop (suc turn) r.0.outs) in
     let front : List ℕ = turns_text clients (take turn history) (take turn r.0.outs) in
-    let here : AppendsPart first now (front ++ turn_text clients next.0 next.1) = AppendsPart-append first mid now front (turn_text clients next.0 next.1) (before r.0 r.1) next.4 in
+    let here : AppendsPart first now (front ++ turn_text clients next.0 next.1) = lines-part first mid now held held_now front (turn_text clients next.0 next.1) fault (omega arith) (before r.0 r.1) next.4 in
     let longer : AppendsPart first now ((front ++ turn_text clients next.0 next.1) ++ (rest ++ last_line (length history))) = AppendsPart-longer first now (front ++ turn_text clients next.0 next.1) (rest ++ last_line (length history)) here in
     let whole : text script history ≡ (front ++ turn_text clients next.0 next.1) ++ (rest ++ last_line (length history))
     = text_is script history r.0 r.1 ∙ (ap (λ (lines : List ℕ). lines ++ last_line (length history)) (turns_split clients history r.0.outs (suc turn)
@@ -86,27 +91,28 @@ take_all (x ∷ xs) zero long = absurd (omega arith)
 take_all (x ∷ xs) (suc n) long = ap (λ (rest : List _). x ∷ rest) (take_all xs n (omega arith))
 
 -- the lines of all turns
-all_turns : (script : Script) (history : List HistoryEntry) (first mid : Written) (r : Run) → run script.setup history ≡ Some r → ShowsFirst script history (length history) first mid
-    → Appends first mid (turns_text script.setup.clients history r.outs)
-all_turns script history first mid r runs shows =
-    subst (Appends first mid) (λ i. turns_text script.setup.clients (take_all history (length history) refl i) (take_all r.outs (length history) (run-gives script.setup history r runs) i)) (shows r runs)
+all_turns : (script : Script) (history : List HistoryEntry) (first mid : Written) (held : List ℕ) (r : Run) → run script.setup history ≡ Some r → ShowsFirst script history (length history) first mid held
+    → Gathers first mid [] held (turns_text script.setup.clients history r.outs)
+all_turns script history first mid held r runs shows =
+    subst (Gathers first mid [] held) (λ i. turns_text script.setup.clients (take_all history (length history) refl i) (take_all r.outs (length history) (run-gives script.setup history r runs) i)) (shows r runs)
 
-pub first-whole : (script : Script) (history : List HistoryEntry) (first mid now : Written) → IsSome (run script.setup history) → ShowsFirst script history (length history) first mid → Appends mid now (last_line (length history))
+first-whole : (script : Script) (history : List HistoryEntry) (first mid now : Written) (held : List ℕ) → IsSome (run script.setup history) → ShowsFirst script history (length history) first mid held → Appends mid now (held ++ last_line (length history))
     → Appends first now (text script history)
-first-whole script history first mid now some shows last =
+first-whole script history first mid now held some shows last =
     let r = some_run script history some in
-    subst (Appends first now) (sym (text_is script history r.0 r.1)) (Appends-append first mid now _ _ (all_turns script history first mid r.0 r.1 shows) last)
+    subst (Appends first now) (sym (text_is script history r.0 r.1)) (Gathers-more first mid now [] held _ _ (all_turns script history first mid held r.0 r.1 shows) last)
 
-pub first-last_part : (script : Script) (history : List HistoryEntry) (first mid now : Written) → IsSome (run script.setup history) → ShowsFirst script history (length history) first mid → AppendsPart mid now (last_line (length history))
-    → AppendsPart first now (text script history)
-first-last_part script history first mid now some shows last =
+first-last_part : (script : Script) (history : List HistoryEntry) (first mid now : Written) (held held_now : List ℕ) (fault : TextFault) → IsSome (run script.setup history) → ShowsFirst script history (length history) first mid held
+    → Finishes mid now held held_now (last_line (length history)) (Err fault) → AppendsPart first now (text script history)
+first-last_part script history first mid now held held_now fault some shows last =
     let r = some_run script history some in
-    subst (AppendsPart first now) (sym (text_is script history r.0 r.1)) (AppendsPart-append first mid now _ _ (all_turns script history first mid r.0 r.1 shows) last)
+    subst (AppendsPart first now) (sym (text_is script history r.0 r.1)) (of (turns_text script.setup.clients history r.0.outs) fault (all_turns script history first mid held r.0 r.1 shows) last)
+  where
+    of : (lines : List ℕ) (fault : TextFault) → Gathers first mid [] held lines → Finishes mid now held held_now (last_line (length history)) (Err fault) → AppendsPart first now (lines ++ last_line (length history))
+    of lines Failed before part = Gathers-more_part first mid now [] held lines _ before part.0
+    of lines NoMemory before put = AppendsPart-whole first now lines (last_line (length history)) (omega arith) (Gathers-all first mid now [] held lines before put.0)
 
--- what was written of the lines of one turn
-pub ShowsTurn-wrote : (script : Script) (history : List HistoryEntry) (turn : ℕ) (call : Call) (out : TurnOut) (old now : Written) (result : Result (Unit {0}) TextFault)
-    → slice_get (map (λ (entry : HistoryEntry). entry.call) history) turn ≡ Some call → ((r : Run) → run script.setup history ≡ Some r → slice_get r.outs turn ≡ Some out)
-    → Writes old now (turn_text script.setup.clients call out) result
-    → OnOk result (ShowsTurn Appends script history turn old now) × OnErr result (ShowsTurn AppendsPart script history turn old now)
-ShowsTurn-wrote script history turn call out old now (Ok done) at gave wrote = ((call, out, at, gave, wrote), tt)
-ShowsTurn-wrote script history turn call out old now (Err fault) at gave wrote = (tt, (call, out, at, gave, Writes-part old now (turn_text script.setup.clients call out) fault (omega arith) wrote))
+pub first-finished : (script : Script) (history : List HistoryEntry) (first mid now : Written) (held held_now : List ℕ) (result : Result (Unit {0}) TextFault) → IsSome (run script.setup history) → ShowsFirst script history (length history) first mid held
+    → Finishes mid now held held_now (last_line (length history)) result → OnOk result (Appends first now (text script history)) × OnErr result (AppendsPart first now (text script history))
+first-finished script history first mid now held held_now (Ok done) some shows last = (first-whole script history first mid now held some shows last.0, tt)
+first-finished script history first mid now held held_now (Err fault) some shows last = (tt, first-last_part script history first mid now held held_now fault some shows last)

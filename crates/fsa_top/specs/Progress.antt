@@ -1,5 +1,5 @@
 -- How far a run has come: the history of the machine, its text, and where each client's next call stands.
-use Rattle.std.specs.Prelude.{◌≡◌, ◌≤◌, ◌+◌, Result, Ok, Err, ℕ, List, [], ◌∷◌, ◌++◌, Some, length, slice_get}
+use Rattle.std.specs.Prelude.{◌≡◌, ◌≤◌, ◌+◌, ◌⊎◌, Result, Ok, Err, ℕ, List, [], ◌∷◌, ◌++◌, Some, length, slice_get}
 use Rattle.fsa_types.specs.declared.request.Call.{Call}
 use Rattle.fsa_model.specs.History.{HistoryEntry}
 use Rattle.fsa_model.specs.Outcome.{TurnOut}
@@ -11,6 +11,7 @@ use Rattle.history_laws.specs.Named.{IsReadScript}
 use Rattle.history_laws.specs.GoesOn.{how_many_left}
 use Rattle.fsa_machine.specs.MachineView.{GaveOut, MachineView}
 use Rattle.wire_io.specs.Sink.{Written, Appends, AppendsPart}
+use Rattle.text_out.specs.Writes.{Gathers}
 use Rattle.text_out.specs.declared.write.TextFault.{TextFault}
 use Rattle.text_out.specs.declared.write.TextFault.TheVariants.{Failed, NoMemory}
 use Rattle.fsa_top.specs.Order.{AreNextPlaces, IsWithinLimits}
@@ -34,10 +35,10 @@ pub record IsNextAt (script : Script) (history : List HistoryEntry) (place : ℕ
   pub at : slice_get (all_calls script) place ≡ Some call
   pub is : next script history ≡ Some call
 
--- the lines of a schedule's turns were written
-pub record WroteTurns (script : Script) (history : List HistoryEntry) (written written_now : Written) : Type 0 where
+-- the lines of a schedule's turns were written, but for those that are gathered
+pub record WroteTurns (script : Script) (history : List HistoryEntry) (written written_now : Written) (held : List ℕ) : Type 0 where
   pub scheduled : Scheduled script history
-  pub wrote : Appends written written_now (shown_turns script history)
+  pub wrote : Gathers written written_now [] held (shown_turns script history)
 
 -- the machine made a turn of this call, which gave this out
 pub record MadeTurn (old new : MachineView) (call : Call) (out : TurnOut) : Type 0 where
@@ -45,11 +46,11 @@ pub record MadeTurn (old new : MachineView) (call : Call) (out : TurnOut) : Type
   pub entries : new.entries ≡ old.entries ++ record { call = call; starved = out.starved } ∷ []
   pub gave : GaveOut new.setup new.entries out
 
--- the turn was made and its lines were written; where the sink failed, a part of them was; where there was no
--- memory, nothing was
-abbrev pub MakesTurn : MachineView → MachineView → Call → Written → Written → Result (Unit {0}) TextFault → Type 0
-MakesTurn old new call written written_now (Ok done) =
-    (out : TurnOut) × MadeTurn old new call out × Appends written written_now (turn_text old.setup.clients call out)
-MakesTurn old new call written written_now (Err Failed) =
-    (out : TurnOut) × MadeTurn old new call out × AppendsPart written written_now (turn_text old.setup.clients call out)
-MakesTurn old new call written written_now (Err NoMemory) = written_now ≡ written
+-- the turn was made, and its lines were added to what was gathered; where the sink failed, a part of both was written, or a
+-- part of what was gathered; where there was no memory, what was gathered was written
+abbrev pub MakesTurn : MachineView → MachineView → Call → Written → Written → List ℕ → List ℕ → Result (Unit {0}) TextFault → Type 0
+MakesTurn old new call written written_now held held_now (Ok done) =
+    (out : TurnOut) × MadeTurn old new call out × Gathers written written_now held held_now (turn_text old.setup.clients call out)
+MakesTurn old new call written written_now held held_now (Err Failed) =
+    ((out : TurnOut) × MadeTurn old new call out × AppendsPart written written_now (held ++ turn_text old.setup.clients call out)) ⊎ AppendsPart written written_now held
+MakesTurn old new call written written_now held held_now (Err NoMemory) = Appends written written_now held

@@ -18,7 +18,7 @@ use fsa_machine::VolumeMachine;
 use fsa_types::NoMemory;
 use script_read::{Script, a_generated_script_is_read, generate};
 use std::alloc::Global;
-use text_out::TextFault;
+use text_out::{TextBuffer, TextFault};
 use wire_io::{Failed, Sink, put_all};
 
 // The machine after all calls of a script.
@@ -33,7 +33,8 @@ fn machine_after(alloc: Global, script: &Script) -> Result<VolumeMachine, NoMemo
     let mut order = Order::new(alloc, script)?;
     let mut machine = begin(alloc, script)?;
     let mut nowhere = Nowhere;
-    match run_calls(alloc, &mut machine, script, &mut order, &mut nowhere) {
+    let mut buffer = TextBuffer::new(alloc);
+    match run_calls(alloc, &mut machine, script, &mut order, &mut buffer, &mut nowhere) {
         Ok(()) => Ok(machine),
         Err(TextFault::NoMemory) => Err(NoMemory),
         Err(TextFault::Failed) => unreachable!(),

@@ -1,6 +1,6 @@
 //! The race of a script's clients, and the text of its history.
 
-ghost use Rattle.std.specs.Prelude.{◌≡◌, ◌≤◌, ◌<◌, ◌⊎◌, ◌^◌, ℕ, length, IsSome, OnErr, OnOk, IsErrOf, Some, slice_get, map};
+ghost use Rattle.std.specs.Prelude.{◌≡◌, ◌≤◌, ◌<◌, ◌⊎◌, ◌^◌, ℕ, [], length, IsSome, OnErr, OnOk, IsErrOf, Some, slice_get, map};
 ghost use Rattle.fsa_types.specs.declared.request.Call.{Call};
 ghost use Rattle.fsa_model.specs.History.{Run, run};
 ghost use Rattle.fsa_model.specs.Outcome.{out_of};
@@ -8,7 +8,7 @@ ghost use Rattle.fsa_model.specs.Setup.{client_of};
 ghost use Rattle.fsa_model.specs.Text.{text, turn_text};
 ghost use Rattle.history_laws.specs.Named.{IsReadScript};
 ghost use Rattle.script_read.specs.ScriptView.{contents};
-ghost use Rattle.text_out.specs.Writes.{TellsFaults};
+ghost use Rattle.text_out.specs.Writes.{Adds, TellsFaults};
 ghost use Rattle.wire_io.specs.Sink.{Appends, AppendsPart};
 ghost use Rattle.client_race.specs.Races.{CanRace};
 ghost use Rattle.fsa_top.specs.Shown.{ShowsFirst, ShowsTurn};
@@ -21,25 +21,25 @@ use std::alloc::Global;
 use std::rt::Clock;
 use std::sync::Wait;
 use std::thread::Threads;
-use text_out::{TextFault, write_last, write_turn};
+use text_out::{TextBuffer, TextFault};
 use wire_io::{Gate, Sink};
 
-// Writes the lines of the turn at this place of a machine's history.
-fn put_turn<K: Sink>(
+// Adds the lines of the turn at this place of a machine's history to the text.
+fn add_turn<K: Sink>(
     alloc: Global,
     machine: &VolumeMachine,
     script: &Script,
     turn: u64,
+    buffer: &mut TextBuffer,
     sink: &mut K,
 ) -> Result<(), TextFault>
     requires setup { machine.now.setup ≡ (contents script.now).setup }
     requires runs { IsSome (run (contents script.now).setup machine.now.entries) }
     requires within { turn < length machine.now.entries }
-    ensures ok { OnOk result (ShowsTurn Appends (contents script.now) machine.now.entries turn (K.written sink.old) (K.written sink.new)) }
-    ensures part { OnErr result (ShowsTurn AppendsPart (contents script.now) machine.now.entries turn (K.written sink.old) (K.written sink.new)) }
+    ensures adds { ShowsTurn (contents script.now) machine.now.entries turn (λ lines. Adds (K.written sink.old) (K.written sink.new) buffer.old buffer.new lines result) }
     ensures faults { TellsFaults (K.faults sink.old) (K.faults sink.new) (K.written sink.new).since_fault result }
 {
-    write_turn(
+    buffer.add_turn(
         alloc,
         sink,
         script.clients(),
@@ -48,21 +48,23 @@ fn put_turn<K: Sink>(
     )
 }
 
-// Writes the lines of each turn of a machine's history.
-fn put_turns<K: Sink>(
+// Adds the lines of each turn of a machine's history to the text, which is empty.
+fn add_turns<K: Sink>(
     alloc: Global,
     machine: &VolumeMachine,
     script: &Script,
+    buffer: &mut TextBuffer,
     sink: &mut K,
 ) -> Result<(), TextFault>
     requires setup { machine.now.setup ≡ (contents script.now).setup }
     requires runs { IsSome (run (contents script.now).setup machine.now.entries) }
-    ensures ok { OnOk result (ShowsFirst (contents script.now) machine.now.entries (length machine.now.entries) (K.written sink.old) (K.written sink.new)) }
+    requires none { buffer.old ≡ [] }
+    ensures ok { OnOk result (ShowsFirst (contents script.now) machine.now.entries (length machine.now.entries) (K.written sink.old) (K.written sink.new) buffer.new) }
     ensures part { OnErr result (AppendsPart (K.written sink.old) (K.written sink.new) (text (contents script.now) machine.now.entries)) }
     ensures faults { TellsFaults (K.faults sink.old) (K.faults sink.new) (K.written sink.new).since_fault result }
 {
     for turn in 0..machine.len() {
-        put_turn(alloc, machine, script, turn, sink)?;
+        add_turn(alloc, machine, script, turn, buffer, sink)?;
     }
     Ok(())
 }
@@ -81,9 +83,9 @@ fn put_text<K: Sink>(
     ensures part { OnErr result (AppendsPart (K.written sink.old) (K.written sink.new) (text (contents script.now) machine.now.entries)) }
     ensures faults { TellsFaults (K.faults sink.old) (K.faults sink.new) (K.written sink.new).since_fault result }
 {
-    put_turns(alloc, machine, script, sink)?;
-    write_last(alloc, sink, machine.len() as u32)?;
-    Ok(())
+    let mut buffer = TextBuffer::new(alloc);
+    add_turns(alloc, machine, script, &mut buffer, sink)?;
+    buffer.finish(sink, machine.len() as u32)
 }
 
 /// Runs the clients of a script side by side, and writes the text of their history, which is whole for the

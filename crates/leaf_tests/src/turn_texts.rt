@@ -7,7 +7,7 @@ use fsa_types::{
 };
 use std::alloc::Global;
 use std::test::Fail;
-use text_out::{TextFault, write_turn};
+use text_out::{TextBuffer, TextFault};
 use wire_io::MemorySink;
 
 const CHANGES: &[u8] = &[
@@ -73,8 +73,12 @@ fn is_text(alloc: Global, kind: PackKind, bytes: &[u8], text: &[u8]) -> Result<b
         what: What::Tick(1),
     };
     let mut sink = MemorySink::new(alloc, 300, 300, &[])?;
-    match write_turn(alloc, &mut sink, &names, &call, &out) {
-        Ok(()) => Ok(sink.bytes() == text),
+    let mut buffer = TextBuffer::new(alloc);
+    match buffer.add_turn(alloc, &mut sink, &names, &call, &out) {
+        Ok(()) => match buffer.give_up(&mut sink) {
+            TextFault::NoMemory => Ok(sink.bytes() == text),
+            TextFault::Failed => Ok(false),
+        },
         Err(TextFault::Failed) => Ok(false),
         Err(TextFault::NoMemory) => Err(NoMemory),
     }

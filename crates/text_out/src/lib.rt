@@ -1,6 +1,7 @@
-//! The printed text of turns. [`write_turn`] writes the lines of a turn to a sink: whose turn it is and
-//! what it does, the answer to its call, and the calls that ended besides; [`write_last`] writes the
-//! line behind all turns.
+//! The printed text of turns. A [`TextBuffer`] gathers the lines of turns and puts them to a sink:
+//! [`TextBuffer::add_turn`] adds those of one turn, which say whose turn it is and what it does, the
+//! answer to its call, and the calls that ended besides; [`TextBuffer::finish`] puts all that is gathered
+//! and the line behind all turns; [`TextBuffer::give_up`] puts what is gathered where there is no memory for more.
 //!
 //! ```text
 //! > a 3 read
@@ -13,10 +14,11 @@
 //!
 //! [`write_bytes`] writes a string of bytes, part by part and without memory.
 //!
-//! **Cost.** The lines of a turn are made in memory and then put, so where there is no memory nothing
-//! is written. Of an answer that gives more than 8,192 bytes only what stands before and behind them is
-//! made so, and their digits are written part by part. Time is linear in what is written, and so is
-//! memory, but for those digits.
+//! **Cost.** The lines of a turn are made in memory and gathered. Once there are 65,536 bytes, all are put, so
+//! that most turns cost no put. Where there is no memory for a turn's lines none of them is put,
+//! and what was gathered before is. Of an answer that gives more than 8,192 bytes only what stands before
+//! and behind them is gathered, and their digits are put part by part. Time is linear in what is put, and
+//! memory in a block and the longest turn's lines, but for those digits.
 #![tactic(auto)]
 
 mod bodies;
@@ -27,4 +29,4 @@ mod text;
 mod write;
 
 pub use bytes::write_bytes;
-pub use write::{TextFault, write_last, write_turn};
+pub use write::{TextBuffer, TextFault};

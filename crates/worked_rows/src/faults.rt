@@ -34,13 +34,13 @@ const WRITE_TEXT: &str =
     c 2 SUCCESS\nend 9\n";
 
 // Cases: a script, its text, how many bytes a call moves at most, and how many calls of the source and of
-// the sink there are, each of which fails in turn. A last call of the source meets its end; each turn is
-// put by itself, in as many calls as its bytes need, and so is the last line.
+// the sink there are, each of which fails in turn. A last call of the source meets its end; the text, which
+// is shorter than a block, is put in as many calls as its bytes need.
 const CASES: [(&str, &str, usize, u32, u32); 4] = [
-    (RENAME, RENAME_TEXT, 32, 9, 18),
-    (RENAME, RENAME_TEXT, 65536, 2, 10),
-    (WRITE, WRITE_TEXT, 32, 8, 14),
-    (WRITE, WRITE_TEXT, 65536, 2, 10),
+    (RENAME, RENAME_TEXT, 32, 9, 14),
+    (RENAME, RENAME_TEXT, 65536, 2, 1),
+    (WRITE, WRITE_TEXT, 32, 8, 11),
+    (WRITE, WRITE_TEXT, 65536, 2, 1),
 ];
 
 #[test]

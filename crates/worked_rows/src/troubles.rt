@@ -23,15 +23,15 @@ enum Trouble {
 // many calls there are, each of which meets the trouble in turn; the status then, and the status
 // and the text where the trouble comes after them.
 //
-// The script of one client has 114 bytes, and its text 148, in five turns and the last line.
+// The script of one client has 114 bytes, and its text 148.
 const CASES: [(&str, usize, Trouble, usize, u32, u8, u8, &str); 12] = [
     (FIRST, 1, Trouble::Take, 1, 115, 3, 0, FIRST_TEXT),
     (FIRST, 1, Trouble::Take, 32, 5, 3, 0, FIRST_TEXT),
     (FIRST, 1, Trouble::Take, 65536, 2, 3, 0, FIRST_TEXT),
     (FIRST, 1, Trouble::Put, 1, 148, 4, 0, FIRST_TEXT),
-    (FIRST, 1, Trouble::Put, 65536, 6, 4, 0, FIRST_TEXT),
+    (FIRST, 1, Trouble::Put, 65536, 1, 4, 0, FIRST_TEXT),
     (FIRST, 1, Trouble::Nothing, 1, 148, 4, 0, FIRST_TEXT),
-    (FIRST, 1, Trouble::Nothing, 65536, 6, 4, 0, FIRST_TEXT),
+    (FIRST, 1, Trouble::Nothing, 65536, 1, 4, 0, FIRST_TEXT),
     ("fsa 2\n", 1, Trouble::Put, 65536, 3, 2, 2, "bad line 1\n"),
     ("fsa 2\n", 1, Trouble::Nothing, 1, 11, 2, 2, "bad line 1\n"),
     (

@@ -43,7 +43,7 @@ make_turn-requires-else-place-lines-clause-number g c =
 
 pub returns-then-place-lines-clause-made : goal.returns-then-place-lines-clause-made
 returns-then-place-lines-clause-made g c = λ call at.
-    subst (λ (one : Call). MakesTurn c.args.machine.now c.make_turn.new.machine one (g.K.Sink.written c.args.sink.now) (g.K.Sink.written c.make_turn.new.sink) c.make_turn.result)
+    subst (λ (one : Call). MakesTurn c.args.machine.now c.make_turn.new.machine one (g.K.Sink.written c.args.sink.now) (g.K.Sink.written c.make_turn.new.sink) c.args.buffer.now c.make_turn.new.buffer c.make_turn.result)
     (same_call (contents c.args.script.now) c.args.place c.index-lines-place.result call
     (line_is (contents c.args.script.now) c.as_slice-lines.result.now c.args.place c.index-lines-place.result (c.as_slice-lines.ensures ∙ c.lines.ensures) c.if-place-lines.true c.index-lines-place.is) at)
     c.make_turn.ensures.made
@@ -53,6 +53,6 @@ returns-else-place-lines-clause-made g c = λ call at.
     let lines : length c.as_slice-lines.result.now ≡ length (contents c.args.script.now).lines = ap (λ (l : List Call). length l) (c.as_slice-lines.ensures ∙ c.lines.ensures) in
     let leaving : c.leave_after-call.result ≡ leave_after (contents c.args.script.now).lines (c.args.place - length (contents c.args.script.now).lines)
     = c.leave_after-call.ensures ∙ ap (λ (l : List Call). leave_after l (c.args.place - length l)) (c.as_slice-lines.ensures ∙ c.lines.ensures) in
-    subst (λ (one : Call). MakesTurn c.args.machine.now c.make_turn-else-place-lines.new.machine one (g.K.Sink.written c.args.sink.now) (g.K.Sink.written c.make_turn-else-place-lines.new.sink) c.make_turn-else-place-lines.result)
+    subst (λ (one : Call). MakesTurn c.args.machine.now c.make_turn-else-place-lines.new.machine one (g.K.Sink.written c.args.sink.now) (g.K.Sink.written c.make_turn-else-place-lines.new.sink) c.args.buffer.now c.make_turn-else-place-lines.new.buffer c.make_turn-else-place-lines.result)
     (leaving ∙ same_call (contents c.args.script.now) c.args.place _ call (leave_is (contents c.args.script.now) c.args.place (omega (arith, c.if-place-lines.false, lines)) c.requires.there) at)
     c.make_turn-else-place-lines.ensures.made

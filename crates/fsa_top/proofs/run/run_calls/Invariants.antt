@@ -7,7 +7,7 @@ use Rattle.fsa_top.proofs.run.run_calls.Given as goal
 abbrev pub invariant-turns : goal.invariant-turns
 invariant-turns g l = record {
   stands : Progress (contents l.script) l.machine l.order;
-  shows : WroteTurns (contents l.script) l.machine.entries (g.K.Sink.written l.fn.sink) (g.K.Sink.written l.sink);
+  shows : WroteTurns (contents l.script) l.machine.entries (g.K.Sink.written l.fn.sink) (g.K.Sink.written l.sink) l.buffer;
   unfailed : g.K.Sink.faults l.sink ≡ g.K.Sink.faults l.fn.sink;
 }
 

@@ -1,26 +1,19 @@
-use Rattle.std.proofs.Common.{ℕ, Err, arith, length, subst}
+use Rattle.std.proofs.Common.{ℕ, subst}
 use Rattle.fsa_model.specs.Text.{last_line}
 use Rattle.script_read.specs.ScriptView.{contents}
-use Rattle.wire_io.specs.Sink.{Appends}
-use Rattle.text_out.specs.Writes.{Writes}
-use Rattle.text_out.specs.declared.write.TextFault.{TextFault}
-use Rattle.fsa_top.proofs.RunLaws.{OnErr-any, Writes-part, WroteTurns-last_part, WroteTurns-whole}
+use Rattle.text_out.specs.Writes.{Finishes, TellsFaults}
+use Rattle.fsa_top.proofs.RunLaws.{WroteTurns-begun, WroteTurns-finished}
 use Rattle.fsa_top.proofs.run.run_on.Goals as goal
 
-pub returns-in_err-write_last-clause-part : goal.returns-in_err-write_last-clause-part
-returns-in_err-write_last-clause-part g c =
-    let old = g.K.Sink.written c.args.sink.now in
-    let mid = g.K.Sink.written c.run_calls.new.sink in
-    let now = g.K.Sink.written c.write_last.new.sink in
-    OnErr-any {T = Unit {0}} {E = TextFault} c.from_residual-in_err-write_last.result _
-    (WroteTurns-last_part (contents c.args.script.now) c.run_calls.new.machine.entries old mid now c.in_ok-run_calls.ensures.all c.in_ok-run_calls.ensures.ok
-    (Writes-part mid now (last_line (length c.run_calls.new.machine.entries)) c.in_err-write_last.field-0.0 (omega arith)
-    (subst (λ (n : ℕ). Writes mid now (last_line n) (Err c.in_err-write_last.field-0.0)) c.len.ensures c.in_err-write_last.ensures.writes)))
+pub run_calls-requires-clause-shows : goal.run_calls-requires-clause-shows
+run_calls-requires-clause-shows g c = WroteTurns-begun (contents c.args.script.now) c.args.machine.now.entries (g.K.Sink.written c.args.sink.now) c.new-buffer.result c.requires.none c.new-buffer.ensures
 
-pub returns-clause-ok : goal.returns-clause-ok
-returns-clause-ok g c =
+pub returns : goal.returns
+returns g c =
     let old = g.K.Sink.written c.args.sink.now in
     let mid = g.K.Sink.written c.run_calls.new.sink in
-    let now = g.K.Sink.written c.write_last.new.sink in
-    WroteTurns-whole (contents c.args.script.now) c.run_calls.new.machine.entries old mid now c.requires.stands.is_read c.in_ok-run_calls.ensures.all c.in_ok-run_calls.ensures.ok
-    (subst (λ (n : ℕ). Appends mid now (last_line n)) c.len.ensures c.in_ok-write_last.ensures.writes)
+    let now = g.K.Sink.written c.finish.new.sink in
+    let held = c.run_calls.new.buffer in
+    let ends = WroteTurns-finished (contents c.args.script.now) c.run_calls.new.machine.entries old mid now held c.finish.new.self c.finish.result c.requires.stands.is_read c.in_ok-run_calls.ensures.all c.in_ok-run_calls.ensures.ok
+    (subst (λ (n : ℕ). Finishes mid now held c.finish.new.self (last_line n) c.finish.result) c.len.ensures c.finish.ensures.finishes) in
+    record { ok = ends.0; part = ends.1; faults = subst (λ (f : ℕ). TellsFaults f (g.K.Sink.faults c.finish.new.sink) now.since_fault c.finish.result) c.in_ok-run_calls.ensures.faults.unfailed c.finish.ensures.faults }

@@ -15,7 +15,7 @@ make_turn_at-requires-clause-asked g c = λ call at.
 pub returns-in_err-make_turn_at-clause-part : goal.returns-in_err-make_turn_at-clause-part
 returns-in_err-make_turn_at-clause-part g c =
     OnErr-any {T = Unit {0}} {E = TextFault} c.from_residual.result _
-    (λ first shows. MakesTurn-part (contents c.args.script.now) c.args.machine.now c.make_turn_at.new.machine c.requires.next.call first (g.K.Sink.written c.args.sink.now) (g.K.Sink.written c.make_turn_at.new.sink)
+    (λ first shows. MakesTurn-part (contents c.args.script.now) c.args.machine.now c.make_turn_at.new.machine c.requires.next.call first (g.K.Sink.written c.args.sink.now) (g.K.Sink.written c.make_turn_at.new.sink) c.args.buffer.now c.make_turn_at.new.buffer
     c.in_err-make_turn_at.field-0.0 c.requires.stands.is_read c.requires.stands.setup c.requires.next.is (c.in_err-make_turn_at.ensures.made c.requires.next.call c.requires.next.at) shows)
 
 pub go_on-requires-clause-there : goal.go_on-requires-clause-there
@@ -35,7 +35,7 @@ returns-clause-fewer g c =
 pub returns-clause-shows : goal.returns-clause-shows
 returns-clause-shows g c = λ first shows.
     let made = c.in_ok-make_turn_at.ensures.made c.requires.next.call c.requires.next.at in
-    WroteTurns-turn (contents c.args.script.now) c.args.machine.now c.make_turn_at.new.machine c.requires.next.call made.0 first (g.K.Sink.written c.args.sink.now) (g.K.Sink.written c.make_turn_at.new.sink)
+    WroteTurns-turn (contents c.args.script.now) c.args.machine.now c.make_turn_at.new.machine c.requires.next.call made.0 first (g.K.Sink.written c.args.sink.now) (g.K.Sink.written c.make_turn_at.new.sink) c.args.buffer.now c.make_turn_at.new.buffer
     c.requires.stands.setup c.requires.next.is made.1 made.2 shows
 
 pub make_turn_at-requires-clause-few : goal.make_turn_at-requires-clause-few
