@@ -1,6 +1,6 @@
 //! Scripts in which requests wait and go on, over a source or a sink that fails at each of its calls in turn.
 
-use crate::program::{on_one_thread, repeated, words_of};
+use crate::program::{on_one_thread, repeated, run, words_of};
 use crate::troubles::{over_memory, over_reluctant};
 use std::alloc::Global;
 use std::test::Fail;
@@ -103,6 +103,42 @@ fn a_sink_that_fails_at_a_call_has_a_beginning(rt: HostRuntime) -> Result<(), Fa
             assert_eq!(rt; bytes.as_slice(), text.as_bytes(), "{script} {piece}");
         }
     }
+    Ok(())
+}
+
+// A file of 16,384 zeros: 8,000 of them are read five times, whose answers make a block, and then all.
+const ZEROS: &str = "fsa 1\nclient a 7\na 1 create =\\z 0x3 0x7 create 0x0 0x0 0\na 2 setend 1 16384\n\
+    a 3 read 1 0 8000\na 4 read 1 0 8000\na 5 read 1 0 8000\na 6 read 1 0 8000\n\
+    a 7 read 1 0 8000\na 8 read 1 0 16384\n";
+
+// The status, and what is written, where this call of the sink fails.
+fn zeros(alloc: Global, failing: u64) -> Result<(u8, Vec<u8>), Fail> {
+    let mut source = MemorySource::new(alloc, ZEROS.as_bytes(), 65536, &[])?;
+    let mut sink = MemorySink::new(alloc, 200_000, 200_000, &[failing])?;
+    let status = run(alloc, &mut source, &mut sink)?;
+    Ok((status, Vec::from_slice(alloc, sink.bytes())?))
+}
+
+// Six pieces are put: the block; what stands before the answer of 16,384 bytes; its `x`; the digits of its two
+// parts; and what stands behind it.
+#[test]
+fn a_text_of_several_blocks_is_put_in_order(rt: HostRuntime) -> Result<(), Fail> {
+    let alloc = rt.alloc();
+    let (status, whole) = zeros(alloc, 0)?;
+    assert_eq!(rt; status, 0);
+    assert!(rt; whole.ends_with(b"\nend 9\n"));
+    let mut least = 0;
+    for call in 1..=6 {
+        let (status, bytes) = zeros(alloc, call)?;
+        assert_eq!(rt; status, 4, "{call}");
+        assert!(rt; whole.starts_with(&bytes), "{call}");
+        assert!(rt; (bytes.len() == 0) == (call == 1), "{call}");
+        assert!(rt; call == 1 || bytes.len() > least.max(65_535), "{call}");
+        least = bytes.len();
+    }
+    let (status, bytes) = zeros(alloc, 7)?;
+    assert_eq!(rt; status, 0);
+    assert_eq!(rt; bytes.as_slice(), whole.as_slice());
     Ok(())
 }
 
