@@ -34,7 +34,14 @@ fn machine_after(alloc: Global, script: &Script) -> Result<VolumeMachine, NoMemo
     let mut machine = begin(alloc, script)?;
     let mut nowhere = Nowhere;
     let mut buffer = TextBuffer::new(alloc);
-    match run_calls(alloc, &mut machine, script, &mut order, &mut buffer, &mut nowhere) {
+    match run_calls(
+        alloc,
+        &mut machine,
+        script,
+        &mut order,
+        &mut buffer,
+        &mut nowhere,
+    ) {
         Ok(()) => Ok(machine),
         Err(TextFault::NoMemory) => Err(NoMemory),
         Err(TextFault::Failed) => unreachable!(),

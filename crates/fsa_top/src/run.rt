@@ -24,11 +24,7 @@ use text_out::{TextBuffer, TextFault};
 use wire_io::Sink;
 
 // Makes a turn of a call; the machine keeps a copy of it.
-fn turn_of(
-    alloc: Global,
-    machine: &mut VolumeMachine,
-    call: &Call,
-) -> Result<Out, NoMemory>
+fn turn_of(alloc: Global, machine: &mut VolumeMachine, call: &Call) -> Result<Out, NoMemory>
     requires asked { IsLineCall (length machine.old.setup.clients) call.now }
     requires number { call.now.number ≡ calls_of call.now.client (map (λ entry. entry.call) machine.old.entries) + 1 }
     requires few { length machine.old.entries < 1000000 }

@@ -1,5 +1,5 @@
 -- Laws of a text that is gathered and put now and then.
-use Rattle.std.proofs.Common.{◌≡◌, ◌∙◌, ℕ, List, [], ◌++◌, refl, ap, sym, subst, append_assoc, append-nil}
+use Rattle.std.proofs.Common.{◌≡◌, ◌∙◌, ℕ, List, [], ◌++◌, ap, sym, subst, append_assoc, append-nil}
 use Rattle.std.specs.Prelude.{Err}
 use Rattle.wire_io.specs.Sink.{Written, Appends, AppendsPart}
 use Rattle.wire_io.proofs.SinkLaws.{Appends-append, Appends-none, AppendsPart-append, AppendsPart-longer}

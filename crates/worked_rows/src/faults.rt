@@ -107,7 +107,8 @@ fn a_sink_that_fails_at_a_call_has_a_beginning(rt: HostRuntime) -> Result<(), Fa
 }
 
 // A file of 16,384 zeros: 8,000 of them are read five times, whose answers make a block, and then all.
-const ZEROS: &str = "fsa 1\nclient a 7\na 1 create =\\z 0x3 0x7 create 0x0 0x0 0\na 2 setend 1 16384\n\
+const ZEROS: &str =
+    "fsa 1\nclient a 7\na 1 create =\\z 0x3 0x7 create 0x0 0x0 0\na 2 setend 1 16384\n\
     a 3 read 1 0 8000\na 4 read 1 0 8000\na 5 read 1 0 8000\na 6 read 1 0 8000\n\
     a 7 read 1 0 8000\na 8 read 1 0 16384\n";
 

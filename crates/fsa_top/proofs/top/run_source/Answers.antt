@@ -1,4 +1,4 @@
-use Rattle.std.proofs.Common.{ap, inl, arith, rules}
+use Rattle.std.proofs.Common.{ap, inl, arith}
 use Rattle.std.proofs.lemmas.Grind.{common_steps}
 use Rattle.fsa_top.proofs.top.run_source.Goals as goal
 
