@@ -2,7 +2,8 @@
 """measure.py PROGRAM [LINES ..]: times a built program on scripts of so many lines, 2,000, 8,000 and 32,000 if none is named.
 
 The scripts are the same each time: eight clients open 50 files, write, lock, read, unlock and close them, and open them
-again. It prints the processor seconds and the peak memory of the best of three runs, as the table of docs/ARCHITECTURE.md.
+again. It prints the processor seconds and the peak memory of the best of three runs. Memory below some 12 MB isn't the
+program's, but that of the Python process that starts it.
 """
 import os
 import resource
