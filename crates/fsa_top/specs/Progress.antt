@@ -46,8 +46,9 @@ pub record MadeTurn (old new : MachineView) (call : Call) (out : TurnOut) : Type
   pub entries : new.entries ≡ old.entries ++ record { call = call; starved = out.starved } ∷ []
   pub gave : GaveOut new.setup new.entries out
 
--- the turn was made, and its lines were added to what was gathered; where the sink failed, a part of both was written, or a
--- part of what was gathered; where there was no memory, what was gathered was written
+-- where it went well, the turn was made and its lines came behind what was gathered; where the sink failed, the turn was
+-- made and a part of both was written, or a part of what was gathered; where there was no memory, what was gathered was
+-- written
 abbrev pub MakesTurn : MachineView → MachineView → Call → Written → Written → List ℕ → List ℕ → Result (Unit {0}) TextFault → Type 0
 MakesTurn old new call written written_now held held_now (Ok done) =
     (out : TurnOut) × MadeTurn old new call out × Gathers written written_now held held_now (turn_text old.setup.clients call out)

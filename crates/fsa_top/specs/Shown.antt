@@ -1,4 +1,4 @@
--- The turns of a history that is there already, as they are written one by one.
+-- The lines of a history that is there already, gathered turn by turn and put in blocks.
 use Rattle.std.specs.Prelude.{◌≡◌, ℕ, List, [], Some, map, slice_get, take}
 use Rattle.fsa_types.specs.declared.request.Call.{Call}
 use Rattle.fsa_model.specs.History.{HistoryEntry, Run, run}

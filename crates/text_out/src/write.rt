@@ -63,7 +63,7 @@ fn long_answer(answer: &Answer) -> Option<(Status, &Bytes)>
     }
 }
 
-/// The text of turns that was gathered and isn't put so far.
+/// The text of turns that was gathered and isn't put yet.
 #[derive(Drop)]
 pub struct TextBuffer {
     text: Vec<u8>,
@@ -178,7 +178,8 @@ impl TextBuffer {
         Ok(())
     }
 
-    // Puts what was gathered, and bytes behind it, and has then gathered what follows them, or nothing.
+    // Puts what was gathered, and bytes behind it, and has then gathered what follows them; or nothing, where the sink
+    // failed.
     fn put_around<K: Sink>(
         &mut self,
         sink: &mut K,
