@@ -1,6 +1,6 @@
 -- Items that begin at a slot: what an edit of the slots is to them.
-use Rattle.std.proofs.Common.{ℕ, List, ◌≡◌, ◌<◌, ◌≤◌, ◌+◌, ◌-◌, ◌++◌, ◌∷◌, ◌∙◌, suc, ap, arith, drop, length, length-append, length-drop, set, sym, take}
-use Rattle.std.proofs.lemmas.List.{append_assoc, drop-append-le, drop-drop, drop-set-add, drop-take, drop_at, drop_more, length-take-le, set_at, take-take, take_at, take_rest}
+use Rattle.std.proofs.Common.{ℕ, List, ◌≡◌, ◌<◌, ◌≤◌, ◌+◌, ◌-◌, ◌++◌, ◌∷◌, [], ◌∙◌, suc, ap, arith, drop, get_or, length, length-append, length-drop, set, sym, take}
+use Rattle.std.proofs.lemmas.List.{append-nil, append_assoc, drop-append-le, drop-drop, drop-set-add, drop-take, drop_all, drop_at, drop_more, length-take-le, set_at, take-append-le, take-take, take_at, take_more, take_rest}
 use Rattle.std.specs.List.{insert, remove}
 use lib.Seq.{paste}
 
@@ -32,6 +32,23 @@ module _ {T : Type 0} (xs : List T) where
   pub put-behind : (start place : ℕ) (item : T) → start + place ≤ length xs → drop start (insert xs (start + place) item) ≡ insert (drop start xs) place item
   put-behind start place item within =
       behind start place (item ∷ drop (start + place) xs) within ∙ ap (λ (ys : List T). take place (drop start xs) ++ item ∷ ys) (sym (drop-drop place start xs))
+
+  -- one is put at the end; those from a place on go up by one, over it, and it is put at the place
+  pub up-one : (at : ℕ) (item : T) → at ≤ length xs → set (paste (xs ++ item ∷ []) (at + 1) (drop at (xs ++ item ∷ [])) (length xs - at)) at item ≡ insert xs at item
+  up-one at item within =
+      let ys = xs ++ item ∷ [] in
+      let many : length ys ≡ length xs + 1 = length-append xs (item ∷ []) in
+      let front : length (take at ys) ≡ at = length-take-le at ys (omega arith) in
+      let rest : drop (at + 1 + (length xs - at)) ys ≡ [] = drop_all (at + 1 + (length xs - at)) ys (omega arith) in
+      let first : take (at + 1) ys ≡ take at ys ++ get_or ys at item ∷ [] = take_more ys at item (omega arith) in
+      let moved : take (length xs - at) (drop at ys) ≡ drop at xs
+      = ap (take (length xs - at)) (drop-append-le at xs (item ∷ []) within) ∙ take_at (drop at xs) (item ∷ []) (length xs - at) (length-drop at xs) in
+      let same : take at ys ≡ take at xs = take-append-le at xs (item ∷ []) within in
+      rw (first, moved, rest)
+      (ap (λ (zs : List T). set zs at item) (append_assoc (take at ys ++ get_or ys at item ∷ []) (drop at xs) [] ∙ append_assoc (take at ys) (get_or ys at item ∷ []) (drop at xs ++ []))
+      ∙ set_at (take at ys) _ (drop at xs ++ []) item at front
+      ∙ ap (λ (zs : List T). take at ys ++ item ∷ zs) (append-nil (drop at xs))
+      ∙ ap (λ (zs : List T). zs ++ item ∷ drop at xs) same)
 
   -- those before a place go up by one, over the one that stands there
   pub take-before : (start place : ℕ) → start + place < length xs → drop (start + 1) (paste xs (start + 1) (drop start xs) place) ≡ remove (drop start xs) place

@@ -235,9 +235,10 @@ fn put_behind<T: Copy>(slots: &mut Vec<T>, start: usize, place: usize, item: T)
     ensures len { vec_len slots.new ≡ vec_len slots.old + 1 }
     ensures capacity { vec_capacity slots.old ≤ vec_capacity slots.new }
 {
-    let Ok(()) = slots.insert(start + place, item) else {
-        unreachable!()
-    };
+    let len = slots.len();
+    slots.push_reserved(item);
+    slots.copy_within(start + place..len, start + place + 1);
+    slots[start + place] = item;
 }
 
 // Takes out the item at a place from `start` on, and moves those before it up by one slot, so that all begin one
@@ -262,7 +263,9 @@ fn take_behind<T: Copy>(slots: &mut Vec<T>, start: usize, place: usize) -> T
     ensures len { vec_len slots.new + 1 ≡ vec_len slots.old }
     ensures capacity { vec_capacity slots.new ≡ vec_capacity slots.old }
 {
-    slots.remove(start + place)
+    let item = slots[start + place];
+    take_part_behind(slots, start, place, 1);
+    item
 }
 
 // Takes out so many items at a place from `start` on, and moves those before them up, so that all begin so many behind.

@@ -1,8 +1,8 @@
-use Rattle.std.proofs.Common.{rules, ◌+◌, ◌<◌, length}
-use Rattle.object_tables.proofs.ShiftLemmas.{take-behind}
+use Rattle.std.proofs.Common.{◌+◌, ◌≡◌, ◌++◌, ◌∙◌, suc, ap, arith, drop, take}
 use Rattle.object_tables.proofs.shift_list.take_behind.Goals as goal
 
 pub returns-clause-items : goal.returns-clause-items
 returns-clause-items g c =
-    let within : c.args.start + c.args.place < length c.args.slots.now.items = search rules in
-    rw c.remove.ensures.items (take-behind c.args.slots.now.items c.args.start c.args.place within)
+    let one : c.args.place + 1 ≡ suc c.args.place = omega arith in
+    let xs = drop c.args.start c.args.slots.now.items in
+    c.take_part_behind.ensures.items ∙ ap (λ k. take c.args.place xs ++ drop k xs) one
