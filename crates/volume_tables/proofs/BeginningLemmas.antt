@@ -1,27 +1,22 @@
 -- The links whose names begin with given units, among links in the order of names.
-use Rattle.std.proofs.Common.{◌≡◌, ℕ, zero, suc, ◌-◌, ◌<◌, ◌≤◌, Bool, true, false, List, [], ◌∷◌, length, get_or, take, drop, refl, ap, sym, arith, inl, inr, Option, Some, ◌∙◌}
-use Rattle.std.specs.Prelude.{◌==◌, map, nat_eq}
+use Rattle.std.proofs.Common.{◌≡◌, ℕ, zero, suc, ◌-◌, ◌<◌, ◌≤◌, Bool, true, false, List, [], ◌∷◌, length, get_or, take, drop, refl, ap, sym, arith, inl, inr, ◌∙◌}
+use Rattle.std.specs.Prelude.{map, nat_eq}
 use Rattle.std.specs.Cmp.Lexicographic.{pointwise, texts_ties}
 use Rattle.std.specs.List.{AllWithin, filter}
 use Rattle.std.specs.List.Sorted.{IsPartitionPoint, IsPartitionedBy}
 use Rattle.std.specs.Ordering.{is_eq, is_ge, is_gt, is_lt, nat_cmp, ordering_reverse, ordering_then}
 use Rattle.std.specs.declared.cmp.Ordering.{Ordering}
 use Rattle.std.specs.declared.cmp.Ordering.TheVariants.{Less, Equal, Greater}
-use Rattle.std.proofs.lemmas.Bool.{and_parts, cases_Bool, cases_eq, eq-eqb, eqb-true, false≢true}
+use Rattle.std.proofs.lemmas.Bool.{cases_Bool, cases_eq, false≢true}
 use Rattle.std.proofs.lemmas.Cmp.{nat_list_cmp_total, upto}
 use Rattle.std.proofs.lemmas.List.{get_or-map, length-map, take-map}
-use Rattle.std.proofs.lemmas.List.Elements.{All-filter, filter_passes}
-use Rattle.std.proofs.lemmas.List.Kept.{AllPairs-filter}
 use Rattle.fsa_types.specs.CaseTable.{up, upcased}
-use Rattle.fsa_types.specs.Rows.{IsNumbered, row_of}
 use Rattle.fsa_model.specs.Volume.{Link}
 use Rattle.link_index.specs.Keyed.{AreInKeyOrder, cmp_keys}
-use Rattle.link_index.proofs.KeyLaws.{All-in_order}
-use Rattle.volume_rows.specs.Children.{is_child_after, is_name_after, links_after}
 use Rattle.volume_tables.specs.Beginnings.{begins_with, cmp_beginning, name_key}
-use Rattle.volume_tables.specs.Names.{IsByName, link_at, link_key, links_at}
-use Rattle.volume_tables.proofs.ChildLemmas.{children-listed, filter-between, links-each, numbers-between}
-use Rattle.volume_tables.proofs.NameLemmas.{Links, at-found, cmp-within, found-each, links-ordered}
+use Rattle.volume_tables.specs.Names.{link_at, links_at}
+use Rattle.volume_tables.proofs.ChildLemmas.{filter-between, links-each, numbers-between}
+use Rattle.volume_tables.proofs.NameLemmas.{Links}
 
 -- ---- the first numbers of keys in order
 
@@ -145,28 +140,3 @@ module _ (table : List (ℕ × ℕ)) (rows : Links) (numbers units : List ℕ) w
       = rw long (links-each rows numbers (Passes false) j (length numbers) (omega arith) (λ k d start below. begins-is table units (link_at rows (get_or numbers k d)).1.name ∙ lt-fails (at_number (get_or numbers k d)) (end.1 k d start below))) in
       sym (numbers-between rows numbers i (j - i))
       ∙ ap (map (λ (e : ℕ × Link). e.0)) (sym (filter-between (λ (e : ℕ × Link). begins_with table units e.1.name) (links_at rows numbers) i j order (omega arith) before between behind))
-
--- ---- the links of a directory behind a name are in the order of names
-
-module _ (table : List (ℕ × ℕ)) (dir : ℕ) (after : Option (List ℕ)) (rows : Links) (last : ℕ) (numbers : List ℕ) (numbered : IsNumbered rows last) (by_name : IsByName table rows numbers) where
-  pub children-at : links_at rows (map (λ (e : ℕ × Link). e.0) (links_after table dir after rows)) ≡ links_after table dir after rows
-  children-at =
-      let test : ℕ × Link → Bool = λ e. is_child_after table dir after e.1 in
-      at-found rows (links_after table dir after rows)
-      (All-in_order (name_key table) (λ (e : ℕ × Link). row_of rows e.0 ≡ Some e.1) (filter test rows) (All-filter test (λ (e : ℕ × Link). row_of rows e.0 ≡ Some e.1) rows (found-each rows last numbered)))
-
-  filtered-ordered : AreInKeyOrder (name_key table) (filter (λ (e : ℕ × Link). is_child_after table dir after e.1) (links_at rows numbers))
-  filtered-ordered i j d less within =
-      let test : ℕ × Link → Bool = λ e. is_child_after table dir after e.1 in
-      let links : Links = filter test (links_at rows numbers) in
-      let a : ℕ × Link = get_or links i d in
-      let b : ℕ × Link = get_or links j d in
-      let keys : cmp_keys (link_key table a) (link_key table b) ≡ Less
-      = AllPairs-filter (λ one other. cmp_keys (link_key table one) (link_key table other) ≡ Less) test (links_at rows numbers) (links-ordered table rows last numbers numbered by_name) i j d less within in
-      let first : (a.1.parent == dir) ≡ true = (and_parts (a.1.parent == dir) (is_name_after table after a.1.name) (filter_passes test (links_at rows numbers) i d (omega arith))).0 in
-      let second : (b.1.parent == dir) ≡ true = (and_parts (b.1.parent == dir) (is_name_after table after b.1.name) (filter_passes test (links_at rows numbers) j d within)).0 in
-      let same : (a.1.parent == b.1.parent) ≡ true = eq-eqb a.1.parent b.1.parent (eqb-true a.1.parent dir first ∙ sym (eqb-true b.1.parent dir second)) in
-      sym (cmp-within a.1.parent b.1.parent (upcased table a.1.name) (upcased table b.1.name) same) ∙ keys
-
-  pub children-ordered : AreInKeyOrder (name_key table) (links_at rows (map (λ (e : ℕ × Link). e.0) (links_after table dir after rows)))
-  children-ordered = rw (children-at, ← children-listed table dir after rows last numbers numbered by_name) filtered-ordered

@@ -1,4 +1,4 @@
--- Where the heads of two keys differ, the keys stand in the order of the heads: so the place of a name is found among
+-- Where the heads of two names differ, the names stand in the order of the heads: so the place of a name is found among
 -- the heads.
 use Rattle.std.proofs.Common.{◌≡◌, ℕ, zero, suc, ◌+◌, ◌*◌, ◌<◌, ◌≤◌, Bool, true, false, List, [], ◌∷◌, length, get_or, add-one, refl, ap, sym, arith, inl, inr, Option, Some, None, Err, ◌∙◌, min}
 use Rattle.std.specs.Prelude.{◌&&◌, map, nat_lt, slice_get}
@@ -6,7 +6,7 @@ use Rattle.std.specs.List.Sorted.{IsBinarySearchResult}
 use Rattle.std.specs.Option.{option_map, option_map_or}
 use Rattle.std.specs.Cmp.{nat_cmp_is}
 use Rattle.std.specs.Ordering.{ordering_then, is_lt, nat_cmp}
-use Rattle.std.specs.declared.cmp.Ordering.TheVariants.{Less, Equal, Greater}
+use Rattle.std.specs.declared.cmp.Ordering.TheVariants.{Less, Equal}
 use Rattle.std.proofs.lemmas.Bool.{cases_Bool, cases_eq, cases_lt, false≢true, lt-ltb, le-ltb}
 use Rattle.std.proofs.lemmas.List.{get_or-map, length-map}
 use Rattle.std.proofs.lemmas.List.Sorted.{searched}
@@ -16,7 +16,8 @@ use Rattle.fsa_model.specs.Volume.{Link}
 use Rattle.link_index.specs.Keyed.{AreInKeyOrder, IsKeyPlace, cmp_keys}
 use Rattle.link_index.proofs.KeyLaws.{less-back}
 use Rattle.volume_tables.specs.Heads.{digit, head_of, is_exact, link_head, packed, unit_at}
-use Rattle.volume_tables.specs.Names.{link_at, link_key, links_at, place_key}
+use Rattle.volume_tables.specs.Beginnings.{name_key}
+use Rattle.volume_tables.specs.Names.{link_at, links_at}
 use Rattle.volume_tables.proofs.NameLemmas.{Links}
 
 -- ---- units
@@ -48,7 +49,7 @@ digit-most false unit = omega arith
 
 -- how wide they are
 wide : ℕ → ℕ
-wide zero = 4294967296
+wide zero = 1
 wide (suc k) = wide k * 256
 
 wide-rises : (k n : ℕ) → k ≤ n → wide k ≤ wide n
@@ -59,58 +60,51 @@ wide-rises k (suc n) within = elim (cases_lt k (suc n)) [
   | inr above ↦ (let same : k ≡ suc n = omega arith in rw same (omega arith))
 ]
 
-wide-last : wide 11 ≡ 1329227995784915872903807060280344576
+wide-last : wide 15 ≡ 1329227995784915872903807060280344576
 unfolding wide
 wide-last = refl
 
-module _ (dir : ℕ) (units : List ℕ) where
-  packed-wide : (k : ℕ) → packed dir units k < wide k
+module _ (units : List ℕ) where
+  packed-wide : (k : ℕ) → packed units k < wide k
   unfolding packed wide
   packed-wide zero = omega arith
   packed-wide (suc k) =
-      let less : packed dir units k < wide k = packed-wide k in
-      let most : digit (is_exact dir units k) (unit_at units k) ≤ 255 = digit-most (is_exact dir units k) (unit_at units k) in
+      let less : packed units k < wide k = packed-wide k in
+      let most : digit (is_exact units k) (unit_at units k) ≤ 255 = digit-most (is_exact units k) (unit_at units k) in
       omega arith
 
-  pub packed-fits : (k : ℕ) → k < 12 → packed dir units k < 1329227995784915872903807060280344576
+  pub packed-fits : (k : ℕ) → k < 16 → packed units k < 1329227995784915872903807060280344576
   packed-fits k within =
-      let less : packed dir units k < wide k = packed-wide k in
-      let most : wide k ≤ wide 11 = wide-rises k 11 (omega arith) in
-      let last : wide 11 ≡ 1329227995784915872903807060280344576 = wide-last in
+      let less : packed units k < wide k = packed-wide k in
+      let most : wide k ≤ wide 15 = wide-rises k 15 (omega arith) in
+      let last : wide 15 ≡ 1329227995784915872903807060280344576 = wide-last in
       omega arith
 
-  pub packed-first : packed dir units 0 ≡ min dir 4294967295
+  pub packed-first : packed units 0 ≡ 0
   unfolding packed
   packed-first = refl
 
-  pub exact-first : is_exact dir units 0 ≡ nat_lt dir 4294967295
+  pub exact-first : is_exact units 0 ≡ true
   unfolding is_exact
   exact-first = refl
 
-  pub packed-next : (k : ℕ) → packed dir units (k + 1) ≡ packed dir units k * 256 + digit (is_exact dir units k) (unit_at units k)
+  pub packed-next : (k : ℕ) → packed units (k + 1) ≡ packed units k * 256 + digit (is_exact units k) (unit_at units k)
   unfolding packed
-  packed-next k = ap (packed dir units) (add-one k)
+  packed-next k = ap (packed units) (add-one k)
 
-  pub exact-next : (k : ℕ) → is_exact dir units (k + 1) ≡ (is_exact dir units k && nat_lt (unit_at units k) 255)
+  pub exact-next : (k : ℕ) → is_exact units (k + 1) ≡ (is_exact units k && nat_lt (unit_at units k) 255)
   unfolding is_exact
-  exact-next k = ap (is_exact dir units) (add-one k)
+  exact-next k = ap (is_exact units) (add-one k)
 
-module _ (dir other : ℕ) (xs ys : List ℕ) where
+module _ (xs ys : List ℕ) where
   -- what heads that are the same tell
   record Alike (k : ℕ) : Type 0 where
-    exact : is_exact dir xs k ≡ is_exact other ys k
-    dirs : is_exact dir xs k ≡ true → dir ≡ other
-    units : is_exact dir xs k ≡ true → (j : ℕ) → j < k → unit_at xs j ≡ unit_at ys j
+    exact : is_exact xs k ≡ is_exact ys k
+    units : is_exact xs k ≡ true → (j : ℕ) → j < k → unit_at xs j ≡ unit_at ys j
 
-  alike-first : min dir 4294967295 ≡ min other 4294967295 → Alike 0
+  alike-first : Alike 0
   unfolding is_exact
-  alike-first same = elim (cases_lt dir 4294967295) [
-    | inl low ↦ (let also : other < 4294967295 = omega arith in
-        record { exact = lt-ltb dir 4294967295 low ∙ sym (lt-ltb other 4294967295 also); dirs = λ _. omega arith; units = λ _ j below. absurd (omega arith) })
-    | inr high ↦ (let also : 4294967295 ≤ other = omega arith in
-        let no : nat_lt dir 4294967295 ≡ false = le-ltb dir 4294967295 high in
-        record { exact = no ∙ sym (le-ltb other 4294967295 also); dirs = λ yes. absurd (false≢true (sym no ∙ yes)); units = λ yes. absurd (false≢true (sym no ∙ yes)) })
-  ]
+  alike-first = record { exact = refl; units = λ _ j below. absurd (omega arith) }
 
   same_units : (k : ℕ) → ((j : ℕ) → j < k → unit_at xs j ≡ unit_at ys j) → unit_at xs k ≡ unit_at ys k → (j : ℕ) → j < suc k → unit_at xs j ≡ unit_at ys j
   same_units k before here j below = elim (cases_lt j k) [
@@ -118,68 +112,68 @@ module _ (dir other : ℕ) (xs ys : List ℕ) where
     | inr more ↦ (let at : j ≡ k = omega arith in rw at here)
   ]
 
-  alike-next : (k : ℕ) → Alike k → digit (is_exact dir xs k) (unit_at xs k) ≡ digit (is_exact other ys k) (unit_at ys k) → Alike (suc k)
+  alike-next : (k : ℕ) → Alike k → digit (is_exact xs k) (unit_at xs k) ≡ digit (is_exact ys k) (unit_at ys k) → Alike (suc k)
   unfolding is_exact
-  alike-next k alike digits = elim (cases_Bool (is_exact dir xs k)) [
-    | inr inexact ↦ (let also : is_exact other ys k ≡ false = sym alike.exact ∙ inexact in
-        record { exact = rw (inexact, also) refl; dirs = λ yes. absurd (false≢true (rw inexact at yes)); units = λ yes. absurd (false≢true (rw inexact at yes)) })
-    | inl is ↦ (let also : is_exact other ys k ≡ true = sym alike.exact ∙ is in
+  alike-next k alike digits = elim (cases_Bool (is_exact xs k)) [
+    | inr inexact ↦ (let also : is_exact ys k ≡ false = sym alike.exact ∙ inexact in
+        record { exact = rw (inexact, also) refl; units = λ yes. absurd (false≢true (rw inexact at yes)) })
+    | inl is ↦ (let also : is_exact ys k ≡ true = sym alike.exact ∙ is in
         let same : min (unit_at xs k) 255 ≡ min (unit_at ys k) 255 = rw (is, also) at digits in
         elim (cases_lt (unit_at xs k) 255) [
           | inl low ↦ (let too : unit_at ys k < 255 = omega arith in
               let here : unit_at xs k ≡ unit_at ys k = omega arith in
-              record { exact = rw (is, also) (lt-ltb (unit_at xs k) 255 low ∙ sym (lt-ltb (unit_at ys k) 255 too)); dirs = λ _. alike.dirs is; units = λ _. same_units k (alike.units is) here })
+              record { exact = rw (is, also) (lt-ltb (unit_at xs k) 255 low ∙ sym (lt-ltb (unit_at ys k) 255 too)); units = λ _. same_units k (alike.units is) here })
           | inr high ↦ (let too : 255 ≤ unit_at ys k = omega arith in
               let no : nat_lt (unit_at xs k) 255 ≡ false = le-ltb (unit_at xs k) 255 high in
-              record { exact = rw (is, also) (no ∙ sym (le-ltb (unit_at ys k) 255 too)); dirs = λ _. alike.dirs is; units = λ yes. absurd (false≢true (rw (is, no) at yes)) })
+              record { exact = rw (is, also) (no ∙ sym (le-ltb (unit_at ys k) 255 too)); units = λ yes. absurd (false≢true (rw (is, no) at yes)) })
         ])
   ]
 
-  alike-heads : (k : ℕ) → packed dir xs k ≡ packed other ys k → Alike k
+  alike-heads : (k : ℕ) → packed xs k ≡ packed ys k → Alike k
   unfolding packed
-  alike-heads zero same = alike-first same
+  alike-heads zero same = alike-first
   alike-heads (suc k) same =
-      let one : digit (is_exact dir xs k) (unit_at xs k) ≤ 255 = digit-most (is_exact dir xs k) (unit_at xs k) in
-      let two : digit (is_exact other ys k) (unit_at ys k) ≤ 255 = digit-most (is_exact other ys k) (unit_at ys k) in
+      let one : digit (is_exact xs k) (unit_at xs k) ≤ 255 = digit-most (is_exact xs k) (unit_at xs k) in
+      let two : digit (is_exact ys k) (unit_at ys k) ≤ 255 = digit-most (is_exact ys k) (unit_at ys k) in
       alike-next k (alike-heads k (omega (arith, same, one, two))) (omega (arith, same, one, two))
 
-  less-digit : (k : ℕ) → Alike k → digit (is_exact dir xs k) (unit_at xs k) < digit (is_exact other ys k) (unit_at ys k) → cmp_keys (dir ∷ xs) (other ∷ ys) ≡ Less
-  less-digit k alike less = elim (cases_Bool (is_exact dir xs k)) [
-    | inr inexact ↦ (let also : is_exact other ys k ≡ false = sym alike.exact ∙ inexact in
+  less-digit : (k : ℕ) → Alike k → digit (is_exact xs k) (unit_at xs k) < digit (is_exact ys k) (unit_at ys k) → cmp_keys xs ys ≡ Less
+  less-digit k alike less = elim (cases_Bool (is_exact xs k)) [
+    | inr inexact ↦ (let also : is_exact ys k ≡ false = sym alike.exact ∙ inexact in
         let none : 0 < 0 = rw (inexact, also) at less in absurd (omega arith))
-    | inl is ↦ (let also : is_exact other ys k ≡ true = sym alike.exact ∙ is in
+    | inl is ↦ (let also : is_exact ys k ≡ true = sym alike.exact ∙ is in
         let most : min (unit_at xs k) 255 < min (unit_at ys k) 255 = rw (is, also) at less in
         let units : unit_at xs k < unit_at ys k = omega arith in
-        ap (λ o. ordering_then o (cmp_keys xs ys)) (sym (nat_cmp_is dir other Equal (alike.dirs is))) ∙ first-unit k xs ys (alike.units is) units)
+        first-unit k xs ys (alike.units is) units)
   ]
 
-  -- the key of the lesser head is less
-  less-heads : (k : ℕ) → packed dir xs k < packed other ys k → cmp_keys (dir ∷ xs) (other ∷ ys) ≡ Less
+  -- the units of the lesser head are less
+  less-heads : (k : ℕ) → packed xs k < packed ys k → cmp_keys xs ys ≡ Less
   unfolding packed
-  less-heads zero less = let dirs : dir < other = omega arith in ap (λ o. ordering_then o (cmp_keys xs ys)) (sym (nat_cmp_is dir other Less dirs))
-  less-heads (suc k) less = elim (cases_lt (packed dir xs k) (packed other ys k)) [
+  less-heads zero less = absurd (omega arith)
+  less-heads (suc k) less = elim (cases_lt (packed xs k) (packed ys k)) [
     | inl before ↦ less-heads k before
     | inr later ↦ (
-        let one : digit (is_exact dir xs k) (unit_at xs k) ≤ 255 = digit-most (is_exact dir xs k) (unit_at xs k) in
-        let two : digit (is_exact other ys k) (unit_at ys k) ≤ 255 = digit-most (is_exact other ys k) (unit_at ys k) in
+        let one : digit (is_exact xs k) (unit_at xs k) ≤ 255 = digit-most (is_exact xs k) (unit_at xs k) in
+        let two : digit (is_exact ys k) (unit_at ys k) ≤ 255 = digit-most (is_exact ys k) (unit_at ys k) in
         less-digit k (alike-heads k (omega (arith, less, later, one, two))) (omega (arith, less, later, one, two)))
   ]
 
-pub key-less : (table : List (ℕ × ℕ)) (dir other : ℕ) (name units : List ℕ) → head_of table dir name < head_of table other units → cmp_keys (place_key table dir name) (place_key table other units) ≡ Less
-key-less table dir other name units less = less-heads dir other (upcased table name) (upcased table units) 12 less
+pub name-less : (table : List (ℕ × ℕ)) (name units : List ℕ) → head_of table name < head_of table units → cmp_keys (upcased table name) (upcased table units) ≡ Less
+name-less table name units less = less-heads (upcased table name) (upcased table units) 16 less
 
 -- ---- the place of a name among heads
 
--- of two keys in order the heads are so too
-head-rises : (table : List (ℕ × ℕ)) (a b : ℕ × Link) → cmp_keys (link_key table a) (link_key table b) ≡ Less → link_head table a ≤ link_head table b
+-- of two names in order the heads are so too
+head-rises : (table : List (ℕ × ℕ)) (a b : ℕ × Link) → cmp_keys (name_key table a) (name_key table b) ≡ Less → link_head table a ≤ link_head table b
 head-rises table a b less = elim (cases_lt (link_head table b) (link_head table a)) [
   | inl more ↦ (
-      let back : cmp_keys (link_key table b) (link_key table a) ≡ Less = key-less table b.1.parent a.1.parent b.1.name a.1.name more in
-      absurd (false≢true (ap is_lt (sym (less-back (link_key table b) (link_key table a) back) ∙ less))))
+      let back : cmp_keys (name_key table b) (name_key table a) ≡ Less = name-less table b.1.name a.1.name more in
+      absurd (false≢true (ap is_lt (sym (less-back (name_key table b) (name_key table a) back) ∙ less))))
   | inr fine ↦ fine
 ]
 
-module _ (table : List (ℕ × ℕ)) (items : Links) (ordered : AreInKeyOrder (link_key table) items) where
+module _ (table : List (ℕ × ℕ)) (items : Links) (ordered : AreInKeyOrder (name_key table) items) where
   heads-rise : (i j : ℕ) → i ≤ j → j < length (map (link_head table) items) → get_or (map (link_head table) items) i 0 ≤ get_or (map (link_head table) items) j 0
   heads-rise i j order within = elim (cases_eq i j) [
     | inl same ↦ rw same (omega arith)
@@ -192,23 +186,23 @@ module _ (table : List (ℕ × ℕ)) (items : Links) (ordered : AreInKeyOrder (l
         omega (arith, one, two, rise))
   ]
 
-  module _ (dir : ℕ) (name : List ℕ) where
+  module _ (name : List ℕ) where
     -- no head is that of the name
-    pub place-new : (heads : List ℕ) (i : ℕ) → heads ≡ map (link_head table) items → IsBinarySearchResult (λ head. nat_cmp head (head_of table dir name)) heads (Err i)
-        → IsKeyPlace (link_key table) items (place_key table dir name) (Err i)
+    pub place-new : (heads : List ℕ) (i : ℕ) → heads ≡ map (link_head table) items → IsBinarySearchResult (λ head. nat_cmp head (head_of table name)) heads (Err i)
+        → IsKeyPlace (name_key table) items (upcased table name) (Err i)
     place-new heads i are found =
-        let wanted : ℕ = head_of table dir name in
+        let wanted : ℕ = head_of table name in
         let long : length (map (link_head table) items) ≡ length items = length-map items (link_head table) in
         let place = searched (map (link_head table) items) wanted (Err i) (rw are at found) heads-rise in (
           omega (arith, long, place.0),
           (λ k d from below.
               let here : get_or (map (link_head table) items) k 0 ≡ link_head table (get_or items k d) = get_or-map (link_head table) items k d 0 (omega (arith, long, place.0, below)) in
               let less : get_or (map (link_head table) items) k 0 < wanted = place.1 k below in
-              key-less table (get_or items k d).1.parent dir (get_or items k d).1.name name (omega (arith, here, less))),
+              name-less table (get_or items k d).1.name name (omega (arith, here, less))),
           λ k d from within.
               let here : get_or (map (link_head table) items) k 0 ≡ link_head table (get_or items k d) = get_or-map (link_head table) items k d 0 within in
               let more : wanted < get_or (map (link_head table) items) k 0 = place.2 k from (omega (arith, long, within)) in
-              less-back (place_key table dir name) (link_key table (get_or items k d)) (key-less table dir (get_or items k d).1.parent name (get_or items k d).1.name (omega (arith, here, more))),
+              less-back (upcased table name) (name_key table (get_or items k d)) (name-less table name (get_or items k d).1.name (omega (arith, here, more))),
         )
 
 pub heads-many : (table : List (ℕ × ℕ)) (rows : Links) (numbers heads : List ℕ) → heads ≡ map (link_head table) (links_at rows numbers) → length heads ≡ length numbers

@@ -38,7 +38,7 @@ some-row : {T : Type 0} (row : Option T) → IsSome row → (some : T) × (row �
 some-row None is = absurd (false≢true is)
 some-row (Some row) is = (row, refl)
 
-row_of-out : {T : Type 0} (rows : List (ℕ × T)) (id : ℕ) → row_of (without_row rows id) id ≡ None
+pub row_of-out : {T : Type 0} (rows : List (ℕ × T)) (id : ℕ) → row_of (without_row rows id) id ≡ None
 row_of-out [] id = refl
 row_of-out (x ∷ rows) id =
     elim (cases_Bool (x.0 == id)) [

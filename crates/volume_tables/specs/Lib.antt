@@ -1,5 +1,6 @@
 pub mod Beginnings
 pub mod CallKey
+pub mod Directories
 pub mod HandleIndex
 pub mod HandleShares
 pub mod HandleTable

@@ -1,4 +1,4 @@
-//! The heads of the keys by which names in directories are ordered.
+//! The heads of names, by which they are searched.
 
 ghost use Rattle.std.specs.Prelude.{◌≡◌, ◌&&◌, nat_lt, slice_get};
 ghost use Rattle.fsa_types.specs.CaseTable.{upcased};
@@ -6,20 +6,16 @@ ghost use Rattle.volume_tables.specs.Heads.{digit, head_of, unit_at};
 
 use fsa_types::UpcaseTable;
 
-// Directories of lesser numbers are told apart.
-const MOST_DIR: u64 = 4_294_967_295;
-
 // How many units are told.
-const UNITS: usize = 12;
+const UNITS: usize = 16;
 
-/// The first of what a name in a directory is ordered by: the directory in 32 bits, and twelve upcased units in 8
-/// bits each. Where the heads of two names differ, the names stand in the order of the heads. A unit from 255 on is
-/// told as 255, and nothing behind it is, nor any unit of a directory from 2^32 - 1 on.
-pub(crate) fn head_of(table: &UpcaseTable, dir: u64, units: &[u16]) -> u128
-    ensures { result ≡ head_of table.now dir units.now }
+/// The first sixteen upcased units of a name, in 8 bits each. Where the heads of two names differ, the names stand in
+/// the order of the heads. A unit from 255 on is told as 255, and nothing behind it is.
+pub(crate) fn head_of(table: &UpcaseTable, units: &[u16]) -> u128
+    ensures { result ≡ head_of table.now units.now }
 {
-    let mut head = dir.min(MOST_DIR) as u128;
-    let mut exact = dir < MOST_DIR;
+    let mut head = 0;
+    let mut exact = true;
     for place in 0..UNITS {
         let unit = unit_at(table, units, place);
         head = head * 256 + digit(exact, unit) as u128;

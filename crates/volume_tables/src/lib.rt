@@ -20,7 +20,7 @@
 //! streams.named(&upcase, file, units);    // looks at the streams of the file alone
 //! streams.after(&upcase, file, units);    // so does this, for the first one behind a name
 //!
-//! names.reserve(1)?;
+//! names.reserve(dir, 1)?;
 //! names.add(&table, &upcase, id, dir, units);     // before the link is added to its table
 //! names.child(&table, &upcase, dir, units);       // by binary search
 //! names.children_after(&table, &upcase, dir, after);      // those behind a name, in one piece
@@ -38,10 +38,12 @@
 //! handles, by calls, streams and links, have all of them, and that the counts of a stream or a link are those of its
 //! handles.
 //!
-//! `NameIndex` has the numbers of all links in the order of their directories and names, beside the table that has
-//! the names; `LinkTable` keeps one. It has the head of each too, the directory and the first units in one number,
-//! among which a name is searched: mostly one row is looked up, and none where no head is that of the name. Where a
-//! name comes or goes, 24 bytes move of each of those before it or of those behind it, whichever are fewer.
+//! `Directories` has for each directory the numbers of its links in the order of their names, beside the table that
+//! has the names; `LinkTable` keeps one. It has the head of each name too, its first units in one number, among which a
+//! name is searched: mostly one row is looked up, and none where no head is that of the name. Where a name comes or
+//! goes, 24 bytes move of each of those of its directory before it or of those behind it, whichever are fewer. A
+//! directory has an index from the first room that is promised to it on; where the link of a directory goes, so does its
+//! index, unless room is promised to it.
 //!
 //! - It asks that room was reserved and that numbers are left; `add_lock` asks that the handle has a
 //!   stream, and not whether the range conflicts with another. A tally asks that owners are admitted, that
@@ -63,6 +65,7 @@
 mod among;
 mod beginning;
 mod call_key;
+mod directories;
 mod handle_index;
 mod handle_shares;
 mod handle_table;
@@ -77,10 +80,10 @@ mod space;
 mod stream_table;
 
 pub use call_key::key_of;
+pub use directories::Directories;
 pub use handle_table::HandleTable;
 pub use link_table::LinkTable;
 pub use lock_row::LockRow;
-pub use name_index::NameIndex;
 pub use room_list::RoomList;
 pub use space::SpaceTally;
 pub use stream_table::StreamTable;

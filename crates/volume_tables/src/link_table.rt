@@ -1,4 +1,4 @@
-//! The links of a volume in the order of their names, and the room for more of them in each directory.
+//! The links of a volume, those of each directory in the order of their names, and the room for more of them in each directory.
 
 ghost use Rattle.std.specs.Prelude.{ℕ, ◌≡◌, ◌≤◌, ◌<◌, ◌+◌, ◌^◌, ◌++◌, ◌∷◌, ◌&&◌, not, [], ◌==◌, false, None, OnOk, OnErr, filter, find, map, option_map, position};
 ghost use Rattle.std.specs.List.{list_any};
@@ -10,7 +10,7 @@ ghost use Rattle.volume_rows.specs.Children.{links_after};
 ghost use Rattle.volume_tables.specs.Beginnings.{begins_with};
 ghost use Rattle.volume_tables.specs.Rooms.{room_in};
 
-use crate::name_index::NameIndex;
+use crate::directories::Directories;
 use crate::room_list::RoomList;
 use fsa_types::{Name, NoMemory, UpcaseTable};
 use std::alloc::Global;
@@ -26,24 +26,23 @@ pub struct LinkTable {
     table: UpcaseTable,
     // Links by number and by file.
     links: LinksByFile,
-    // The numbers of all links, in the order of their directories and names.
-    names: NameIndex,
-    // What was promised to each directory, all of which the table has.
+    // The numbers of the links of each directory, in the order of their names.
+    names: Directories,
+    // What was promised to each directory. The table has all of it, and the index of each directory its own.
     rooms: RoomList,
 }
 
 impl Model for LinkTable {
-    ghost use Rattle.std.specs.Prelude.{◌≤◌};
-    ghost use Rattle.volume_tables.specs.Heads.{AreHeads};
+    ghost use Rattle.std.specs.Prelude.{ℕ, ◌≤◌};
+    ghost use Rattle.volume_tables.specs.Directories.{AreByDirectory, index_of};
     ghost use Rattle.volume_tables.specs.LinkTable.{LinkRows};
-    ghost use Rattle.volume_tables.specs.Names.{IsByName};
-    ghost use Rattle.volume_tables.specs.Rooms.{all_rooms};
+    ghost use Rattle.volume_tables.specs.Rooms.{all_rooms, room_in};
 
     ghost Value = { LinkRows };
 
     ghost view = { λ t. record { table = t.table; rows = t.links.rows; last = t.links.last; rooms = t.rooms } };
 
-    ghost invariant = { λ t. (all_rooms t.rooms ≤ t.links.room) × (all_rooms t.rooms ≤ t.names.room) × IsByName t.table t.links.rows t.names.numbers × AreHeads t.table t.links.rows t.names.heads };
+    ghost invariant = { λ t. (all_rooms t.rooms ≤ t.links.room) × ((dir : ℕ) → room_in t.rooms dir ≤ (index_of t.names dir).room) × AreByDirectory t.table t.links.rows t.names };
 }
 
 impl LinkTable {
@@ -57,7 +56,7 @@ impl LinkTable {
         LinkTable {
             table,
             links: LinksByFile::new(alloc),
-            names: NameIndex::new(alloc),
+            names: Directories::new(alloc),
             rooms: RoomList::new(alloc),
         }
     }
@@ -78,7 +77,7 @@ impl LinkTable {
             return Err(NoMemory);
         };
         self.links.reserve(all)?;
-        self.names.reserve(all)?;
+        self.names.reserve(dir, links)?;
         self.rooms.set(dir, links)
     }
 
@@ -174,18 +173,21 @@ impl LinkTable {
         self.links.mark(id, deleted);
     }
 
-    /// Gives a link another name, in this directory or in another one, which no other link has there. It takes no
-    /// memory, and leaves the room of each directory.
+    /// Gives a link another name, in this directory or in another one, which no other link has there. There has to be
+    /// room for it there. It takes no memory, and no room of another directory.
     pub fn move_to(&mut self, id: u64, parent: u64, name: Name)
+        requires room { 1 ≤ room_in self.old.rooms parent }
         requires free { list_any (λ entry. not (entry.0 == id) && is_named self.old.table parent name entry.1) self.old.rows ≡ false }
         ensures table { self.new.table ≡ self.old.table }
         ensures rows { self.new.rows ≡ with_row_changed (λ row. record row { parent = parent; name = name }) self.old.rows id }
         ensures last { self.new.last ≡ self.old.last }
-        ensures rooms { self.new.rooms ≡ self.old.rooms }
+        ensures left { room_in self.old.rooms parent ≤ room_in self.new.rooms parent + 1 }
+        ensures others { (dir : ℕ) → (dir == parent) ≡ false → room_in self.new.rooms dir ≡ room_in self.old.rooms dir }
     {
         if self.links.get(id).is_none() {
             return;
         }
+        self.rooms.take_one(parent);
         self.names
             .move_to(self.links.table(), &self.table, id, parent, name.units());
         self.links.move_to(id, parent, name);
@@ -201,6 +203,19 @@ impl LinkTable {
         ensures rooms { self.new.rooms ≡ self.old.rooms }
     {
         self.names.take(self.links.table(), &self.table, id);
-        self.links.remove(id)
+        let gone = self.links.remove(id);
+        if let Some(row) = &gone {
+            self.forget(row.file);
+        }
+        gone
+    }
+
+    // Gives up the index of what may have been a directory, where it has no names and no room was promised to it.
+    fn forget(&mut self, dir: u64)
+        ensures { self.new ≡ self.old }
+    {
+        if self.rooms.room_in(dir) == 0 {
+            self.names.forget(dir);
+        }
     }
 }

@@ -1,18 +1,15 @@
-//! The numbers of links in the order of their directories and names.
+//! The numbers of links in the order of their names.
 
-ghost use Rattle.std.specs.Prelude.{ℕ, ◌≡◌, ◌≤◌, ◌+◌, ◌<◌, ◌==◌, ◌&&◌, not, ◌++◌, ◌∷◌, [], Bool, false, true, All, Err, OnOk, None, Some, filter, find, length, map, option_map, slice_get};
-ghost use Rattle.std.specs.List.{list_any, remove};
-ghost use Rattle.std.specs.List.Sorted.{IsBinarySearchResult, IsNonDecreasingBy, IsPartitionPoint, IsSearchInRange};
-ghost use Rattle.std.specs.Option.{option_copied, is_some};
+ghost use Rattle.std.specs.Prelude.{ℕ, ◌≡◌, ◌≤◌, ◌+◌, ◌<◌, [], false, true, All, Err, None, OnOk, Some, filter, find, length, map, option_map, slice_get};
+ghost use Rattle.std.specs.List.Sorted.{IsBinarySearchResult, IsSearchInRange};
+ghost use Rattle.std.specs.Option.{option_copied};
 ghost use Rattle.std.specs.Ordering.{nat_cmp};
-ghost use Rattle.fsa_types.specs.Rows.{row_of, with_row_changed, without_row};
-ghost use Rattle.fsa_types.specs.Sorting.{in_order, put_in_order};
-ghost use Rattle.fsa_model.specs.Lookups.{is_named};
-ghost use Rattle.link_index.specs.Keyed.{AreInKeyOrder, IsKeyPlace, cmp_keys, is_key_before};
-ghost use Rattle.volume_rows.specs.Children.{links_after};
-ghost use Rattle.volume_tables.specs.Beginnings.{begins_with};
-ghost use Rattle.volume_tables.specs.Heads.{AreHeads, head_of, link_head};
-ghost use Rattle.volume_tables.specs.Names.{IsBegin, IsByName, link_at, link_key, links_at, place_key};
+ghost use Rattle.fsa_types.specs.CaseTable.{cmp_name, same_name, upcased};
+ghost use Rattle.link_index.specs.Keyed.{AreInKeyOrder, IsKeyPlace};
+ghost use Rattle.volume_rows.specs.Children.{is_name_after};
+ghost use Rattle.volume_tables.specs.Beginnings.{begins_with, name_key};
+ghost use Rattle.volume_tables.specs.Heads.{head_of, link_head};
+ghost use Rattle.volume_tables.specs.Names.{AreInNameOrder, IsBegin, IsNamePut, IsNameTaken, KeepsNames, link_at, links_at};
 
 use crate::beginning::beginning_with;
 use crate::head::head_of;
@@ -23,13 +20,13 @@ use std::cmp::Ordering;
 use std::marker::Model;
 use volume_rows::LinkRow;
 
-/// The numbers of the links of a table, in the order of their directories and, in each of these, of their
-/// upcased names. The names stand in the table alone; beside each number stands the head of what its link is ordered
-/// by, so that the search of a name looks at few of them.
+/// The numbers of some links of a table, in the order of their upcased names, which differ. The names stand in the
+/// table alone; beside each number stands the head of its link's name, so that the search of a name looks at few of
+/// them.
 #[derive(Debug, Drop)]
 pub struct NameIndex {
     numbers: ShiftList<u64>,
-    // The directory and the first units of each, packed.
+    // The first units of each name, packed.
     heads: ShiftList<u128>,
 }
 
@@ -56,194 +53,122 @@ impl NameIndex {
 
     /// Takes room for `more` numbers beside those that are there. `NoMemory` where there is none.
     pub fn reserve(&mut self, more: usize) -> Result<(), NoMemory>
-        ensures numbers { self.new.numbers ≡ self.old.numbers }
-        ensures heads { self.new.heads ≡ self.old.heads }
+        ensures kept { KeepsNames self.old self.new }
         ensures room { OnOk result (more ≤ self.new.room) }
-        ensures kept { self.old.room ≤ self.new.room }
     {
         self.numbers.reserve(more)?;
         self.heads.reserve(more)?;
         Ok(())
     }
 
-    /// The link of this name in this directory.
-    pub fn child(
-        &self,
-        links: &Table<LinkRow>,
-        table: &UpcaseTable,
-        parent: u64,
-        units: &[u16],
-    ) -> Option<u64>
-        requires by_name { IsByName table.now links.now.rows self.now.numbers }
-        requires heads { AreHeads table.now links.now.rows self.now.heads }
-        ensures { result ≡ option_map (λ entry. entry.0) (find (λ entry. is_named table.now parent units.now entry.1) links.now.rows) }
+    /// Whether there is no number.
+    pub fn is_empty(&self) -> bool
+        ensures { result ≡ true → (self.now.numbers ≡ []) × (self.now.heads ≡ []) }
+    {
+        self.numbers.len() == 0 && self.heads.len() == 0
+    }
+
+    /// The link of this name.
+    pub fn child(&self, links: &Table<LinkRow>, table: &UpcaseTable, units: &[u16]) -> Option<u64>
+        requires { AreInNameOrder table.now links.now.rows self.now }
+        ensures { result ≡ option_map (λ entry. entry.0) (find (λ entry. same_name table.now entry.1.name units.now) (links_at links.now.rows self.now.numbers)) }
     {
         find_child(
             self.heads.as_slice(),
             self.numbers.as_slice(),
             links,
             table,
-            parent,
             units,
         )
     }
 
-    /// The numbers of the links of a directory whose names are greater than that one, in the order of names; of all of
-    /// them where there is no name.
-    pub fn children_after(
+    /// The numbers of the links whose names are greater than that one, in the order of names; of all of them where
+    /// there is no name.
+    pub fn after(
         &self,
         links: &Table<LinkRow>,
         table: &UpcaseTable,
-        dir: u64,
         after: Option<&[u16]>,
     ) -> &[u64]
-        requires by_name { IsByName table.now links.now.rows self.now.numbers }
-        requires heads { AreHeads table.now links.now.rows self.now.heads }
-        ensures { result.now ≡ map (λ entry. entry.0) (links_after table.now dir (option_copied after.entry) links.now.rows) }
+        requires { AreInNameOrder table.now links.now.rows self.now }
+        ensures { result.now ≡ map (λ entry. entry.0) (filter (λ entry. is_name_after table.now (option_copied after.entry) entry.1.name) (links_at links.now.rows self.now.numbers)) }
     {
-        find_children_after(
+        find_after(
             self.heads.as_slice(),
             self.numbers.as_slice(),
             links,
             table,
-            dir,
             after,
         )
     }
 
     /// Those of these numbers whose links have names that begin with these units, in the same order.
-    pub fn children_beginning(
+    pub fn beginning(
         &self,
         links: &Table<LinkRow>,
         table: &UpcaseTable,
-        dir: u64,
         after: Option<&[u16]>,
         units: &[u16],
     ) -> &[u64]
-        requires by_name { IsByName table.now links.now.rows self.now.numbers }
-        requires heads { AreHeads table.now links.now.rows self.now.heads }
-        ensures { result.now ≡ map (λ entry. entry.0) (filter (λ entry. begins_with table.now units.now entry.1.name) (links_after table.now dir (option_copied after.entry) links.now.rows)) }
+        requires { AreInNameOrder table.now links.now.rows self.now }
+        ensures { result.now ≡ map (λ entry. entry.0) (filter (λ entry. begins_with table.now units.now entry.1.name) (filter (λ entry. is_name_after table.now (option_copied after.entry) entry.1.name) (links_at links.now.rows self.now.numbers))) }
     {
-        let _ = links.len();
-        let children = self.children_after(links, table, dir, after);
-        beginning_with(children, links, table, units)
+        beginning_with(self.after(links, table, after), links, table, units)
     }
 
-    /// Puts in the number of a link of a new name, which is then added to its table last. There has to be room for
-    /// it.
-    pub fn add(
-        &mut self,
-        links: &Table<LinkRow>,
-        table: &UpcaseTable,
-        id: u64,
-        parent: u64,
-        units: &[u16],
-    )
+    /// Puts in the number of a link of a new name, which need not stand in its table. There has to be room for it.
+    pub fn put(&mut self, links: &Table<LinkRow>, table: &UpcaseTable, id: u64, units: &[u16])
         requires room { 1 ≤ self.old.room }
-        requires by_name { IsByName table.now links.now.rows self.old.numbers }
-        requires heads { AreHeads table.now links.now.rows self.old.heads }
-        requires is_new { option_map (λ entry. entry.0) (find (λ entry. is_named table.now parent units.now entry.1) links.now.rows) ≡ None }
-        ensures numbers { (file : ℕ) (deleted : Bool) → IsByName table.now (links.now.rows ++ (id, record { parent = parent; name = units.now; file = file; deleted = deleted }) ∷ []) self.new.numbers }
-        ensures heads { (file : ℕ) (deleted : Bool) → AreHeads table.now (links.now.rows ++ (id, record { parent = parent; name = units.now; file = file; deleted = deleted }) ∷ []) self.new.heads }
-        ensures left { self.old.room ≤ self.new.room + 1 }
-    {
-        let _ = links.len();
-        self.put(links, table, id, parent, units);
-    }
-
-    /// Gives the number of a link, which lives and still has its old name in its table, the place of another name.
-    pub fn move_to(
-        &mut self,
-        links: &Table<LinkRow>,
-        table: &UpcaseTable,
-        id: u64,
-        parent: u64,
-        units: &[u16],
-    )
-        requires by_name { IsByName table.now links.now.rows self.old.numbers }
-        requires heads { AreHeads table.now links.now.rows self.old.heads }
-        requires lives { is_some (row_of links.now.rows id) ≡ true }
-        requires free { list_any (λ entry. not (entry.0 == id) && is_named table.now parent units.now entry.1) links.now.rows ≡ false }
-        ensures numbers { IsByName table.now (with_row_changed (λ row. record row { parent = parent; name = units.now }) links.now.rows id) self.new.numbers }
-        ensures heads { AreHeads table.now (with_row_changed (λ row. record row { parent = parent; name = units.now }) links.now.rows id) self.new.heads }
-        ensures kept { self.old.room ≤ self.new.room }
-    {
-        let _ = links.len();
-        self.take(links, table, id);
-        self.put(links, table, id, parent, units);
-    }
-
-    /// Takes the number of a link out, which is still in its table.
-    pub fn take(&mut self, links: &Table<LinkRow>, table: &UpcaseTable, id: u64)
-        requires by_name { IsByName table.now links.now.rows self.old.numbers }
-        requires heads { AreHeads table.now links.now.rows self.old.heads }
-        ensures numbers { self.new.numbers ≡ map (λ entry. entry.0) (in_order (is_key_before (link_key table.now)) (without_row links.now.rows id)) }
-        ensures heads { AreHeads table.now (without_row links.now.rows id) self.new.heads }
-        ensures room { is_some (row_of links.now.rows id) ≡ true → self.old.room + 1 ≤ self.new.room }
-        ensures kept { self.old.room ≤ self.new.room }
-    {
-        match links.get(id) {
-            None => {}
-            Some(row) => {
-                let place = place_of_link(
-                    self.heads.as_slice(),
-                    self.numbers.as_slice(),
-                    links,
-                    table,
-                    id,
-                    row,
-                );
-                let _ = self.numbers.remove(place);
-                let _ = self.heads.remove(place);
-            }
-        }
-    }
-
-    /// Puts in the number of a link of a new name, which its table doesn't have yet. There has to be room for it.
-    pub fn put(
-        &mut self,
-        links: &Table<LinkRow>,
-        table: &UpcaseTable,
-        id: u64,
-        dir: u64,
-        units: &[u16],
-    )
-        requires room { 1 ≤ self.old.room }
-        requires ordered { AreInKeyOrder (link_key table.now) (links_at links.now.rows self.old.numbers) }
-        requires heads { self.old.heads ≡ map (link_head table.now) (links_at links.now.rows self.old.numbers) }
-        requires is_new { All (λ entry. is_named table.now dir units.now entry.1 ≡ false) (links_at links.now.rows self.old.numbers) }
-        ensures numbers { (file : ℕ) (deleted : Bool) → self.new.numbers ≡ map (λ entry. entry.0) (put_in_order (is_key_before (link_key table.now)) (id, record { parent = dir; name = units.now; file = file; deleted = deleted }) (links_at links.now.rows self.old.numbers)) }
-        ensures heads { (file : ℕ) (deleted : Bool) → self.new.heads ≡ map (link_head table.now) (put_in_order (is_key_before (link_key table.now)) (id, record { parent = dir; name = units.now; file = file; deleted = deleted }) (links_at links.now.rows self.old.numbers)) }
-        ensures left { self.old.room ≤ self.new.room + 1 }
+        requires ordered { AreInNameOrder table.now links.now.rows self.old }
+        requires is_new { All (λ entry. same_name table.now entry.1.name units.now ≡ false) (links_at links.now.rows self.old.numbers) }
+        ensures { IsNamePut table.now links.now.rows id units.now self.old self.new }
     {
         let place = place_for(
             self.heads.as_slice(),
             self.numbers.as_slice(),
             links,
             table,
-            dir,
             units,
         );
         self.numbers.insert(place, id);
-        self.heads.insert(place, head_of(table, dir, units));
+        self.heads.insert(place, head_of(table, units));
+    }
+
+    /// Takes the number of the link of this name out, if there is one.
+    pub fn take(&mut self, links: &Table<LinkRow>, table: &UpcaseTable, units: &[u16])
+        requires { AreInNameOrder table.now links.now.rows self.old }
+        ensures { IsNameTaken table.now links.now.rows units.now self.old self.new }
+    {
+        let found = place_of(
+            self.heads.as_slice(),
+            self.numbers.as_slice(),
+            links,
+            table,
+            units,
+        );
+        match found {
+            Err(_) => {}
+            Ok(place) => {
+                let _ = self.numbers.remove(place);
+                let _ = self.heads.remove(place);
+            }
+        }
     }
 }
 
-// The link of this name in this directory.
+// The link of this name.
 fn find_child(
     heads: &[u128],
     numbers: &[u64],
     links: &Table<LinkRow>,
     table: &UpcaseTable,
-    parent: u64,
     units: &[u16],
 ) -> Option<u64>
-    requires by_name { IsByName table.now links.now.rows numbers.now }
-    requires heads { AreHeads table.now links.now.rows heads.now }
-    ensures { result ≡ option_map (λ entry. entry.0) (find (λ entry. is_named table.now parent units.now entry.1) links.now.rows) }
+    requires ordered { AreInKeyOrder (name_key table.now) (links_at links.now.rows numbers.now) }
+    requires heads { heads.now ≡ map (link_head table.now) (links_at links.now.rows numbers.now) }
+    ensures { result ≡ option_map (λ entry. entry.0) (find (λ entry. same_name table.now entry.1.name units.now) (links_at links.now.rows numbers.now)) }
 {
-    let _ = links.len();
-    match place_of(heads, numbers, links, table, parent, units) {
+    match place_of(heads, numbers, links, table, units) {
         Ok(place) => number_of(numbers, place),
         Err(_) => None,
     }
@@ -259,47 +184,19 @@ fn number_of(numbers: &[u64], place: usize) -> Option<u64>
     }
 }
 
-// The numbers of the links of a directory behind a name; without a name, of all of them.
-fn find_children_after<'a>(
+// The numbers of the links behind a name; without a name, of all of them.
+fn find_after<'a>(
     heads: &[u128],
     numbers: &'a [u64],
     links: &Table<LinkRow>,
     table: &UpcaseTable,
-    dir: u64,
     after: Option<&[u16]>,
 ) -> &'a [u64]
-    requires by_name { IsByName table.now links.now.rows numbers.now }
-    requires heads { AreHeads table.now links.now.rows heads.now }
-    ensures { result.now ≡ map (λ entry. entry.0) (links_after table.now dir (option_copied after.entry) links.now.rows) }
+    requires ordered { AreInKeyOrder (name_key table.now) (links_at links.now.rows numbers.now) }
+    requires heads { heads.now ≡ map (link_head table.now) (links_at links.now.rows numbers.now) }
+    ensures { result.now ≡ map (λ entry. entry.0) (filter (λ entry. is_name_after table.now (option_copied after.entry) entry.1.name) (links_at links.now.rows numbers.now)) }
 {
-    let _ = links.len();
-    let end = end_of(numbers, links, dir);
-    let begin = begin_of(heads, numbers, links, table, dir, after).min(end);
-    &numbers[begin..end]
-}
-
-// Where the link of this number and name stands.
-fn place_of_link(
-    heads: &[u128],
-    numbers: &[u64],
-    links: &Table<LinkRow>,
-    table: &UpcaseTable,
-    id: u64,
-    row: &LinkRow,
-) -> usize
-    requires by_name { IsByName table.now links.now.rows numbers.now }
-    requires heads { AreHeads table.now links.now.rows heads.now }
-    requires found { row_of links.now.rows id ≡ Some row.now }
-    ensures bound { result < length numbers.now }
-    ensures head { result < length heads.now }
-    ensures heads { remove heads.now result ≡ map (link_head table.now) (in_order (is_key_before (link_key table.now)) (without_row links.now.rows id)) }
-    ensures without { remove numbers.now result ≡ map (λ entry. entry.0) (in_order (is_key_before (link_key table.now)) (without_row links.now.rows id)) }
-{
-    let _ = links.len();
-    match place_of(heads, numbers, links, table, row.parent, row.name.units()) {
-        Ok(place) => place,
-        Err(_) => unreachable!(),
-    }
+    &numbers[begin_of(heads, numbers, links, table, after)..]
 }
 
 // Where a new name stands.
@@ -308,61 +205,43 @@ fn place_for(
     numbers: &[u64],
     links: &Table<LinkRow>,
     table: &UpcaseTable,
-    dir: u64,
     units: &[u16],
 ) -> usize
-    requires ordered { AreInKeyOrder (link_key table.now) (links_at links.now.rows numbers.now) }
+    requires ordered { AreInKeyOrder (name_key table.now) (links_at links.now.rows numbers.now) }
     requires heads { heads.now ≡ map (link_head table.now) (links_at links.now.rows numbers.now) }
-    requires is_new { All (λ entry. is_named table.now dir units.now entry.1 ≡ false) (links_at links.now.rows numbers.now) }
-    ensures { IsKeyPlace (link_key table.now) (links_at links.now.rows numbers.now) (place_key table.now dir units.now) (Err result) }
+    requires is_new { All (λ entry. same_name table.now entry.1.name units.now ≡ false) (links_at links.now.rows numbers.now) }
+    ensures { IsKeyPlace (name_key table.now) (links_at links.now.rows numbers.now) (upcased table.now units.now) (Err result) }
 {
-    match place_of(heads, numbers, links, table, dir, units) {
+    match place_of(heads, numbers, links, table, units) {
         Ok(place) => place,
         Err(place) => place,
     }
 }
 
-// The order of a name in a directory and another.
-fn cmp_place(table: &UpcaseTable, parent: u64, name: &[u16], dir: u64, units: &[u16]) -> Ordering
-    ensures { result ≡ cmp_keys (place_key table.now parent name.now) (place_key table.now dir units.now) }
-{
-    match parent.cmp(&dir) {
-        Ordering::Equal => table.cmp_name(name, units),
-        other => other,
-    }
-}
-
-// The order of the link of a number and a name in a directory.
-fn cmp_number(
-    links: &Table<LinkRow>,
-    table: &UpcaseTable,
-    id: u64,
-    dir: u64,
-    units: &[u16],
-) -> Ordering
-    ensures { result ≡ cmp_keys (link_key table.now (link_at links.now.rows id)) (place_key table.now dir units.now) }
+// The order of the name of a number's link and another one.
+fn cmp_number(links: &Table<LinkRow>, table: &UpcaseTable, id: u64, units: &[u16]) -> Ordering
+    ensures { result ≡ cmp_name table.now (link_at links.now.rows id).1.name units.now }
 {
     match links.get(id) {
-        None => cmp_place(table, 0, &[], dir, units),
-        Some(row) => cmp_place(table, row.parent, row.name.units(), dir, units),
+        None => table.cmp_name(&[], units),
+        Some(row) => table.cmp_name(row.name.units(), units),
     }
 }
 
-// The place of a name in a directory, or where it would stand, by binary search among the heads.
+// The place of a name, or where it would stand, by binary search among the heads.
 fn place_of(
     heads: &[u128],
     numbers: &[u64],
     links: &Table<LinkRow>,
     table: &UpcaseTable,
-    dir: u64,
     units: &[u16],
 ) -> Result<usize, usize>
-    requires ordered { AreInKeyOrder (link_key table.now) (links_at links.now.rows numbers.now) }
+    requires ordered { AreInKeyOrder (name_key table.now) (links_at links.now.rows numbers.now) }
     requires heads { heads.now ≡ map (link_head table.now) (links_at links.now.rows numbers.now) }
-    ensures { IsKeyPlace (link_key table.now) (links_at links.now.rows numbers.now) (place_key table.now dir units.now) result }
+    ensures { IsKeyPlace (name_key table.now) (links_at links.now.rows numbers.now) (upcased table.now units.now) result }
 {
-    match search_heads(heads, head_of(table, dir, units)) {
-        Ok(place) => place_near(numbers, links, table, dir, units, place),
+    match search_heads(heads, head_of(table, units)) {
+        Ok(place) => place_near(numbers, links, table, units, place),
         Err(place) => Err(place),
     }
 }
@@ -381,105 +260,66 @@ fn place_near(
     numbers: &[u64],
     links: &Table<LinkRow>,
     table: &UpcaseTable,
-    dir: u64,
     units: &[u16],
     place: usize,
 ) -> Result<usize, usize>
-    requires ordered { AreInKeyOrder (link_key table.now) (links_at links.now.rows numbers.now) }
+    requires ordered { AreInKeyOrder (name_key table.now) (links_at links.now.rows numbers.now) }
     requires within { place < length numbers.now }
-    ensures { IsKeyPlace (link_key table.now) (links_at links.now.rows numbers.now) (place_key table.now dir units.now) result }
+    ensures { IsKeyPlace (name_key table.now) (links_at links.now.rows numbers.now) (upcased table.now units.now) result }
 {
-    match cmp_number(links, table, numbers[place], dir, units) {
+    match cmp_number(links, table, numbers[place], units) {
         Ordering::Equal => Ok(place),
-        _ => place_among(numbers, links, table, dir, units),
+        _ => place_among(numbers, links, table, units),
     }
 }
 
-// The place of a name in a directory, or where it would stand, by binary search among the rows.
+// The place of a name, or where it would stand, by binary search among the rows.
 fn place_among(
     numbers: &[u64],
     links: &Table<LinkRow>,
     table: &UpcaseTable,
-    dir: u64,
     units: &[u16],
 ) -> Result<usize, usize>
-    requires { AreInKeyOrder (link_key table.now) (links_at links.now.rows numbers.now) }
-    ensures { IsKeyPlace (link_key table.now) (links_at links.now.rows numbers.now) (place_key table.now dir units.now) result }
+    requires { AreInKeyOrder (name_key table.now) (links_at links.now.rows numbers.now) }
+    ensures { IsKeyPlace (name_key table.now) (links_at links.now.rows numbers.now) (upcased table.now units.now) result }
 {
-    numbers.binary_search_by(|id| cmp_number(links, table, *id, dir, units))
+    numbers.binary_search_by(|id| cmp_number(links, table, *id, units))
 }
 
-// Where the links of a directory begin, if there are any.
-fn begin_of_all(
-    heads: &[u128],
-    numbers: &[u64],
-    links: &Table<LinkRow>,
-    table: &UpcaseTable,
-    dir: u64,
-) -> usize
-    requires ordered { AreInKeyOrder (link_key table.now) (links_at links.now.rows numbers.now) }
-    requires heads { heads.now ≡ map (link_head table.now) (links_at links.now.rows numbers.now) }
-    ensures { IsBegin table.now (links_at links.now.rows numbers.now) dir None result }
-{
-    match place_of(heads, numbers, links, table, dir, &[]) {
-        Ok(place) => place,
-        Err(place) => place,
-    }
-}
-
-// Where those behind a name begin, if there are any.
-fn begin_behind(
-    heads: &[u128],
-    numbers: &[u64],
-    links: &Table<LinkRow>,
-    table: &UpcaseTable,
-    dir: u64,
-    units: &[u16],
-) -> usize
-    requires ordered { AreInKeyOrder (link_key table.now) (links_at links.now.rows numbers.now) }
-    requires heads { heads.now ≡ map (link_head table.now) (links_at links.now.rows numbers.now) }
-    ensures { IsBegin table.now (links_at links.now.rows numbers.now) dir (Some units.now) result }
-{
-    match place_of(heads, numbers, links, table, dir, units) {
-        Ok(place) => place + 1,
-        Err(place) => place,
-    }
-}
-
-// Where the links of a directory behind a name begin; without a name all are behind it.
+// Where the links behind a name begin; without a name all are behind it.
 fn begin_of(
     heads: &[u128],
     numbers: &[u64],
     links: &Table<LinkRow>,
     table: &UpcaseTable,
-    dir: u64,
     after: Option<&[u16]>,
 ) -> usize
-    requires ordered { AreInKeyOrder (link_key table.now) (links_at links.now.rows numbers.now) }
+    requires ordered { AreInKeyOrder (name_key table.now) (links_at links.now.rows numbers.now) }
     requires heads { heads.now ≡ map (link_head table.now) (links_at links.now.rows numbers.now) }
-    ensures { IsBegin table.now (links_at links.now.rows numbers.now) dir (option_copied after.entry) result }
+    ensures bound { result ≤ length numbers.now }
+    ensures begin { IsBegin table.now (links_at links.now.rows numbers.now) (option_copied after.entry) result }
 {
     match after {
-        None => begin_of_all(heads, numbers, links, table, dir),
-        Some(units) => begin_behind(heads, numbers, links, table, dir, units),
-    }
-}
-
-// The directory that the link of a number is in.
-fn parent_at(links: &Table<LinkRow>, id: u64) -> u64
-    ensures { result ≡ (link_at links.now.rows id).1.parent }
-{
-    match links.get(id) {
         None => 0,
-        Some(row) => row.parent,
+        Some(units) => begin_behind(heads, numbers, links, table, units),
     }
 }
 
-// Where the links of a directory and of lesser ones end.
-fn end_of(numbers: &[u64], links: &Table<LinkRow>, dir: u64) -> usize
-    requires { IsNonDecreasingBy (λ id. (link_at links.now.rows id).1.parent) numbers.now }
+// Where those behind a name begin.
+fn begin_behind(
+    heads: &[u128],
+    numbers: &[u64],
+    links: &Table<LinkRow>,
+    table: &UpcaseTable,
+    units: &[u16],
+) -> usize
+    requires ordered { AreInKeyOrder (name_key table.now) (links_at links.now.rows numbers.now) }
+    requires heads { heads.now ≡ map (link_head table.now) (links_at links.now.rows numbers.now) }
     ensures bound { result ≤ length numbers.now }
-    ensures point { IsPartitionPoint (λ id. (link_at links.now.rows id).1.parent ≤ dir) (λ id. dir < (link_at links.now.rows id).1.parent) numbers.now result }
+    ensures begin { IsBegin table.now (links_at links.now.rows numbers.now) (Some units.now) result }
 {
-    numbers.partition_point(|id| parent_at(links, *id) <= dir)
+    match place_of(heads, numbers, links, table, units) {
+        Ok(place) => place + 1,
+        Err(place) => place,
+    }
 }

@@ -3,9 +3,9 @@ use Rattle.fsa_types.specs.CaseTable.{upcased}
 use Rattle.volume_tables.specs.Heads.{is_exact, packed}
 use Rattle.volume_tables.proofs.head.head_of.Given as goal
 
--- the directory and the units before the place are packed
+-- the units before the place are packed
 abbrev pub invariant-loop-place : goal.invariant-loop-place
 invariant-loop-place l = record {
-  packed : l.head ≡ packed l.dir (upcased l.table l.units) l.place;
-  exact : l.exact ≡ is_exact l.dir (upcased l.table l.units) l.place;
+  packed : l.head ≡ packed (upcased l.table l.units) l.place;
+  exact : l.exact ≡ is_exact (upcased l.table l.units) l.place;
 }

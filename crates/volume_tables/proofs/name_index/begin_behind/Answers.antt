@@ -1,9 +1,17 @@
-use Rattle.volume_tables.specs.Names.{links_at}
-use Rattle.volume_tables.proofs.NameLemmas.{begin-after_here, begin-after_new}
+use Rattle.std.proofs.Common.{◌≡◌, length, arith}
+use Rattle.std.proofs.lemmas.List.{length-map}
+use Rattle.volume_tables.specs.Names.{link_at, links_at}
+use Rattle.volume_tables.proofs.NameLemmas.{begin-here, begin-new}
 use Rattle.volume_tables.proofs.name_index.begin_behind.Goals as goal
 
 pub returns-in-Ok : goal.returns-in-Ok
-returns-in-Ok c = begin-after_here c.args.table.now c.args.dir (links_at c.args.links.now.rows c.args.numbers.now) c.in-Ok.place c.args.units.now c.in-Ok.ensures
+returns-in-Ok c =
+    let links = links_at c.args.links.now.rows c.args.numbers.now in
+    let many : length links ≡ length c.args.numbers.now = length-map c.args.numbers.now (link_at c.args.links.now.rows) in
+    record { bound = omega (arith, many, c.in-Ok.ensures.0); begin = begin-here c.args.table.now c.args.units.now links c.in-Ok.place c.in-Ok.ensures }
 
 pub returns-in-Err : goal.returns-in-Err
-returns-in-Err c = begin-after_new c.args.table.now c.args.dir (links_at c.args.links.now.rows c.args.numbers.now) c.in-Err.place c.args.units.now c.in-Err.ensures
+returns-in-Err c =
+    let links = links_at c.args.links.now.rows c.args.numbers.now in
+    let many : length links ≡ length c.args.numbers.now = length-map c.args.numbers.now (link_at c.args.links.now.rows) in
+    record { bound = omega (arith, many, c.in-Err.ensures.0); begin = begin-new c.args.table.now c.args.units.now links c.in-Err.place c.in-Err.ensures }

@@ -10,5 +10,5 @@ place_near-requires-clause-within c =
 
 pub returns-in-Err : goal.returns-in-Err
 returns-in-Err c =
-    place-new c.args.table.now (links_at c.args.links.now.rows c.args.numbers.now) c.requires.ordered c.args.dir c.args.units.now c.args.heads.now c.in-Err.place c.requires.heads
+    place-new c.args.table.now (links_at c.args.links.now.rows c.args.numbers.now) c.requires.ordered c.args.units.now c.args.heads.now c.in-Err.place c.requires.heads
     (rw c.head_of.ensures at c.in-Err.ensures.position)
