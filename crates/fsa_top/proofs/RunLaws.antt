@@ -121,11 +121,11 @@ shown-turn script old new call out setup made =
     ∙ ap (λ (o : TurnOut). shown_turns script old.entries ++ turn_text script.setup.clients call o) turns.out_is
     ∙ ap (λ (s : Setup). shown_turns script old.entries ++ turn_text s.clients call out) (sym setup)
 
-pub WroteTurns-turn : (script : Script) (old new : MachineView) (call : Call) (out : TurnOut) (first mid now : Written) (held held_now : List ℕ) → old.setup ≡ script.setup → next script old.entries ≡ Some call → MadeTurn old new call out
-    → Gathers mid now held held_now (turn_text old.setup.clients call out) → WroteTurns script old.entries first mid held → WroteTurns script new.entries first now held_now
-WroteTurns-turn script old new call out first mid now held held_now setup is made wrote shows = record {
+pub WroteTurns-turn : (script : Script) (old new : MachineView) (call : Call) (out : TurnOut) (first mid now : Written) (gathered gathered_now : List ℕ) → old.setup ≡ script.setup → next script old.entries ≡ Some call → MadeTurn old new call out
+    → Gathers mid now gathered gathered_now (turn_text old.setup.clients call out) → WroteTurns script old.entries first mid gathered → WroteTurns script new.entries first now gathered_now
+WroteTurns-turn script old new call out first mid now gathered gathered_now setup is made wrote shows = record {
   scheduled = scheduled-turn script old new call out setup shows.scheduled is made;
-  wrote = subst (Gathers first now [] held_now) (sym (shown-turn script old new call out setup made)) (Gathers-append first mid now [] held held_now _ _ shows.wrote wrote);
+  wrote = subst (Gathers first now [] gathered_now) (sym (shown-turn script old new call out setup made)) (Gathers-append first mid now [] gathered gathered_now _ _ shows.wrote wrote);
 }
 
 -- fewer calls are left
@@ -198,24 +198,24 @@ Progress-begun script seen order is_read within setup none follows long first = 
   cursors = subst (λ (history : List HistoryEntry). StandAt (all_calls script) history order.places.items) (sym none) (calls-begun script order.places.items is_read long first);
 }
 
-pub WroteTurns-begun : (script : Script) (history : List HistoryEntry) (written : Written) (held : List ℕ) → history ≡ [] → held ≡ [] → WroteTurns script history written written held
-WroteTurns-begun script history written held none empty =
+pub WroteTurns-begun : (script : Script) (history : List HistoryEntry) (written : Written) (gathered : List ℕ) → history ≡ [] → gathered ≡ [] → WroteTurns script history written written gathered
+WroteTurns-begun script history written gathered none empty =
     subst (WroteTurns script history written written) (sym empty)
     (subst (λ (h : List HistoryEntry). WroteTurns script h written written []) (sym none) (record { scheduled = Scheduled-none script; wrote = Gathers-none written [] }))
 
 -- ---- what was written so far
 
 -- a turn was made, and its lines were added so
-pub MakesTurn-made : (old new : MachineView) (call : Call) (out : TurnOut) (before now : Written) (held held_now : List ℕ) (result : Result (Unit {0}) TextFault) → MadeTurn old new call out
-    → Adds before now held held_now (turn_text old.setup.clients call out) result → MakesTurn old new call before now held held_now result
-MakesTurn-made old new call out before now held held_now (Ok done) made wrote = (out, made, wrote)
-MakesTurn-made old new call out before now held held_now (Err Failed) made wrote = inl (out, made, wrote.0)
-MakesTurn-made old new call out before now held held_now (Err NoMemory) made wrote = wrote.0
+pub MakesTurn-made : (old new : MachineView) (call : Call) (out : TurnOut) (before now : Written) (gathered gathered_now : List ℕ) (result : Result (Unit {0}) TextFault) → MadeTurn old new call out
+    → Adds before now gathered gathered_now (turn_text old.setup.clients call out) result → MakesTurn old new call before now gathered gathered_now result
+MakesTurn-made old new call out before now gathered gathered_now (Ok done) made wrote = (out, made, wrote)
+MakesTurn-made old new call out before now gathered gathered_now (Err Failed) made wrote = inl (out, made, wrote.0)
+MakesTurn-made old new call out before now gathered gathered_now (Err NoMemory) made wrote = wrote.0
 
 -- none was made, and what was gathered was put
-pub MakesTurn-none : (old new : MachineView) (call : Call) (before now : Written) (held held_now : List ℕ) (fault : TextFault) → GivesUp before now held held_now fault → MakesTurn old new call before now held held_now (Err fault)
-MakesTurn-none old new call before now held held_now Failed put = inr put.0
-MakesTurn-none old new call before now held held_now NoMemory put = put.0
+pub MakesTurn-none : (old new : MachineView) (call : Call) (before now : Written) (gathered gathered_now : List ℕ) (fault : TextFault) → GivesUp before now gathered gathered_now fault → MakesTurn old new call before now gathered gathered_now (Err fault)
+MakesTurn-none old new call before now gathered gathered_now Failed put = inr put.0
+MakesTurn-none old new call before now gathered gathered_now NoMemory put = put.0
 
 some_last : (rest : List ℕ) (turns : ℕ) → 0 < length (rest ++ last_line turns)
 some_last rest turns = omega (arith, length-append rest (last_line turns))
@@ -230,48 +230,48 @@ whole_part script history whole first now goes part =
     (whole, goes.scheduled, goes.all, run-coherent script.setup whole, run-watches_report script.setup whole, subst (AppendsPart first now) (sym (text_split script whole (shown_turns script history) goes.shows.0 goes.shows.1)) part)
 
 -- what was gathered was put
-WroteTurns-put : (script : Script) (history : List HistoryEntry) (first mid now : Written) (held : List ℕ) → IsReadScript script → WroteTurns script history first mid held → Appends mid now held → WritesPart script first now
-WroteTurns-put script history first mid now held is_read shows put =
+WroteTurns-put : (script : Script) (history : List HistoryEntry) (first mid now : Written) (gathered : List ℕ) → IsReadScript script → WroteTurns script history first mid gathered → Appends mid now gathered → WritesPart script first now
+WroteTurns-put script history first mid now gathered is_read shows put =
     let goes = Scheduled-goes_on script history is_read shows.scheduled in
     whole_part script history goes.0 first now goes.1
     (AppendsPart-whole first now (shown_turns script history) (goes.1.shows.0 ++ last_line (length goes.0)) (some_last goes.1.shows.0 (length goes.0))
-    (Gathers-all first mid now [] held (shown_turns script history) shows.wrote put))
+    (Gathers-all first mid now [] gathered (shown_turns script history) shows.wrote put))
 
 -- or a part of it
-WroteTurns-part : (script : Script) (history : List HistoryEntry) (first mid now : Written) (held : List ℕ) → IsReadScript script → WroteTurns script history first mid held → AppendsPart mid now held → WritesPart script first now
-WroteTurns-part script history first mid now held is_read shows part =
+WroteTurns-part : (script : Script) (history : List HistoryEntry) (first mid now : Written) (gathered : List ℕ) → IsReadScript script → WroteTurns script history first mid gathered → AppendsPart mid now gathered → WritesPart script first now
+WroteTurns-part script history first mid now gathered is_read shows part =
     let goes = Scheduled-goes_on script history is_read shows.scheduled in
     whole_part script history goes.0 first now goes.1
-    (AppendsPart-longer first now (shown_turns script history) (goes.1.shows.0 ++ last_line (length goes.0)) (Gathers-part first mid now [] held (shown_turns script history) shows.wrote part))
+    (AppendsPart-longer first now (shown_turns script history) (goes.1.shows.0 ++ last_line (length goes.0)) (Gathers-part first mid now [] gathered (shown_turns script history) shows.wrote part))
 
 -- so it is with a part of that and of the lines of the next turn
-WroteTurns-front : (script : Script) (old new : MachineView) (call : Call) (out : TurnOut) (first mid now : Written) (held : List ℕ) → IsReadScript script → old.setup ≡ script.setup → next script old.entries ≡ Some call → MadeTurn old new call out
-    → AppendsPart mid now (held ++ turn_text old.setup.clients call out) → WroteTurns script old.entries first mid held → WritesPart script first now
-WroteTurns-front script old new call out first mid now held is_read setup is made front shows =
+WroteTurns-front : (script : Script) (old new : MachineView) (call : Call) (out : TurnOut) (first mid now : Written) (gathered : List ℕ) → IsReadScript script → old.setup ≡ script.setup → next script old.entries ≡ Some call → MadeTurn old new call out
+    → AppendsPart mid now (gathered ++ turn_text old.setup.clients call out) → WroteTurns script old.entries first mid gathered → WritesPart script first now
+WroteTurns-front script old new call out first mid now gathered is_read setup is made front shows =
     let goes = Scheduled-goes_on script new.entries is_read (scheduled-turn script old new call out setup shows.scheduled is made) in
     whole_part script new.entries goes.0 first now goes.1
     (AppendsPart-longer first now (shown_turns script new.entries) (goes.1.shows.0 ++ last_line (length goes.0))
-    (subst (AppendsPart first now) (sym (shown-turn script old new call out setup made)) (Gathers-more_part first mid now [] held _ _ shows.wrote front)))
+    (subst (AppendsPart first now) (sym (shown-turn script old new call out setup made)) (Gathers-more_part first mid now [] gathered _ _ shows.wrote front)))
 
 -- a turn that wasn't made, or whose lines weren't added
-pub MakesTurn-part : (script : Script) (old new : MachineView) (call : Call) (first mid now : Written) (held held_now : List ℕ) (fault : TextFault) → IsReadScript script → old.setup ≡ script.setup → next script old.entries ≡ Some call
-    → MakesTurn old new call mid now held held_now (Err fault) → WroteTurns script old.entries first mid held → WritesPart script first now
-MakesTurn-part script old new call first mid now held held_now Failed is_read setup is makes shows = elim makes [
-  | inl some ↦ WroteTurns-front script old new call some.0 first mid now held is_read setup is some.1 some.2 shows
-  | inr part ↦ WroteTurns-part script old.entries first mid now held is_read shows part
+pub MakesTurn-part : (script : Script) (old new : MachineView) (call : Call) (first mid now : Written) (gathered gathered_now : List ℕ) (fault : TextFault) → IsReadScript script → old.setup ≡ script.setup → next script old.entries ≡ Some call
+    → MakesTurn old new call mid now gathered gathered_now (Err fault) → WroteTurns script old.entries first mid gathered → WritesPart script first now
+MakesTurn-part script old new call first mid now gathered gathered_now Failed is_read setup is makes shows = elim makes [
+  | inl some ↦ WroteTurns-front script old new call some.0 first mid now gathered is_read setup is some.1 some.2 shows
+  | inr part ↦ WroteTurns-part script old.entries first mid now gathered is_read shows part
 ]
-MakesTurn-part script old new call first mid now held held_now NoMemory is_read setup is makes shows = WroteTurns-put script old.entries first mid now held is_read shows makes
+MakesTurn-part script old new call first mid now gathered gathered_now NoMemory is_read setup is makes shows = WroteTurns-put script old.entries first mid now gathered is_read shows makes
 
 -- ---- the end
 
 -- a part of what is gathered and of the last line was written, behind the lines of all turns but these; or what is
 -- gathered was
-WroteTurns-last_part : (script : Script) (history : List HistoryEntry) (first mid now : Written) (held held_now : List ℕ) (fault : TextFault) → HasAllCalls script history → WroteTurns script history first mid held → Finishes mid now held held_now (last_line (length history)) (Err fault)
+WroteTurns-last_part : (script : Script) (history : List HistoryEntry) (first mid now : Written) (gathered gathered_now : List ℕ) (fault : TextFault) → HasAllCalls script history → WroteTurns script history first mid gathered → Finishes mid now gathered gathered_now (last_line (length history)) (Err fault)
     → WritesPart script first now
-WroteTurns-last_part script history first mid now held held_now Failed all shows last =
-    (history, shows.scheduled, all, run-coherent script.setup history, run-watches_report script.setup history, Gathers-more_part first mid now [] held _ _ shows.wrote last.0)
-WroteTurns-last_part script history first mid now held held_now NoMemory all shows last =
-    (history, shows.scheduled, all, run-coherent script.setup history, run-watches_report script.setup history, AppendsPart-whole first now (shown_turns script history) (last_line (length history)) (omega arith) (Gathers-all first mid now [] held _ shows.wrote last.0))
+WroteTurns-last_part script history first mid now gathered gathered_now Failed all shows last =
+    (history, shows.scheduled, all, run-coherent script.setup history, run-watches_report script.setup history, Gathers-more_part first mid now [] gathered _ _ shows.wrote last.0)
+WroteTurns-last_part script history first mid now gathered gathered_now NoMemory all shows last =
+    (history, shows.scheduled, all, run-coherent script.setup history, run-watches_report script.setup history, AppendsPart-whole first now (shown_turns script history) (last_line (length history)) (omega arith) (Gathers-all first mid now [] gathered _ shows.wrote last.0))
 
 -- a schedule that has all calls is the one history with its text
 pub history-one : (script : Script) (history : List HistoryEntry) → IsReadScript script → Scheduled script history → HasAllCalls script history → IsHistory script history
@@ -285,14 +285,14 @@ history-one script history is_read scheduled all = record {
 }
 
 -- all of it and the last line were
-WroteTurns-whole : (script : Script) (history : List HistoryEntry) (first mid now : Written) (held : List ℕ) → IsReadScript script → HasAllCalls script history → WroteTurns script history first mid held → Appends mid now (held ++ last_line (length history))
+WroteTurns-whole : (script : Script) (history : List HistoryEntry) (first mid now : Written) (gathered : List ℕ) → IsReadScript script → HasAllCalls script history → WroteTurns script history first mid gathered → Appends mid now (gathered ++ last_line (length history))
     → WritesText script first now
-WroteTurns-whole script history first mid now held is_read all shows last = (history, history-one script history is_read shows.scheduled all, Gathers-more first mid now [] held _ _ shows.wrote last)
+WroteTurns-whole script history first mid now gathered is_read all shows last = (history, history-one script history is_read shows.scheduled all, Gathers-more first mid now [] gathered _ _ shows.wrote last)
 
-pub WroteTurns-finished : (script : Script) (history : List HistoryEntry) (first mid now : Written) (held held_now : List ℕ) (result : Result (Unit {0}) TextFault) → IsReadScript script → HasAllCalls script history → WroteTurns script history first mid held
-    → Finishes mid now held held_now (last_line (length history)) result → OnOk result (WritesText script first now) × OnErr result (WritesPart script first now)
-WroteTurns-finished script history first mid now held held_now (Ok done) is_read all shows last = (WroteTurns-whole script history first mid now held is_read all shows last.0, tt)
-WroteTurns-finished script history first mid now held held_now (Err fault) is_read all shows last = (tt, WroteTurns-last_part script history first mid now held held_now fault all shows last)
+pub WroteTurns-finished : (script : Script) (history : List HistoryEntry) (first mid now : Written) (gathered gathered_now : List ℕ) (result : Result (Unit {0}) TextFault) → IsReadScript script → HasAllCalls script history → WroteTurns script history first mid gathered
+    → Finishes mid now gathered gathered_now (last_line (length history)) result → OnOk result (WritesText script first now) × OnErr result (WritesPart script first now)
+WroteTurns-finished script history first mid now gathered gathered_now (Ok done) is_read all shows last = (WroteTurns-whole script history first mid now gathered is_read all shows last.0, tt)
+WroteTurns-finished script history first mid now gathered gathered_now (Err fault) is_read all shows last = (tt, WroteTurns-last_part script history first mid now gathered gathered_now fault all shows last)
 
 -- where no call is next
 pub Progress-all : (script : Script) (seen : MachineView) (order : Order) → Progress script seen order → next script seen.entries ≡ None → HasAllCalls script seen.entries

@@ -36,9 +36,9 @@ pub record IsNextAt (script : Script) (history : List HistoryEntry) (place : ℕ
   pub is : next script history ≡ Some call
 
 -- the lines of a schedule's turns were written, but for those that are gathered
-pub record WroteTurns (script : Script) (history : List HistoryEntry) (written written_now : Written) (held : List ℕ) : Type 0 where
+pub record WroteTurns (script : Script) (history : List HistoryEntry) (written written_now : Written) (gathered : List ℕ) : Type 0 where
   pub scheduled : Scheduled script history
-  pub wrote : Gathers written written_now [] held (shown_turns script history)
+  pub wrote : Gathers written written_now [] gathered (shown_turns script history)
 
 -- the machine made a turn of this call, which gave this out
 pub record MadeTurn (old new : MachineView) (call : Call) (out : TurnOut) : Type 0 where
@@ -50,8 +50,8 @@ pub record MadeTurn (old new : MachineView) (call : Call) (out : TurnOut) : Type
 -- made and a part of both was written, or a part of what was gathered; where there was no memory, what was gathered was
 -- written
 abbrev pub MakesTurn : MachineView → MachineView → Call → Written → Written → List ℕ → List ℕ → Result (Unit {0}) TextFault → Type 0
-MakesTurn old new call written written_now held held_now (Ok done) =
-    (out : TurnOut) × MadeTurn old new call out × Gathers written written_now held held_now (turn_text old.setup.clients call out)
-MakesTurn old new call written written_now held held_now (Err Failed) =
-    ((out : TurnOut) × MadeTurn old new call out × AppendsPart written written_now (held ++ turn_text old.setup.clients call out)) ⊎ AppendsPart written written_now held
-MakesTurn old new call written written_now held held_now (Err NoMemory) = Appends written written_now held
+MakesTurn old new call written written_now gathered gathered_now (Ok done) =
+    (out : TurnOut) × MadeTurn old new call out × Gathers written written_now gathered gathered_now (turn_text old.setup.clients call out)
+MakesTurn old new call written written_now gathered gathered_now (Err Failed) =
+    ((out : TurnOut) × MadeTurn old new call out × AppendsPart written written_now (gathered ++ turn_text old.setup.clients call out)) ⊎ AppendsPart written written_now gathered
+MakesTurn old new call written written_now gathered gathered_now (Err NoMemory) = Appends written written_now gathered

@@ -10,8 +10,8 @@ use Rattle.text_out.specs.Writes.{Gathers}
 
 -- the lines of the first so many turns were written, but for those that are gathered
 abbrev pub ShowsFirst : Script → List HistoryEntry → ℕ → Written → Written → List ℕ → Type 0
-ShowsFirst script history turns written written_now held =
-    (r : Run) → run script.setup history ≡ Some r → Gathers written written_now [] held (turns_text script.setup.clients (take turns history) (take turns r.outs))
+ShowsFirst script history turns written written_now gathered =
+    (r : Run) → run script.setup history ≡ Some r → Gathers written written_now [] gathered (turns_text script.setup.clients (take turns history) (take turns r.outs))
 
 -- this was done with the lines of the turn at this place
 abbrev pub ShowsTurn : Script → List HistoryEntry → ℕ → (List ℕ → Type 0) → Type 0

@@ -8,14 +8,14 @@ use Rattle.text_out.specs.declared.write.TextFault.{TextFault}
 use Rattle.text_out.specs.declared.write.TextFault.TheVariants.{Failed, NoMemory}
 
 -- nothing came, and nothing was put
-pub Gathers-none : (written : Written) (held : List ℕ) → Gathers written written held held []
-Gathers-none written held = record { front = []; splits = append-nil held; put = Appends-none written }
+pub Gathers-none : (written : Written) (gathered : List ℕ) → Gathers written written gathered gathered []
+Gathers-none written gathered = record { front = []; splits = append-nil gathered; put = Appends-none written }
 
 -- a text, and another behind it
-pub Gathers-append : (first mid now : Written) (held between later text more : List ℕ) → Gathers first mid held between text → Gathers mid now between later more → Gathers first now held later (text ++ more)
-Gathers-append first mid now held between later text more one two = record {
+pub Gathers-append : (first mid now : Written) (gathered between later text more : List ℕ) → Gathers first mid gathered between text → Gathers mid now between later more → Gathers first now gathered later (text ++ more)
+Gathers-append first mid now gathered between later text more one two = record {
   front = one.front ++ two.front;
-  splits = sym (append_assoc held text more)
+  splits = sym (append_assoc gathered text more)
       ∙ ap (λ (all : List ℕ). all ++ more) one.splits
       ∙ append_assoc one.front between more
       ∙ ap (λ (rest : List ℕ). one.front ++ rest) two.splits
@@ -24,39 +24,39 @@ Gathers-append first mid now held between later text more one two = record {
 }
 
 -- a part of what was gathered and of the bytes behind it is one of the whole text
-pub around-failed : (written written_now : Written) (held mid before bytes after text : List ℕ) → mid ≡ held ++ before → before ++ bytes ++ after ≡ text → AppendsPart written written_now (mid ++ bytes) → AppendsPart written written_now (held ++ text)
-around-failed written written_now held mid before bytes after text begun is part =
-    let all : held ++ text ≡ (mid ++ bytes) ++ after = ap (λ (rest : List ℕ). held ++ rest) (sym is) ∙ regroup held before bytes after ∙ ap (λ (front : List ℕ). front ++ bytes ++ after) (sym begun) in
+pub around-failed : (written written_now : Written) (gathered mid before bytes after text : List ℕ) → mid ≡ gathered ++ before → before ++ bytes ++ after ≡ text → AppendsPart written written_now (mid ++ bytes) → AppendsPart written written_now (gathered ++ text)
+around-failed written written_now gathered mid before bytes after text begun is part =
+    let all : gathered ++ text ≡ (mid ++ bytes) ++ after = ap (λ (rest : List ℕ). gathered ++ rest) (sym is) ∙ regroup gathered before bytes after ∙ ap (λ (front : List ℕ). front ++ bytes ++ after) (sym begun) in
     subst (AppendsPart written written_now) (sym all) (AppendsPart-longer written written_now (mid ++ bytes) after part)
   where
-    regroup : (held before bytes after : List ℕ) → held ++ (before ++ bytes ++ after) ≡ ((held ++ before) ++ bytes) ++ after
-    regroup held before bytes after = simp append_assoc
+    regroup : (gathered before bytes after : List ℕ) → gathered ++ (before ++ bytes ++ after) ≡ ((gathered ++ before) ++ bytes) ++ after
+    regroup gathered before bytes after = simp append_assoc
 
 -- what was gathered was put in place of a text
-pub GivesUp-adds : (written written_now : Written) (held mid held_now text : List ℕ) (fault : TextFault) → mid ≡ held → GivesUp written written_now mid held_now fault → Adds written written_now held held_now text (Err fault)
-GivesUp-adds written written_now held mid held_now text Failed same gave = (AppendsPart-longer written written_now held text (subst (AppendsPart written written_now) same gave.0), gave.1)
-GivesUp-adds written written_now held mid held_now text NoMemory same gave = (subst (Appends written written_now) same gave.0, gave.1)
+pub GivesUp-adds : (written written_now : Written) (gathered mid gathered_now text : List ℕ) (fault : TextFault) → mid ≡ gathered → GivesUp written written_now mid gathered_now fault → Adds written written_now gathered gathered_now text (Err fault)
+GivesUp-adds written written_now gathered mid gathered_now text Failed same gave = (AppendsPart-longer written written_now gathered text (subst (AppendsPart written written_now) same gave.0), gave.1)
+GivesUp-adds written written_now gathered mid gathered_now text NoMemory same gave = (subst (Appends written written_now) same gave.0, gave.1)
 
-pub GivesUp-finishes : (written written_now : Written) (held mid held_now text : List ℕ) (fault : TextFault) → mid ≡ held → GivesUp written written_now mid held_now fault → Finishes written written_now held held_now text (Err fault)
-GivesUp-finishes written written_now held mid held_now text Failed same gave = (AppendsPart-longer written written_now held text (subst (AppendsPart written written_now) same gave.0), gave.1)
-GivesUp-finishes written written_now held mid held_now text NoMemory same gave = (subst (Appends written written_now) same gave.0, gave.1)
+pub GivesUp-finishes : (written written_now : Written) (gathered mid gathered_now text : List ℕ) (fault : TextFault) → mid ≡ gathered → GivesUp written written_now mid gathered_now fault → Finishes written written_now gathered gathered_now text (Err fault)
+GivesUp-finishes written written_now gathered mid gathered_now text Failed same gave = (AppendsPart-longer written written_now gathered text (subst (AppendsPart written written_now) same gave.0), gave.1)
+GivesUp-finishes written written_now gathered mid gathered_now text NoMemory same gave = (subst (Appends written written_now) same gave.0, gave.1)
 
 -- what is gathered is put, and more behind it
-pub Gathers-more : (first mid now : Written) (held held_now text more : List ℕ) → Gathers first mid held held_now text → Appends mid now (held_now ++ more) → Appends first now ((held ++ text) ++ more)
-Gathers-more first mid now held held_now text more so put =
-    subst (Appends first now) (sym (ap (λ (all : List ℕ). all ++ more) so.splits ∙ append_assoc so.front held_now more))
-    (Appends-append first mid now so.front (held_now ++ more) so.put put)
+pub Gathers-more : (first mid now : Written) (gathered gathered_now text more : List ℕ) → Gathers first mid gathered gathered_now text → Appends mid now (gathered_now ++ more) → Appends first now ((gathered ++ text) ++ more)
+Gathers-more first mid now gathered gathered_now text more so put =
+    subst (Appends first now) (sym (ap (λ (all : List ℕ). all ++ more) so.splits ∙ append_assoc so.front gathered_now more))
+    (Appends-append first mid now so.front (gathered_now ++ more) so.put put)
 
 -- what is gathered is put
-pub Gathers-all : (first mid now : Written) (held held_now text : List ℕ) → Gathers first mid held held_now text → Appends mid now held_now → Appends first now (held ++ text)
-Gathers-all first mid now held held_now text so put = subst (Appends first now) (sym so.splits) (Appends-append first mid now so.front held_now so.put put)
+pub Gathers-all : (first mid now : Written) (gathered gathered_now text : List ℕ) → Gathers first mid gathered gathered_now text → Appends mid now gathered_now → Appends first now (gathered ++ text)
+Gathers-all first mid now gathered gathered_now text so put = subst (Appends first now) (sym so.splits) (Appends-append first mid now so.front gathered_now so.put put)
 
 -- a part of what is gathered, and of more behind it
-pub Gathers-more_part : (first mid now : Written) (held held_now text more : List ℕ) → Gathers first mid held held_now text → AppendsPart mid now (held_now ++ more) → AppendsPart first now ((held ++ text) ++ more)
-Gathers-more_part first mid now held held_now text more so part =
-    subst (AppendsPart first now) (sym (ap (λ (all : List ℕ). all ++ more) so.splits ∙ append_assoc so.front held_now more))
-    (AppendsPart-append first mid now so.front (held_now ++ more) so.put part)
+pub Gathers-more_part : (first mid now : Written) (gathered gathered_now text more : List ℕ) → Gathers first mid gathered gathered_now text → AppendsPart mid now (gathered_now ++ more) → AppendsPart first now ((gathered ++ text) ++ more)
+Gathers-more_part first mid now gathered gathered_now text more so part =
+    subst (AppendsPart first now) (sym (ap (λ (all : List ℕ). all ++ more) so.splits ∙ append_assoc so.front gathered_now more))
+    (AppendsPart-append first mid now so.front (gathered_now ++ more) so.put part)
 
 -- a part of what is gathered
-pub Gathers-part : (first mid now : Written) (held held_now text : List ℕ) → Gathers first mid held held_now text → AppendsPart mid now held_now → AppendsPart first now (held ++ text)
-Gathers-part first mid now held held_now text so part = subst (AppendsPart first now) (sym so.splits) (AppendsPart-append first mid now so.front held_now so.put part)
+pub Gathers-part : (first mid now : Written) (gathered gathered_now text : List ℕ) → Gathers first mid gathered gathered_now text → AppendsPart mid now gathered_now → AppendsPart first now (gathered ++ text)
+Gathers-part first mid now gathered gathered_now text so part = subst (AppendsPart first now) (sym so.splits) (AppendsPart-append first mid now so.front gathered_now so.put part)

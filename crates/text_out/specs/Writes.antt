@@ -7,28 +7,28 @@ use Rattle.text_out.specs.declared.write.TextFault.{TextFault}
 use Rattle.text_out.specs.declared.write.TextFault.TheVariants.{Failed, NoMemory}
 
 -- this text came behind what was gathered; a front of both was put, and the rest is gathered now
-pub record Gathers (written written_now : Written) (held held_now text : List ℕ) : Type 0 where
+pub record Gathers (written written_now : Written) (gathered gathered_now text : List ℕ) : Type 0 where
   pub front : List ℕ
-  pub splits : held ++ text ≡ front ++ held_now
+  pub splits : gathered ++ text ≡ front ++ gathered_now
   pub put : Appends written written_now front
 
 -- the text came so; where the sink failed, a part of what was gathered and of the text was put, and not all; where there
 -- was no memory, what was gathered was put, and no more. Nothing is gathered after either
 abbrev pub Adds : Written → Written → List ℕ → List ℕ → List ℕ → Result (Unit {0}) TextFault → Type 0
-Adds written written_now held held_now text (Ok done) = Gathers written written_now held held_now text
-Adds written written_now held held_now text (Err Failed) = AppendsPart written written_now (held ++ text) × (held_now ≡ [])
-Adds written written_now held held_now text (Err NoMemory) = Appends written written_now held × (held_now ≡ [])
+Adds written written_now gathered gathered_now text (Ok done) = Gathers written written_now gathered gathered_now text
+Adds written written_now gathered gathered_now text (Err Failed) = AppendsPart written written_now (gathered ++ text) × (gathered_now ≡ [])
+Adds written written_now gathered gathered_now text (Err NoMemory) = Appends written written_now gathered × (gathered_now ≡ [])
 
 -- all of what was gathered was put, and the text behind it, so that nothing is gathered now; where it failed, as above
 abbrev pub Finishes : Written → Written → List ℕ → List ℕ → List ℕ → Result (Unit {0}) TextFault → Type 0
-Finishes written written_now held held_now text (Ok done) = Appends written written_now (held ++ text) × (held_now ≡ [])
-Finishes written written_now held held_now text (Err Failed) = AppendsPart written written_now (held ++ text) × (held_now ≡ [])
-Finishes written written_now held held_now text (Err NoMemory) = Appends written written_now held × (held_now ≡ [])
+Finishes written written_now gathered gathered_now text (Ok done) = Appends written written_now (gathered ++ text) × (gathered_now ≡ [])
+Finishes written written_now gathered gathered_now text (Err Failed) = AppendsPart written written_now (gathered ++ text) × (gathered_now ≡ [])
+Finishes written written_now gathered gathered_now text (Err NoMemory) = Appends written written_now gathered × (gathered_now ≡ [])
 
 -- what was gathered was put where there was no memory for more; where the sink failed, a part of it, and not all
 abbrev pub GivesUp : Written → Written → List ℕ → List ℕ → TextFault → Type 0
-GivesUp written written_now held held_now Failed = AppendsPart written written_now held × (held_now ≡ [])
-GivesUp written written_now held held_now NoMemory = Appends written written_now held × (held_now ≡ [])
+GivesUp written written_now gathered gathered_now Failed = AppendsPart written written_now gathered × (gathered_now ≡ [])
+GivesUp written written_now gathered gathered_now NoMemory = Appends written written_now gathered × (gathered_now ≡ [])
 
 -- the count of faults never falls. Where the sink failed, its last put alone did; where it didn't, none did
 pub record TellsFaults (before now since : ℕ) (result : Result (Unit {0}) TextFault) : Type 0 where

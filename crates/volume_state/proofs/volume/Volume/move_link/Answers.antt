@@ -28,5 +28,5 @@ returns-clause-dirs c =
     rw (← c.self.view_is, c.move_to.ensures.rows) (λ stream. dirs_noted-moved (content_of c.self.inside) c.args.link c.args.parent c.args.name stream c.self.invariant.0
     (rw (← c.self.view_is) at c.requires.parent) (rw (← c.self.view_is) at c.requires.not_below))
 
-pub move_to-requires : goal.move_to-requires
-move_to-requires c = record { free = free-named (content_of c.self.inside) c.args.link c.args.parent c.args.name c.self.invariant.0 (rw (← c.self.view_is) at c.requires.free) }
+pub move_to-requires-clause-free : goal.move_to-requires-clause-free
+move_to-requires-clause-free c = free-named (content_of c.self.inside) c.args.link c.args.parent c.args.name c.self.invariant.0 (rw (← c.self.view_is) at c.requires.free)
