@@ -23,7 +23,7 @@ links_by_name table dir rows = in_order (is_key_before (name_key table)) (links_
 abbrev pub NamesDiffer : List (ℕ × ℕ) → List (ℕ × Link) → Type 0
 NamesDiffer table rows = AllPairs (λ a b. is_named table b.1.parent b.1.name a.1 ≡ false) rows
 
--- the index of a directory; an empty one where it isn't there
+-- the index of a directory; an empty one where it has none
 abbrev pub index_of : List (ℕ × Numbers) → ℕ → Numbers
 index_of dirs dir = option_map_or (λ (index : Numbers). index) (row_of dirs dir) (record { numbers = []; heads = []; room = 0 })
 
@@ -31,7 +31,7 @@ index_of dirs dir = option_map_or (λ (index : Numbers). index) (row_of dirs dir
 abbrev pub index_at : Slab Numbers → ℕ → Numbers
 index_at slab slot = option_map_or (λ (index : Numbers). index) (get slab slot) (record { numbers = []; heads = []; room = 0 })
 
--- an index has all links of a directory in the order of their names
+-- an index has exactly the links of a directory, in the order of their names
 pub record HasLinksOf (table : List (ℕ × ℕ)) (rows : List (ℕ × Link)) (dir : ℕ) (index : Numbers) : Type 0 where
   pub numbers : index.numbers ≡ map (λ entry. entry.0) (links_by_name table dir rows)
   pub heads : index.heads ≡ map (link_head table) (links_by_name table dir rows)

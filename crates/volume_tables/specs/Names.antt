@@ -24,7 +24,7 @@ link_at rows id = (id, option_map_or (λ row. row) (row_of rows id) (record { pa
 abbrev pub links_at : List (ℕ × Link) → List ℕ → List (ℕ × Link)
 links_at rows numbers = map (link_at rows) numbers
 
--- the numbers are in the order of the names of their links, which differ, and the heads are those of these names
+-- the numbers are in the order of the names of their links, names that differ, and the heads are those of these names
 pub record AreInNameOrder (table : List (ℕ × ℕ)) (rows : List (ℕ × Link)) (index : Numbers) : Type 0 where
   pub ordered : AreInKeyOrder (name_key table) (links_at rows index.numbers)
   pub heads : index.heads ≡ map (link_head table) (links_at rows index.numbers)
@@ -40,13 +40,13 @@ pub record IsBegin (table : List (ℕ × ℕ)) (links : List (ℕ × Link)) (aft
   pub before : AllWithin (λ entry. is_name_after table after entry.1.name ≡ false) links 0 place
   pub behind : AllWithin (λ entry. is_name_after table after entry.1.name ≡ true) links place (length links)
 
--- the number of a link of this name was put in its place, whatever else the link is
+-- the number of a link of this name was put in its place, whatever else the link is, and took at most one room
 pub record IsNamePut (table : List (ℕ × ℕ)) (rows : List (ℕ × Link)) (id : ℕ) (name : List ℕ) (old new : Numbers) : Type 0 where
   pub numbers : (parent file : ℕ) (deleted : Bool) → new.numbers ≡ map (λ entry. entry.0) (put_in_order (is_key_before (name_key table)) (id, record { parent = parent; name = name; file = file; deleted = deleted }) (links_at rows old.numbers))
   pub heads : (parent file : ℕ) (deleted : Bool) → new.heads ≡ map (link_head table) (put_in_order (is_key_before (name_key table)) (id, record { parent = parent; name = name; file = file; deleted = deleted }) (links_at rows old.numbers))
   pub left : old.room ≤ new.room + 1
 
--- the number of the link of this name, if there is one, was taken out
+-- the number of the link of this name, if there is one, was taken out, and no room was lost
 pub record IsNameTaken (table : List (ℕ × ℕ)) (rows : List (ℕ × Link)) (name : List ℕ) (old new : Numbers) : Type 0 where
   pub numbers : new.numbers ≡ map (λ entry. entry.0) (filter (λ entry. not (same_name table entry.1.name name)) (links_at rows old.numbers))
   pub heads : new.heads ≡ map (link_head table) (filter (λ entry. not (same_name table entry.1.name name)) (links_at rows old.numbers))

@@ -21,10 +21,10 @@
 //! streams.after(&upcase, file, units);    // so does this, for the first one behind a name
 //!
 //! names.reserve(dir, 1)?;
-//! names.add(&table, &upcase, id, dir, units);     // before the link is added to its table
-//! names.child(&table, &upcase, dir, units);       // by binary search
-//! names.children_after(&table, &upcase, dir, after);      // those behind a name, in one piece
-//! names.children_beginning(&table, &upcase, dir, after, units);   // of these, those that begin so
+//! names.add(&links, &upcase, id, dir, units);     // before the link is added to its table
+//! names.child(&links, &upcase, dir, units);       // by binary search
+//! names.children_after(&links, &upcase, dir, after);      // those behind a name, in one piece
+//! names.children_beginning(&links, &upcase, dir, after, units);   // of these, those that begin so
 //!
 //! space.reserve(1)?;
 //! space.admit(owner);                     // takes no memory
@@ -38,12 +38,13 @@
 //! handles, by calls, streams and links, have all of them, and that the counts of a stream or a link are those of its
 //! handles.
 //!
-//! `Directories` has for each directory the numbers of its links in the order of their names, beside the table that
-//! has the names; `LinkTable` keeps one. It has the head of each name too, its first units in one number, among which a
-//! name is searched: mostly one row is looked up, and none where no head is that of the name. Where a name comes or
-//! goes, 24 bytes move of each of those of its directory before it or of those behind it, whichever are fewer. A
-//! directory has an index from the first room that is promised to it on; where the link of a directory goes, so does its
-//! index, unless room is promised to it.
+//! `NamesByDirectory` has for each directory an index, the numbers of its links in the order of their names, beside the
+//! table that has the names; `LinkTable` keeps one. An index has the head of each name too, its first units in one
+//! number, among which a name is searched: mostly one row is looked up, and none where no head is that of the name.
+//! Where a name goes, 24 bytes move of each of those of its directory before it or of those behind it, whichever are
+//! fewer; where one comes, of those behind it, or of those before it where they are fewer and there is a free slot
+//! before them. A directory has an index from the first room that is promised to it on; where the link of a directory
+//! goes, so does its index, unless it has names or room is promised to it.
 //!
 //! - It asks that room was reserved and that numbers are left; `add_lock` asks that the handle has a
 //!   stream, and not whether the range conflicts with another. A tally asks that owners are admitted, that
@@ -65,7 +66,6 @@
 mod among;
 mod beginning;
 mod call_key;
-mod directories;
 mod handle_index;
 mod handle_shares;
 mod handle_table;
@@ -73,6 +73,7 @@ mod head;
 mod link_table;
 mod lock_row;
 mod name_index;
+mod names_by_directory;
 mod ranges;
 mod room_list;
 mod share_table;
@@ -80,10 +81,10 @@ mod space;
 mod stream_table;
 
 pub use call_key::key_of;
-pub use directories::Directories;
 pub use handle_table::HandleTable;
 pub use link_table::LinkTable;
 pub use lock_row::LockRow;
+pub use names_by_directory::NamesByDirectory;
 pub use room_list::RoomList;
 pub use space::SpaceTally;
 pub use stream_table::StreamTable;

@@ -1,25 +1,25 @@
-//! The links of a volume, those of each directory in the order of their names, and the room for more of them in each directory.
+//! The links of a volume, those of each directory in the order of their names, and the room for more of them there.
 
-ghost use Rattle.std.specs.Prelude.{ℕ, ◌≡◌, ◌≤◌, ◌<◌, ◌+◌, ◌^◌, ◌++◌, ◌∷◌, ◌&&◌, not, [], ◌==◌, false, None, OnOk, OnErr, filter, find, map, option_map, position};
+ghost use Rattle.std.specs.Prelude.{ℕ, ◌≡◌, ◌≤◌, ◌<◌, ◌+◌, ◌^◌, ◌++◌, ◌∷◌, ◌&&◌, not, [], ◌==◌, false, IsOk, None, OnOk, filter, find, map, option_map};
 ghost use Rattle.std.specs.List.{list_any};
 ghost use Rattle.std.specs.Option.{option_copied};
-ghost use Rattle.fsa_types.specs.Rows.{row_of, without_row, with_row_changed, IsNumbered};
+ghost use Rattle.fsa_types.specs.Rows.{row_of, without_row, with_row_changed};
 ghost use Rattle.fsa_model.specs.Lookups.{has_child, is_named};
 ghost use Rattle.object_tables.specs.Next.{IsNext};
 ghost use Rattle.volume_rows.specs.Children.{links_after};
 ghost use Rattle.volume_tables.specs.Beginnings.{begins_with};
 ghost use Rattle.volume_tables.specs.Rooms.{room_in};
 
-use crate::directories::Directories;
+use crate::names_by_directory::NamesByDirectory;
 use crate::room_list::RoomList;
 use fsa_types::{Name, NoMemory, UpcaseTable};
 use std::alloc::Global;
 use std::marker::Model;
 use volume_rows::{LinkRow, LinksByFile};
 
-/// Links under numbers that rise from 1, and for each directory how many more can be added to it
+/// Links under numbers that rise from 1, and for each directory how many more can be added or moved to it
 /// without taking memory. Adding to one directory leaves the room of the others. A name is found in its
-/// directory, and where those that follow it begin and end, by binary search; names compare by the case table, and
+/// directory, and where those that follow it begin, by binary search; names compare by the case table, and
 /// those of one directory differ.
 #[derive(Debug, Drop)]
 pub struct LinkTable {
@@ -27,7 +27,7 @@ pub struct LinkTable {
     // Links by number and by file.
     links: LinksByFile,
     // The numbers of the links of each directory, in the order of their names.
-    names: Directories,
+    names: NamesByDirectory,
     // What was promised to each directory. The table has all of it, and the index of each directory its own.
     rooms: RoomList,
 }
@@ -56,18 +56,19 @@ impl LinkTable {
         LinkTable {
             table,
             links: LinksByFile::new(alloc),
-            names: Directories::new(alloc),
+            names: NamesByDirectory::new(alloc),
             rooms: RoomList::new(alloc),
         }
     }
 
-    /// Takes room for so many links of this directory, in all that it has room for. `NoMemory` where
-    /// there is none.
+    /// Sees to it that this directory has room for so many more links, those promised before among them. `NoMemory`
+    /// where there is none; never where it has that room already.
     pub fn reserve(&mut self, dir: u64, links: usize) -> Result<(), NoMemory>
         ensures table { self.new.table ≡ self.old.table }
         ensures rows { self.new.rows ≡ self.old.rows }
         ensures last { self.new.last ≡ self.old.last }
         ensures room { OnOk result (links ≤ room_in self.new.rooms dir) }
+        ensures succeeds { links ≤ room_in self.old.rooms dir → IsOk result }
         ensures kept { (other : ℕ) → room_in self.old.rooms other ≤ room_in self.new.rooms other }
     {
         if links <= self.rooms.room_in(dir) {
@@ -126,7 +127,7 @@ impl LinkTable {
             .children_after(self.links.table(), &self.table, dir, after)
     }
 
-    /// Those of these numbers whose links have names that begin with these units, in the same order.
+    /// Of the numbers that `children_after` gives those of links whose names begin with these units, in the same order.
     pub fn children_beginning(&self, dir: u64, after: Option<&[u16]>, units: &[u16]) -> &[u64]
         ensures { result.now ≡ map (λ entry. entry.0) (filter (λ entry. begins_with self.now.table units.now entry.1.name) (links_after self.now.table dir (option_copied after.entry) self.now.rows)) }
     {
@@ -174,7 +175,8 @@ impl LinkTable {
     }
 
     /// Gives a link another name, in this directory or in another one, which no other link has there. There has to be
-    /// room for it there. It takes no memory, and no room of another directory.
+    /// room for it there. It takes no memory, and no room of another directory. Of a link that isn't there nothing
+    /// changes.
     pub fn move_to(&mut self, id: u64, parent: u64, name: Name)
         requires room { 1 ≤ room_in self.old.rooms parent }
         requires free { list_any (λ entry. not (entry.0 == id) && is_named self.old.table parent name entry.1) self.old.rows ≡ false }

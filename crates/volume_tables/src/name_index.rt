@@ -61,7 +61,7 @@ impl NameIndex {
         Ok(())
     }
 
-    /// Whether there is no number.
+    /// True only where there is no number.
     pub fn is_empty(&self) -> bool
         ensures { result ≡ true → (self.now.numbers ≡ []) × (self.now.heads ≡ []) }
     {
@@ -102,7 +102,7 @@ impl NameIndex {
         )
     }
 
-    /// Those of these numbers whose links have names that begin with these units, in the same order.
+    /// Of the numbers that `after` gives those of links whose names begin with these units, in the same order.
     pub fn beginning(
         &self,
         links: &Table<LinkRow>,
