@@ -20,8 +20,8 @@
 //!   numbers have to be left for a file, a link, two streams, a handle and breaks.
 //! - All room is taken before the first change. A refusal leaves the volume as it was, but for the breaks
 //!   that a clash began.
-//! - It costs time linear in the units of the path, a binary search among the links for each component, and the break
-//!   and the look at the handles of what is found.
+//! - It costs time linear in the units of the path, a binary search among the directories and one among
+//!   the names of a directory for each component, and the break and the look at the handles of what is found.
 #![tactic(auto)]
 
 mod asked;
