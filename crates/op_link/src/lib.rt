@@ -24,9 +24,10 @@
 //! - All room is taken before the first change, a break among the changes: for the new name, for the notes of
 //!   the link before and after, and for a note of the link that is replaced. A refusal leaves the volume as it
 //!   was, but for the breaks that were begun.
-//! - It costs its breaks, and time linear in the units of the path, with a binary search among the directories and
-//!   one among the names of a directory for each component, and for each directory above the new name, the old one and that of what is replaced; for a directory
-//!   also a look at all handles, each with the way up from it; a link counts those of its file.
+//! - It costs its breaks, and time linear in the units of the path, with a binary search among the directories and one
+//!   among the names of a directory for each component, and for each directory above the new name, the old one and that
+//!   of what is replaced; for a directory also a look at all handles, each with the way up from it; a link counts those
+//!   of its file.
 #![tactic(auto)]
 
 mod breaks;

@@ -39,16 +39,16 @@
 //! each as a condition of the call. What soundness says of a row that is found or added is told by the
 //! call that finds or adds it, so that no caller needs a law of its own.
 //!
-//! A file, a link, a stream or a handle is found by its number in time logarithmic in the rows of its
-//! table, and so is the least number above another; the handle of a call, and a client's next handle, in time
-//! logarithmic in the handles; an owner's charge in time logarithmic in the owners; the
-//! clusters of all streams are kept. A link is found by its name by a binary search among the directories that
-//! have names, and then among the names of one; so is where the links of a directory stand that are behind a name and
-//! begin with given units, which are lent in one piece. The links
-//! of a file, and its streams by name, are found in time logarithmic in all of them, and linear in the file's own; so a
-//! note and `is_at_or_below` cost that for each directory above. Any other look-up costs time linear in the rows; one of
-//! the handles below a directory, a binary search and the way up for each. The next pending call is found in time logarithmic in those that are pending, as long as they came in the order of
-//! their turns, as those of a run do. A break costs what `volume_breaks` and `oplock_state` say, and the bytes of a
+//! A file, a link, a stream or a handle is found by its number in time logarithmic in the rows of its table, and so
+//! is the least number above another; the handle of a call, and a client's next handle, in time logarithmic in the
+//! handles; an owner's charge in time logarithmic in the owners; the clusters of all streams are kept. A link is
+//! found by its name by a binary search among the directories that have names, and then among the names of one; so
+//! is where the links of a directory stand that are behind a name and begin with given units, which are lent in one
+//! piece. The links of a file, and its streams by name, are found in time logarithmic in all of them, and linear in
+//! the file's own; so a note and `is_at_or_below` cost that for each directory above. Any other look-up costs time
+//! linear in the rows; one of the handles below a directory, a binary search and the way up for each. The next
+//! pending call is found in time logarithmic in those that are pending, as long as they came in the order of their
+//! turns, as those of a run do. A break costs what `volume_breaks` and `oplock_state` say, and the bytes of a
 //! stream what `stream_pages` says.
 //!
 //! A call that is held waits for breaks and locks; whatever ends one of these tells the queue of held calls,
