@@ -1,4 +1,4 @@
-//! Items in order, with spare room, of which the fewer move as one comes or goes.
+//! Items in order, with spare room, of which the fewer move as one goes.
 
 ghost use Rattle.std.specs.Prelude.{◌≡◌, ◌≤◌, ◌<◌, ◌+◌, ◌-◌, ◌++◌, ◌∷◌, [], true, false, IsOk, OnOk, drop, length, slice_index_or, take};
 ghost use Rattle.std.specs.Fn.{CalledAt};
@@ -10,8 +10,9 @@ use fsa_types::NoMemory;
 use std::alloc::Global;
 use std::marker::Model;
 
-/// Items in order, with spare room. Putting an item in or taking some out moves the items before the place or
-/// those behind it, whichever are fewer: where most go from the front, little moves.
+/// Items in order, with spare room. Taking some out moves the items before the place or those behind it, whichever are
+/// fewer: where most go from the front, little moves. Putting one in moves those behind the place, or those before it
+/// where they are fewer and a slot before them is free, as it is where some were taken out at the front.
 #[derive(Debug, Drop)]
 pub struct ShiftList<T> {
     // The first `start` slots are free: what stands there was moved or taken out.
