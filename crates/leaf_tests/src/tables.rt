@@ -1,10 +1,11 @@
-//! Tables of rows, lists in order, a directory's names and the charges of owners: each call that takes memory.
+//! Tables of rows, lists in order, a directory's links and the charges of owners: each call that takes memory.
 
 use fsa_types::{Name, UpcaseTable};
 use link_index::Directory;
 use object_tables::{Series, Table};
 use std::test::Fail;
 use tallies::Charges;
+use volume_rows::LinkRow;
 
 #[test]
 fn rows(rt: HostRuntime) -> Result<(), Fail> {
@@ -17,16 +18,27 @@ fn rows(rt: HostRuntime) -> Result<(), Fail> {
     Ok(())
 }
 
+// A link is put in by its name, found by the same name in capitals, and taken out by it; it is added to the table of
+// links in between.
 #[test]
 fn directories(rt: HostRuntime) -> Result<(), Fail> {
     let alloc = rt.alloc();
-    let table = UpcaseTable::ascii(alloc)?;
+    let upcase = UpcaseTable::ascii(alloc)?;
+    let mut links: Table<LinkRow> = Table::new(alloc);
+    assert_eq!(rt; links.reserve(1), Ok(()));
     let mut dir = Directory::new(alloc);
     assert_eq!(rt; dir.reserve(20_000), Ok(()));
-    let name = Name::copy_of(alloc, &[0x62])?;
-    assert!(rt; dir.insert(&table, name, 7).is_ok());
-    assert_eq!(rt; dir.get(&table, &[0x42]), Some(7));
-    assert_eq!(rt; dir.remove(&table, &[0x42]), Some(7));
+    dir.insert(&links, &upcase, 1, &[0x62]);
+    let row = LinkRow {
+        parent: 1,
+        name: Name::copy_of(alloc, &[0x62])?,
+        file: 2,
+        deleted: false,
+    };
+    assert!(rt; links.add(row).is_ok());
+    assert_eq!(rt; dir.get(&links, &upcase, &[0x42]), Some(1));
+    assert!(rt; dir.after(&links, &upcase, Some(&[0x62])).is_empty());
+    assert_eq!(rt; dir.remove(&links, &upcase, &[0x42]), Some(1));
     assert!(rt; dir.is_empty());
     Ok(())
 }

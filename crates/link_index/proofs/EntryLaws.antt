@@ -1,9 +1,6 @@
 -- What stands at a place among entries, told by what fails and passes before it and behind it.
-use Rattle.std.proofs.Common.{◌≡◌, ℕ, zero, suc, ◌+◌, ◌<◌, ◌≤◌, Bool, true, false, not, List, [], ◌∷◌, length, get_or, refl, ap, sym, arith, inl, inr, Some, None}
-use Rattle.std.specs.List.{All, AllPairs, AllWithin, HoldsAt, filter, find, insert, remove, slice_get}
-use Rattle.std.proofs.lemmas.Bool.{cases_Bool}
-use Rattle.std.proofs.lemmas.List.Elements.{All-cons}
-use Rattle.std.proofs.lemmas.List.Kept.{AllPairs-cons}
+use Rattle.std.proofs.Common.{◌≡◌, ℕ, zero, suc, ◌+◌, ◌<◌, ◌≤◌, Bool, true, false, not, List, [], ◌∷◌, length, get_or, refl, ap, sym, arith, Some, None}
+use Rattle.std.specs.List.{All, AllWithin, HoldsAt, filter, find, insert, remove, slice_get}
 use Rattle.std.specs.Fn.{Called, ReturnsEach, AlwaysReturns}
 use denote.Param.Members.{Mut}
 use Rattle.fsa_types.specs.Sorting.{put_in_order}
@@ -46,21 +43,6 @@ insert-here before item (x ∷ xs) (suc i) within fails passes =
     let other : before item x ≡ false = fails 0 x (omega arith) (omega arith) in
     rw other (ap (λ rest. x ∷ rest) (insert-here before item xs i (omega arith) (from-start (λ y. before item y ≡ false) x xs i fails) (λ inside d. passes (omega arith) d)))
 
--- a relation of each to all behind it stays, where those before the place have it to the item, and the item has it to those behind
-All-insert : {X : Type 0} (P : X → Type 0) (xs : List X) (i : ℕ) (x : X) → i ≤ length xs → P x → All P xs → All P (insert xs i x)
-All-insert P xs zero x within here all = All-cons P x xs here all
-All-insert P [] (suc i) x within here all = absurd (omega arith)
-All-insert P (y ∷ ys) (suc i) x within here all =
-    All-cons P y (insert ys i x) (all 0 y (omega arith)) (All-insert P ys i x (omega arith) here (λ k d w. all (suc k) d (omega arith)))
-
-pub AllPairs-insert : {X : Type 0} (R : X → X → Type 0) (xs : List X) (i : ℕ) (x : X) → i ≤ length xs → AllWithin (λ y. R y x) xs 0 i → AllWithin (λ y. R x y) xs i (length xs) → AllPairs R xs → AllPairs R (insert xs i x)
-AllPairs-insert R xs zero x within before after all = AllPairs-cons R x xs (λ k d w. after k d (omega arith) w) all
-AllPairs-insert R [] (suc i) x within before after all = absurd (omega arith)
-AllPairs-insert R (y ∷ ys) (suc i) x within before after all =
-    AllPairs-cons R y (insert ys i x)
-    (All-insert (R y) ys i x (omega arith) (before 0 y (omega arith) (omega arith)) (λ k d w. all 0 (suc k) d (omega arith) (omega arith)))
-    (AllPairs-insert R ys i x (omega arith) (from-start (λ z. R z x) y ys i before) (λ k d from inside. after (suc k) d (omega arith) (omega arith)) (λ a b d less inside. all (suc a) (suc b) d (omega arith) (omega arith)))
-
 -- ---- all but one
 
 -- none is left out
@@ -80,19 +62,6 @@ remove-here p (x ∷ xs) zero within before here after =
 remove-here p (x ∷ xs) (suc i) within before here after =
     let fails : p x ≡ false = before 0 x (omega arith) (omega arith) in
     rw fails (ap (λ rest. x ∷ rest) (remove-here p xs i (omega arith) (from-start (λ y. p y ≡ false) x xs i before) (λ d. here d) (λ k d from inside. after (suc k) d (omega arith) (omega arith))))
-
--- none of those that are left passes
-pub filter-fails : {X : Type 0} (p : X → Bool) (xs : List X) → All (λ x. p x ≡ false) (filter (λ x. not (p x)) xs)
-filter-fails p [] = λ k d within. absurd (omega arith)
-filter-fails p (x ∷ xs) = elim (cases_Bool (p x)) [
-  | inl passes ↦ rw passes (filter-fails p xs)
-  | inr fails ↦ rw fails (All-cons (λ y. p y ≡ false) x (filter (λ y. not (p y)) xs) fails (filter-fails p xs))
-]
-
--- the first that passes is the first of those that pass
-pub find-filter : {X : Type 0} (p : X → Bool) (xs : List X) → find p xs ≡ slice_get (filter p xs) 0
-find-filter p [] = refl
-find-filter p (x ∷ xs) = elim (cases_Bool (p x)) [ inl passes ↦ rw passes refl | inr fails ↦ rw fails (find-filter p xs) ]
 
 -- ---- what is read at a place
 

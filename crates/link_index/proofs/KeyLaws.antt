@@ -138,7 +138,7 @@ module _ {X : Type 0} (key : X → List ℕ) where
   differ-first : (x : X) (xs : List X) → KeysDiffer key (x ∷ xs) → All (λ y. is_eq (cmp_keys (key x) (key y)) ≡ false) xs
   differ-first x xs differ k d within = differ 0 (suc k) d (omega arith) (omega arith)
 
-  put-ordered : (x : X) (ys : List X) → All (λ y. is_eq (cmp_keys (key x) (key y)) ≡ false) ys → AreInKeyOrder key ys → AreInKeyOrder key (put_in_order (is_key_before key) x ys)
+  pub put-ordered : (x : X) (ys : List X) → All (λ y. is_eq (cmp_keys (key x) (key y)) ≡ false) ys → AreInKeyOrder key ys → AreInKeyOrder key (put_in_order (is_key_before key) x ys)
   put-ordered x [] differ ordered = λ i j d less within. absurd (omega arith)
   put-ordered x (y ∷ ys) differ ordered = go (put-ordered x ys (λ k d within. differ (suc k) d (omega arith)) (ordered-rest y ys ordered)) (apart (key x) (key y) (differ 0 y (omega arith)))
     where
@@ -162,10 +162,6 @@ module _ {X : Type 0} (key : X → List ℕ) where
   put-first : (x : X) (ys : List X) → All (λ y. cmp_keys (key x) (key y) ≡ Less) ys → put_in_order (is_key_before key) x ys ≡ x ∷ ys
   put-first x [] all = refl
   put-first x (y ∷ ys) all = let here : is_key_before key x y ≡ true = ap is_lt (all 0 y (omega arith)) in rw here refl
-
-  pub in_order-stays : (xs : List X) → AreInKeyOrder key xs → in_order (is_key_before key) xs ≡ xs
-  in_order-stays [] ordered = refl
-  in_order-stays (x ∷ xs) ordered = rw (in_order-stays xs (ordered-rest x xs ordered)) (put-first x xs (ordered-first x xs ordered))
 
   -- ---- one more
 

@@ -1,3 +1,6 @@
+pub mod BeginningLemmas
+pub mod ChildLemmas
 pub mod EntryLaws
+pub mod HeadLemmas
 pub mod KeyLaws
-pub mod NameLaws
+pub mod NameLemmas

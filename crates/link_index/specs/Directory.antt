@@ -1,63 +1,56 @@
--- The names of a directory with their links, in the order of names, beside the room for more of them.
-use Rattle.std.specs.Prelude.{◌≡◌, ℕ, ◌+◌, ◌≤◌, ◌<◌, Bool, false, not, List, Option, All, AllPairs, filter, find, option_map, length, MatchResult, Result}
-use Rattle.std.specs.List.{AllWithin, HoldsAt}
-use Rattle.std.specs.Ordering.{is_lt}
-use Rattle.std.specs.declared.cmp.Ordering.TheVariants.{Less, Equal, Greater}
-use Rattle.fsa_types.specs.CaseTable.{same_name, cmp_name}
+-- A directory's links in the order of their names.
+use Rattle.std.specs.Prelude.{◌≡◌, ℕ, ◌≤◌, ◌+◌, not, true, false, Bool, List, [], Option, filter, length, map}
+use Rattle.std.specs.List.{AllWithin}
+use Rattle.std.specs.Option.{option_map_or}
+use Rattle.fsa_types.specs.CaseTable.{same_name}
+use Rattle.fsa_types.specs.Rows.{row_of}
 use Rattle.fsa_types.specs.Sorting.{put_in_order}
+use Rattle.fsa_model.specs.Volume.{Link}
+use Rattle.link_index.specs.Keyed.{AreInKeyOrder, is_key_before}
+use Rattle.volume_rows.specs.Children.{is_name_after}
+use Rattle.link_index.specs.Beginnings.{name_key}
+use Rattle.link_index.specs.Heads.{link_head}
 
--- the names with their links, in order; and how many more can be put in without taking memory
+-- the numbers of the links, the heads of their names, and how many more can be put in without taking memory
 pub record Listing : Type 0 where
-  pub entries : List (List ℕ × ℕ)
+  pub numbers : List ℕ
+  pub heads : List ℕ
   pub room : ℕ
 
--- one entry stands before another: its upcased name comes first
-abbrev pub is_before : List (ℕ × ℕ) → List ℕ × ℕ → List ℕ × ℕ → Bool
-is_before table one other = is_lt (cmp_name table one.0 other.0)
+-- the link of a number; where there is none, a nameless one in no directory
+abbrev pub link_at : List (ℕ × Link) → ℕ → ℕ × Link
+link_at rows id = (id, option_map_or (λ row. row) (row_of rows id) (record { parent = 0; name = []; file = 0; deleted = false }))
 
--- the entries are in the table's order, and their names differ by it
-abbrev pub AreInOrder : List (ℕ × ℕ) → List (List ℕ × ℕ) → Type 0
-AreInOrder table entries = AllPairs (λ one other. cmp_name table one.0 other.0 ≡ Less) entries
+-- the links of numbers, in their order
+abbrev pub links_at : List (ℕ × Link) → List ℕ → List (ℕ × Link)
+links_at rows numbers = map (link_at rows) numbers
 
--- names differ by the table
-abbrev pub NamesDiffer : List (ℕ × ℕ) → List (List ℕ × ℕ) → Type 0
-NamesDiffer table entries = AllPairs (λ one other. same_name table one.0 other.0 ≡ false) entries
+-- the links are in the order of their names, which differ, and the heads are those of these names; a number that the
+-- table doesn't have counts as a nameless link
+pub record AreInNameOrder (table : List (ℕ × ℕ)) (rows : List (ℕ × Link)) (dir : Listing) : Type 0 where
+  pub ordered : AreInKeyOrder (name_key table) (links_at rows dir.numbers)
+  pub heads : dir.heads ≡ map (link_head table) (links_at rows dir.numbers)
 
--- an entry has this name
-abbrev pub is_named : List (ℕ × ℕ) → List ℕ → List ℕ × ℕ → Bool
-is_named table name entry = same_name table entry.0 name
+-- a directory has what it had, and no less room
+pub record KeepsNames (old new : Listing) : Type 0 where
+  pub numbers : new.numbers ≡ old.numbers
+  pub heads : new.heads ≡ old.heads
+  pub room : old.room ≤ new.room
 
--- no entry has it
-abbrev pub IsNew : List (ℕ × ℕ) → List ℕ → List (List ℕ × ℕ) → Type 0
-IsNew table name entries = All (λ entry. is_named table name entry ≡ false) entries
+-- the links behind a name begin at this place; without a name all are behind
+pub record IsBegin (table : List (ℕ × ℕ)) (links : List (ℕ × Link)) (after : Option (List ℕ)) (place : ℕ) : Type 0 where
+  pub before : AllWithin (λ entry. is_name_after table after entry.1.name ≡ false) links 0 place
+  pub behind : AllWithin (λ entry. is_name_after table after entry.1.name ≡ true) links place (length links)
 
--- the entry of this name
-abbrev pub entry_of : List (ℕ × ℕ) → List (List ℕ × ℕ) → List ℕ → Option (List ℕ × ℕ)
-entry_of table entries name = find (is_named table name) entries
+-- the number of a link was put in the place of this name, whatever the table has under it so far and whatever else the
+-- link is, and took at most one room
+pub record IsNamePut (table : List (ℕ × ℕ)) (rows : List (ℕ × Link)) (id : ℕ) (name : List ℕ) (old new : Listing) : Type 0 where
+  pub numbers : (parent file : ℕ) (deleted : Bool) → new.numbers ≡ map (λ entry. entry.0) (put_in_order (is_key_before (name_key table)) (id, record { parent = parent; name = name; file = file; deleted = deleted }) (links_at rows old.numbers))
+  pub heads : (parent file : ℕ) (deleted : Bool) → new.heads ≡ map (link_head table) (put_in_order (is_key_before (name_key table)) (id, record { parent = parent; name = name; file = file; deleted = deleted }) (links_at rows old.numbers))
+  pub left : old.room ≤ new.room + 1
 
--- the link of this name
-abbrev pub link_of : List (ℕ × ℕ) → List (List ℕ × ℕ) → List ℕ → Option ℕ
-link_of table entries name = option_map (λ entry. entry.1) (entry_of table entries name)
-
--- an entry's name is greater than this one
-abbrev pub is_after : List (ℕ × ℕ) → List ℕ → List ℕ × ℕ → Bool
-is_after table name entry = is_lt (cmp_name table name entry.0)
-
--- the first entry whose name is greater
-abbrev pub entry_after : List (ℕ × ℕ) → List (List ℕ × ℕ) → List ℕ → Option (List ℕ × ℕ)
-entry_after table entries name = find (is_after table name) entries
-
--- the entries with one more, which stands before the first that it comes before
-abbrev pub with_entry : List (ℕ × ℕ) → List (List ℕ × ℕ) → List ℕ × ℕ → List (List ℕ × ℕ)
-with_entry table entries entry = put_in_order (is_before table) entry entries
-
--- all entries but that of this name
-abbrev pub without_name : List (ℕ × ℕ) → List (List ℕ × ℕ) → List ℕ → List (List ℕ × ℕ)
-without_name table entries name = filter (λ entry. not (is_named table name entry)) entries
-
--- where a search for a name ends: at its entry, or at the place where it would stand. What stands
--- before is less, and what stands behind greater
-abbrev pub IsPlace : List (ℕ × ℕ) → List (List ℕ × ℕ) → List ℕ → Result ℕ ℕ → Type 0
-IsPlace table entries name searched = MatchResult searched
-    (λ i. (i < length entries) × AllWithin (λ e. cmp_name table e.0 name ≡ Less) entries 0 i × HoldsAt (λ e. cmp_name table e.0 name ≡ Equal) entries i × AllWithin (λ e. cmp_name table e.0 name ≡ Greater) entries (i + 1) (length entries))
-    (λ i. (i ≤ length entries) × AllWithin (λ e. cmp_name table e.0 name ≡ Less) entries 0 i × AllWithin (λ e. cmp_name table e.0 name ≡ Greater) entries i (length entries))
+-- the link of this name, if there is one, was taken out, and the room is no less
+pub record IsNameTaken (table : List (ℕ × ℕ)) (rows : List (ℕ × Link)) (name : List ℕ) (old new : Listing) : Type 0 where
+  pub numbers : new.numbers ≡ map (λ entry. entry.0) (filter (λ entry. not (same_name table entry.1.name name)) (links_at rows old.numbers))
+  pub heads : new.heads ≡ map (link_head table) (filter (λ entry. not (same_name table entry.1.name name)) (links_at rows old.numbers))
+  pub kept : old.room ≤ new.room

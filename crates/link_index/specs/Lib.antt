@@ -1,2 +1,4 @@
+pub mod Beginnings
 pub mod Directory
+pub mod Heads
 pub mod Keyed

@@ -1,198 +1,341 @@
-//! A directory's names with their links.
+//! A directory's links in the order of their names.
 
-ghost use Rattle.std.specs.Prelude.{◌≡◌, ◌≤◌, ◌+◌, ◌==◌, [], length, option_map, slice_get, IsOk, IfErr, IfNone, IsSome, OnOk, OnErr, Err};
-ghost use Rattle.fsa_types.specs.CaseTable.{cmp_name};
-ghost use Rattle.link_index.specs.Directory.{AreInOrder, IsNew, IsPlace, entry_after, entry_of, link_of, with_entry, without_name};
+ghost use Rattle.std.specs.Prelude.{ℕ, List, ◌≡◌, ◌≤◌, ◌+◌, ◌<◌, [], false, true, All, Err, IsOk, None, OnOk, Some, filter, find, length, map, option_map, slice_get};
+ghost use Rattle.std.specs.List.Sorted.{IsBinarySearchResult, IsSearchInRange};
+ghost use Rattle.std.specs.Option.{option_copied};
+ghost use Rattle.std.specs.Ordering.{nat_cmp};
+ghost use Rattle.fsa_types.specs.CaseTable.{cmp_name, same_name, upcased};
+ghost use Rattle.fsa_model.specs.Volume.{Link};
+ghost use Rattle.link_index.specs.Keyed.{AreInKeyOrder, IsKeyPlace};
+ghost use Rattle.volume_rows.specs.Children.{is_name_after};
+ghost use Rattle.link_index.specs.Beginnings.{begins_with, name_key};
+ghost use Rattle.link_index.specs.Heads.{head_of, link_head};
+ghost use Rattle.link_index.specs.Directory.{AreInNameOrder, IsBegin, IsNamePut, IsNameTaken, KeepsNames, link_at, links_at};
 
-use fsa_types::{Name, NoMemory, UpcaseTable};
-use std::alloc::{AllocFailed, Global};
+use crate::beginning::beginning_with;
+use crate::head::head_of;
+use fsa_types::{NoMemory, UpcaseTable};
+use object_tables::{ShiftList, Table};
+use std::alloc::Global;
 use std::cmp::Ordering;
 use std::marker::Model;
+use volume_rows::LinkRow;
 
-/// The names of a directory with the numbers of their links, in the order of their upcased units. It
-/// is seen as that list, beside the room for more names.
+/// The links of a directory in the order of their upcased names, which differ: it is seen as the list of their numbers,
+/// which with a table of links is one of numbers and links, beside the heads of their names and the room for more links.
+/// The names stand in that table alone; among the heads a name is searched, so that few names are looked up.
 #[derive(Debug, Drop)]
 pub struct Directory {
-    entries: Vec<(Name, u64)>,
+    numbers: ShiftList<u64>,
+    // The first units of each name, packed.
+    heads: ShiftList<u128>,
 }
 
 impl Model for Directory {
-    ghost use Rattle.std.specs.Prelude.{◌-◌};
-    ghost use Rattle.std.specs.Vec.{vec_capacity, vec_len};
+    ghost use Rattle.std.specs.Prelude.{min};
     ghost use Rattle.link_index.specs.Directory.{Listing};
 
     ghost Value = { Listing };
 
-    ghost view = { λ d. record { entries = d.entries.items; room = vec_capacity d.entries - vec_len d.entries } };
+    ghost view = { λ n. record { numbers = n.numbers.items; heads = n.heads.items; room = min n.numbers.room n.heads.room } };
 }
 
 impl Directory {
-    /// A directory without names. It takes no memory.
+    /// A directory without links. It takes no memory.
     pub fn new(alloc: Global) -> Directory
-        ensures { result.entries ≡ [] }
+        ensures numbers { result.numbers ≡ [] }
+        ensures heads { result.heads ≡ [] }
     {
         Directory {
-            entries: Vec::new(alloc),
+            numbers: ShiftList::new(alloc),
+            heads: ShiftList::new(alloc),
         }
     }
 
-    /// Takes room for `more` names beside those that are there. `NoMemory` where there is none.
+    /// Takes room for `more` links beside those that are there. `NoMemory` where there is none.
     pub fn reserve(&mut self, more: usize) -> Result<(), NoMemory>
-        ensures entries { self.new.entries ≡ self.old.entries }
+        ensures kept { KeepsNames self.old self.new }
         ensures room { OnOk result (more ≤ self.new.room) }
-        ensures kept { self.old.room ≤ self.new.room }
+        ensures succeeds { more ≤ self.old.room → IsOk result }
     {
-        self.entries.reserve(more)?;
+        self.numbers.reserve(more)?;
+        self.heads.reserve(more)?;
         Ok(())
     }
 
-    /// The number of names.
-    pub fn len(&self) -> usize
-        ensures { result ≡ length self.now.entries }
-    {
-        self.entries.len()
-    }
-
-    /// Whether there is no name.
+    /// Whether there is no link.
     pub fn is_empty(&self) -> bool
-        ensures { result ≡ (length self.now.entries == 0) }
+        ensures none { result ≡ true → (self.now.numbers ≡ []) × (self.now.heads ≡ []) }
+        ensures told { self.now.numbers ≡ [] → self.now.heads ≡ [] → result ≡ true }
     {
-        self.entries.is_empty()
+        self.numbers.len() == 0 && self.heads.len() == 0
     }
 
-    /// The least name with its link; `None` exactly where there is no name.
-    pub fn first(&self) -> Option<(&[u16], u64)>
-        ensures { option_map (λ entry. (entry.0.now, entry.1)) result ≡ slice_get self.now.entries 0 }
+    /// The link of this name; `None` exactly where there is none. Names are the same where their upcased units are equal.
+    pub fn get(&self, links: &Table<LinkRow>, table: &UpcaseTable, units: &[u16]) -> Option<u64>
+        requires { AreInNameOrder table.now links.now.rows self.now }
+        ensures { result ≡ option_map (λ entry. entry.0) (find (λ entry. same_name table.now entry.1.name units.now) (links_at links.now.rows self.now.numbers)) }
     {
-        entry_at(&self.entries, 0)
+        find_child(
+            self.heads.as_slice(),
+            self.numbers.as_slice(),
+            links,
+            table,
+            units,
+        )
     }
 
-    /// The link of this name; `None` exactly where no name is the same. Names are the same where
-    /// their upcased units are equal.
-    pub fn get(&self, table: &UpcaseTable, name: &[u16]) -> Option<u64>
-        requires { AreInOrder table.now self.now.entries }
-        ensures link { result ≡ link_of table.now self.now.entries name.now }
-
-        // Where there is none the name can be put in.
-        ensures is_new { IfNone result (IsNew table.now name.now self.now.entries) }
-    {
-        match place_of(&self.entries, table, name) {
-            Ok(place) => Some(self.entries[place].1),
-            Err(_) => None,
-        }
-    }
-
-    /// The least name that is greater than this one, with its link; `None` exactly where there is
-    /// none. This name need not be there.
-    pub fn after(&self, table: &UpcaseTable, name: &[u16]) -> Option<(&[u16], u64)>
-        requires { AreInOrder table.now self.now.entries }
-        ensures { option_map (λ entry. (entry.0.now, entry.1)) result ≡ entry_after table.now self.now.entries name.now }
-    {
-        let place = place_after(&self.entries, table, name);
-        entry_at(&self.entries, place)
-    }
-
-    /// Puts in a name that is new, with its link. It takes memory only where there is no spare room.
-    /// `NoMemory` hands the name back, and nothing has changed.
-    pub fn insert(
-        &mut self,
+    /// The numbers of the links whose names are greater than that one, in the order of names; of all of them where
+    /// there is no name.
+    pub fn after(
+        &self,
+        links: &Table<LinkRow>,
         table: &UpcaseTable,
-        name: Name,
-        link: u64,
-    ) -> Result<(), (Name, NoMemory)>
-        requires ordered { AreInOrder table.now self.old.entries }
-        requires is_new { IsNew table.now name self.old.entries }
-        ensures entries { OnOk result (self.new.entries ≡ with_entry table.now self.old.entries (name, link)) }
-        ensures succeeds { 1 ≤ self.old.room → IsOk result }
-        ensures left { self.old.room ≤ self.new.room + 1 }
-        ensures err { OnErr result (self.new.entries ≡ self.old.entries) }
-        ensures back { IfErr result (λ e. e.0 ≡ name) }
-        ensures still_ordered { AreInOrder table.now self.new.entries }
+        after: Option<&[u16]>,
+    ) -> &[u64]
+        requires { AreInNameOrder table.now links.now.rows self.now }
+        ensures { result.now ≡ map (λ entry. entry.0) (filter (λ entry. is_name_after table.now (option_copied after.entry) entry.1.name) (links_at links.now.rows self.now.numbers)) }
     {
-        let place = place_for(&self.entries, table, &name);
-        match self.entries.insert(place, (name, link)) {
-            Ok(()) => Ok(()),
-            Err(AllocFailed { value }) => Err((value.0, NoMemory)),
-        }
+        find_after(
+            self.heads.as_slice(),
+            self.numbers.as_slice(),
+            links,
+            table,
+            after,
+        )
     }
 
-    /// Takes a name out and answers its link; `None` exactly where no name is the same. It takes no
-    /// memory, and leaves the place of the name as room.
-    pub fn remove(&mut self, table: &UpcaseTable, name: &[u16]) -> Option<u64>
-        requires { AreInOrder table.now self.old.entries }
-        ensures link { result ≡ link_of table.now self.old.entries name.now }
-        ensures entries { self.new.entries ≡ without_name table.now self.old.entries name.now }
-        ensures room { self.old.room + length self.old.entries ≡ self.new.room + length self.new.entries }
-        ensures still_ordered { AreInOrder table.now self.new.entries }
-        ensures is_new { IsNew table.now name.now self.new.entries }
+    /// Of the numbers that `after` gives those of links whose names begin with these units, in the same order.
+    pub fn beginning(
+        &self,
+        links: &Table<LinkRow>,
+        table: &UpcaseTable,
+        after: Option<&[u16]>,
+        units: &[u16],
+    ) -> &[u64]
+        requires { AreInNameOrder table.now links.now.rows self.now }
+        ensures { result.now ≡ map (λ entry. entry.0) (filter (λ entry. begins_with table.now units.now entry.1.name) (filter (λ entry. is_name_after table.now (option_copied after.entry) entry.1.name) (links_at links.now.rows self.now.numbers))) }
     {
-        match self.take(table, name) {
-            Some((_, link)) => Some(link),
-            None => None,
-        }
+        beginning_with(self.after(links, table, after), links, table, units)
     }
 
-    /// Takes a name out and gives it, as it was put in, with its link; `None` exactly where no name
-    /// is the same. It takes no memory, and leaves the place of the name as room.
-    pub fn take(&mut self, table: &UpcaseTable, name: &[u16]) -> Option<(Name, u64)>
-        requires { AreInOrder table.now self.old.entries }
-        ensures entry { result ≡ entry_of table.now self.old.entries name.now }
-        ensures entries { self.new.entries ≡ without_name table.now self.old.entries name.now }
-        ensures room { self.old.room + length self.old.entries ≡ self.new.room + length self.new.entries }
-        ensures still_ordered { AreInOrder table.now self.new.entries }
-        ensures is_new { IsNew table.now name.now self.new.entries }
+    /// Puts in a link by its number and its name, which is new. The link may be added to its table later, as it has to be
+    /// before the next call that takes the table. There has to be room for it. It takes no memory.
+    pub fn insert(&mut self, links: &Table<LinkRow>, table: &UpcaseTable, id: u64, units: &[u16])
+        requires room { 1 ≤ self.old.room }
+        requires ordered { AreInNameOrder table.now links.now.rows self.old }
+        requires is_new { All (λ entry. same_name table.now entry.1.name units.now ≡ false) (links_at links.now.rows self.old.numbers) }
+        ensures put { IsNamePut table.now links.now.rows id units.now self.old self.new }
+
+        // The links are in order, in a table that has those that were there and this one under its name.
+        ensures still_ordered { (rows : List (ℕ × Link)) → links_at rows self.old.numbers ≡ links_at links.now.rows self.old.numbers → (link_at rows id).1.name ≡ units.now → AreInNameOrder table.now rows self.new }
     {
-        match place_of(&self.entries, table, name) {
-            Ok(place) => Some(self.entries.remove(place)),
+        let place = place_for(
+            self.heads.as_slice(),
+            self.numbers.as_slice(),
+            links,
+            table,
+            units,
+        );
+        self.numbers.insert(place, id);
+        self.heads.insert(place, head_of(table, units));
+    }
+
+    /// Takes the link of this name out and gives its number; `None` exactly where there is none. It takes no memory, and
+    /// leaves its place as room.
+    pub fn remove(
+        &mut self,
+        links: &Table<LinkRow>,
+        table: &UpcaseTable,
+        units: &[u16],
+    ) -> Option<u64>
+        requires { AreInNameOrder table.now links.now.rows self.old }
+        ensures link { result ≡ option_map (λ entry. entry.0) (find (λ entry. same_name table.now entry.1.name units.now) (links_at links.now.rows self.old.numbers)) }
+        ensures taken { IsNameTaken table.now links.now.rows units.now self.old self.new }
+        ensures room { (id : ℕ) → result ≡ Some id → self.old.room + 1 ≤ self.new.room }
+        ensures still_ordered { AreInNameOrder table.now links.now.rows self.new }
+    {
+        let found = place_of(
+            self.heads.as_slice(),
+            self.numbers.as_slice(),
+            links,
+            table,
+            units,
+        );
+        match found {
             Err(_) => None,
+            Ok(place) => {
+                let _ = self.heads.remove(place);
+                Some(self.numbers.remove(place))
+            }
         }
     }
 }
 
-// The entry at this place, its name lent.
-fn entry_at(entries: &[(Name, u64)], place: usize) -> Option<(&[u16], u64)>
-    ensures { option_map (λ entry. (entry.0.now, entry.1)) result ≡ slice_get entries.now place }
+// The link of this name.
+fn find_child(
+    heads: &[u128],
+    numbers: &[u64],
+    links: &Table<LinkRow>,
+    table: &UpcaseTable,
+    units: &[u16],
+) -> Option<u64>
+    requires ordered { AreInKeyOrder (name_key table.now) (links_at links.now.rows numbers.now) }
+    requires heads { heads.now ≡ map (link_head table.now) (links_at links.now.rows numbers.now) }
+    ensures { result ≡ option_map (λ entry. entry.0) (find (λ entry. same_name table.now entry.1.name units.now) (links_at links.now.rows numbers.now)) }
 {
-    match entries.get(place) {
-        Some(entry) => Some((entry.0.units(), entry.1)),
+    match place_of(heads, numbers, links, table, units) {
+        Ok(place) => number_of(numbers, place),
+        Err(_) => None,
+    }
+}
+
+// The number at this place.
+fn number_of(numbers: &[u64], place: usize) -> Option<u64>
+    ensures { result ≡ slice_get numbers.now place }
+{
+    match numbers.get(place) {
+        Some(id) => Some(*id),
         None => None,
     }
 }
 
-// The place of a name, or where it would stand, by binary search.
-fn place_of(entries: &[(Name, u64)], table: &UpcaseTable, name: &[u16]) -> Result<usize, usize>
-    requires { AreInOrder table.now entries.now }
-    ensures { IsPlace table.now entries.now name.now result }
+// The numbers of the links behind a name; without a name, of all of them.
+fn find_after<'a>(
+    heads: &[u128],
+    numbers: &'a [u64],
+    links: &Table<LinkRow>,
+    table: &UpcaseTable,
+    after: Option<&[u16]>,
+) -> &'a [u64]
+    requires ordered { AreInKeyOrder (name_key table.now) (links_at links.now.rows numbers.now) }
+    requires heads { heads.now ≡ map (link_head table.now) (links_at links.now.rows numbers.now) }
+    ensures { result.now ≡ map (λ entry. entry.0) (filter (λ entry. is_name_after table.now (option_copied after.entry) entry.1.name) (links_at links.now.rows numbers.now)) }
 {
-    entries.binary_search_by(|entry| cmp_entry(table, entry, name))
+    &numbers[begin_of(heads, numbers, links, table, after)..]
 }
 
-// The order of an entry's name and a name.
-fn cmp_entry(table: &UpcaseTable, entry: &(Name, u64), name: &[u16]) -> Ordering
-    ensures { result ≡ cmp_name table.now entry.now.0 name.now }
+// Where a new name stands.
+fn place_for(
+    heads: &[u128],
+    numbers: &[u64],
+    links: &Table<LinkRow>,
+    table: &UpcaseTable,
+    units: &[u16],
+) -> usize
+    requires ordered { AreInKeyOrder (name_key table.now) (links_at links.now.rows numbers.now) }
+    requires heads { heads.now ≡ map (link_head table.now) (links_at links.now.rows numbers.now) }
+    requires is_new { All (λ entry. same_name table.now entry.1.name units.now ≡ false) (links_at links.now.rows numbers.now) }
+    ensures { IsKeyPlace (name_key table.now) (links_at links.now.rows numbers.now) (upcased table.now units.now) (Err result) }
 {
-    table.cmp_name(entry.0.units(), name)
-}
-
-// The place of the first entry with a greater name.
-fn place_after(entries: &[(Name, u64)], table: &UpcaseTable, name: &[u16]) -> usize
-    requires { AreInOrder table.now entries.now }
-    ensures { slice_get entries.now result ≡ entry_after table.now entries.now name.now }
-{
-    match place_of(entries, table, name) {
-        Ok(place) => place + 1,
+    match place_of(heads, numbers, links, table, units) {
+        Ok(place) => place,
         Err(place) => place,
     }
 }
 
-// Where a new name stands.
-fn place_for(entries: &[(Name, u64)], table: &UpcaseTable, name: &Name) -> usize
-    requires ordered { AreInOrder table.now entries.now }
-    requires is_new { IsNew table.now name.now entries.now }
-    ensures { IsPlace table.now entries.now name.now (Err result) }
+// The order of the name of a number's link and another one.
+fn cmp_number(links: &Table<LinkRow>, table: &UpcaseTable, id: u64, units: &[u16]) -> Ordering
+    ensures { result ≡ cmp_name table.now (link_at links.now.rows id).1.name units.now }
 {
-    match place_of(entries, table, name.units()) {
-        Ok(place) => place,
+    match links.get(id) {
+        None => table.cmp_name(&[], units),
+        Some(row) => table.cmp_name(row.name.units(), units),
+    }
+}
+
+// The place of a name, or where it would stand, by binary search among the heads.
+fn place_of(
+    heads: &[u128],
+    numbers: &[u64],
+    links: &Table<LinkRow>,
+    table: &UpcaseTable,
+    units: &[u16],
+) -> Result<usize, usize>
+    requires ordered { AreInKeyOrder (name_key table.now) (links_at links.now.rows numbers.now) }
+    requires heads { heads.now ≡ map (link_head table.now) (links_at links.now.rows numbers.now) }
+    ensures { IsKeyPlace (name_key table.now) (links_at links.now.rows numbers.now) (upcased table.now units.now) result }
+{
+    match search_heads(heads, head_of(table, units)) {
+        Ok(place) => place_near(numbers, links, table, units, place),
+        Err(place) => Err(place),
+    }
+}
+
+// The place of a head, or where it would stand.
+fn search_heads(heads: &[u128], head: u128) -> Result<usize, usize>
+    ensures bound { IsSearchInRange result (length heads.now) }
+    ensures position { IsBinarySearchResult (λ other. nat_cmp other head) heads.now result }
+{
+    heads.binary_search(&head)
+}
+
+// The place of a name whose head a link at this place has. Mostly the name is that link's; else it is searched among
+// the rows.
+fn place_near(
+    numbers: &[u64],
+    links: &Table<LinkRow>,
+    table: &UpcaseTable,
+    units: &[u16],
+    place: usize,
+) -> Result<usize, usize>
+    requires ordered { AreInKeyOrder (name_key table.now) (links_at links.now.rows numbers.now) }
+    requires within { place < length numbers.now }
+    ensures { IsKeyPlace (name_key table.now) (links_at links.now.rows numbers.now) (upcased table.now units.now) result }
+{
+    match cmp_number(links, table, numbers[place], units) {
+        Ordering::Equal => Ok(place),
+        _ => place_among(numbers, links, table, units),
+    }
+}
+
+// The place of a name, or where it would stand, by binary search among the rows.
+fn place_among(
+    numbers: &[u64],
+    links: &Table<LinkRow>,
+    table: &UpcaseTable,
+    units: &[u16],
+) -> Result<usize, usize>
+    requires { AreInKeyOrder (name_key table.now) (links_at links.now.rows numbers.now) }
+    ensures { IsKeyPlace (name_key table.now) (links_at links.now.rows numbers.now) (upcased table.now units.now) result }
+{
+    numbers.binary_search_by(|id| cmp_number(links, table, *id, units))
+}
+
+// Where the links behind a name begin; without a name all are behind it.
+fn begin_of(
+    heads: &[u128],
+    numbers: &[u64],
+    links: &Table<LinkRow>,
+    table: &UpcaseTable,
+    after: Option<&[u16]>,
+) -> usize
+    requires ordered { AreInKeyOrder (name_key table.now) (links_at links.now.rows numbers.now) }
+    requires heads { heads.now ≡ map (link_head table.now) (links_at links.now.rows numbers.now) }
+    ensures bound { result ≤ length numbers.now }
+    ensures begin { IsBegin table.now (links_at links.now.rows numbers.now) (option_copied after.entry) result }
+{
+    match after {
+        None => 0,
+        Some(units) => begin_behind(heads, numbers, links, table, units),
+    }
+}
+
+// Where those behind a name begin.
+fn begin_behind(
+    heads: &[u128],
+    numbers: &[u64],
+    links: &Table<LinkRow>,
+    table: &UpcaseTable,
+    units: &[u16],
+) -> usize
+    requires ordered { AreInKeyOrder (name_key table.now) (links_at links.now.rows numbers.now) }
+    requires heads { heads.now ≡ map (link_head table.now) (links_at links.now.rows numbers.now) }
+    ensures bound { result ≤ length numbers.now }
+    ensures begin { IsBegin table.now (links_at links.now.rows numbers.now) (Some units.now) result }
+{
+    match place_of(heads, numbers, links, table, units) {
+        Ok(place) => place + 1,
         Err(place) => place,
     }
 }

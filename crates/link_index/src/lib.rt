@@ -1,32 +1,37 @@
-//! The names of a directory with the numbers of their links, in the order of their upcased units.
-//! A name is found, and the one that follows it, by binary search.
+//! A directory's links in the order of their upcased names. A name is found, and where those behind it or those that
+//! begin so stand, by binary search.
 //!
 //! ```text
 //! let mut dir = Directory::new(alloc);
-//! dir.reserve(1)?;                        // may be refused
-//! dir.insert(&table, name, 7)?;           // of `b.txt`; takes no memory now
-//! dir.get(&table, units)                  // of `B.TXT`: Some(7)
-//! dir.after(&table, units)                // of `a`: Some((`b.txt`, 7))
-//! dir.remove(&table, units)               // of `B.txt`: Some(7)
+//! dir.reserve(1)?;                            // may be refused
+//! dir.insert(&links, &upcase, 7, units);      // of `b.txt`; takes no memory. The table has link 7 from here on
+//! dir.get(&links, &upcase, units)             // of `B.TXT`: Some(7)
+//! dir.after(&links, &upcase, Some(units))     // behind `a`: [7], lent in one piece
+//! dir.beginning(&links, &upcase, None, units) // of all, those that begin with `B`: [7]
+//! dir.remove(&links, &upcase, units)          // of `B.txt`: Some(7)
 //! ```
 //!
-//! Contracts see the list of names and links, and how many more names there is room for.
+//! The names stand in the table of the links alone, and each call that compares names takes that table. Contracts see
+//! the numbers of the links in order, which with the table are a list of numbers and links (`links_at`), the heads of
+//! their names, and how many more links there is room for.
 //!
-//! - Each call that takes a case table asks that the list is in that table's order and that its names
-//!   differ by it: so all calls on a directory take one table. `insert` asks besides that the name is
-//!   new. An empty directory is in the order of each table.
-//! - `get`, `after` and the search of `insert` and `remove` compare the name with a number of others
-//!   that is logarithmic in the names. `first` and `len` take constant time.
-//! - `insert` and `remove` move the entries behind the name by one place, 32 bytes each and in one
-//!   piece: at most 640,000 bytes among 20,000 names, and none where names come in order.
-//! - Memory is taken only by `reserve`, and by `insert` where there is no spare room; after
-//!   `reserve(n)` so many calls of `insert` can't fail. What `remove` or `take` takes out leaves its
-//!   place as room.
-//! - A link is any number, and any number of names may have it.
+//! - Each call that takes a case table asks that the links are in that table's order, that their names differ by it, and
+//!   that the heads are those of the names that the table of links has now (`AreInNameOrder`): so all calls on a directory
+//!   take one case table. `insert` asks besides that the name is new, and that there is room. `insert` and `remove` leave
+//!   the links in order. An empty directory is in the order of each table.
+//! - Beside each number stands the head of its link's name: its first sixteen upcased units in one number, up to the first
+//!   one from 255 on. A name is searched among the heads: mostly one link is looked up in the table, and none where no
+//!   head is that of the name; where some have the same head, a number of links that is logarithmic in the names.
+//!   `beginning` looks up a number of links besides that is logarithmic in those behind. `is_empty` takes constant time.
+//! - Where a name goes, 24 bytes move of each of those before it or of those behind it, whichever are fewer; where one
+//!   comes, of those behind it, or of those before it where they are fewer and there is a free slot before them, or of all
+//!   where there is none behind them.
+//! - Memory is taken by `reserve` alone; after `reserve(n)` so many links can be put in. What `remove` takes out leaves
+//!   its place as room.
 #![tactic(auto)]
 
+mod beginning;
 mod directory;
-mod order;
+mod head;
 
 pub use directory::Directory;
-pub use order::order_of_entries;

@@ -11,7 +11,7 @@ use Rattle.fsa_types.specs.Rows.{row_of}
 use Rattle.fsa_model.specs.QueryDir.{Entry, dots, is_still_to_come, left_to_list, link_entry, listed_links}
 use Rattle.fsa_model.specs.Volume.{Cursor, After, Link, Volume}
 use Rattle.op_dir.specs.Places.{is_listed, is_wanted}
-use Rattle.volume_tables.specs.Beginnings.{begins_with}
+use Rattle.link_index.specs.Beginnings.{begins_with}
 use Rattle.volume_state.specs.Children.{is_unmarked, links_under}
 use Rattle.volume_rows.specs.Children.{is_name_after}
 use Rattle.volume_rows.specs.Cursors.{cursor_of}

@@ -5,7 +5,7 @@ ghost use Rattle.std.specs.Option.{option_copied};
 ghost use Rattle.fsa_model.specs.Lookups.{link_of_file};
 ghost use Rattle.fsa_model.specs.QueryDir.{listed_links};
 ghost use Rattle.volume_rows.specs.Children.{is_name_after};
-ghost use Rattle.volume_tables.specs.Beginnings.{begins_with};
+ghost use Rattle.link_index.specs.Beginnings.{begins_with};
 ghost use Rattle.volume_state.specs.Children.{children_after, is_unmarked, links_under};
 
 use crate::volume::Volume;

@@ -5,7 +5,7 @@ use Rattle.std.specs.Prelude.{◌==◌, ◌&&◌, map}
 use Rattle.std.specs.List.{All, AllPairs, filter, find, list_any}
 use Rattle.std.specs.Ordering.{is_eq}
 use Rattle.std.proofs.lemmas.Bool.{and_parts, cases_Bool, eq-eqb, eqb-true}
-use Rattle.std.proofs.lemmas.Cmp.{nat_list_cmp_total, nat_list_eq_equiv, tied_itself}
+use Rattle.std.proofs.lemmas.Cmp.{nat_list_cmp_total, tied_itself}
 use Rattle.std.proofs.lemmas.List.{append-nil}
 use Rattle.std.proofs.lemmas.List.Elements.{All-cons, All-filter, filter-append, filter_passes}
 use Rattle.std.proofs.lemmas.List.Kept.{AllPairs-filter}
@@ -19,11 +19,11 @@ use Rattle.fsa_model.proofs.RowLaws.{AllPairs-map, change_at, change_at-number, 
 use Rattle.link_index.specs.Keyed.{AreInKeyOrder, KeysDiffer, cmp_keys, is_key_before}
 use Rattle.link_index.proofs.KeyLaws.{All-in_order, in_order-added, in_order-ordered, in_order-removed, key-in_order, put-both}
 use Rattle.volume_rows.specs.Children.{is_name_after, links_after}
-use Rattle.volume_tables.specs.Beginnings.{name_key}
+use Rattle.link_index.specs.Beginnings.{name_key}
 use Rattle.volume_tables.specs.Directories.{HasLinksOf, NamesDiffer, links_by_name, links_in}
-use Rattle.volume_tables.specs.Heads.{head_of, link_head}
-use Rattle.volume_tables.specs.Names.{AreInNameOrder, Numbers, links_at}
-use Rattle.volume_tables.proofs.NameLemmas.{Links, at-found, filter-where, found-each, same-key}
+use Rattle.link_index.specs.Heads.{head_of, link_head}
+use Rattle.link_index.specs.Directory.{AreInNameOrder, Listing, links_at}
+use Rattle.link_index.proofs.NameLemmas.{Links, at-found, filter-where, found-each, name-swap, same-key}
 
 -- ---- some of some
 
@@ -122,7 +122,7 @@ module _ (table : List (ℕ × ℕ)) (dir : ℕ) (rows : Links) where
   listed-ordered differ = in_order-ordered (name_key table) (links_in dir rows) (keys-differ differ)
 
 -- the index of a directory is in the order of names
-pub index-ordered : (table : List (ℕ × ℕ)) (dir : ℕ) (rows : Links) (last : ℕ) (index : Numbers) → IsNumbered rows last → NamesDiffer table rows → HasLinksOf table rows dir index → AreInNameOrder table rows index
+pub index-ordered : (table : List (ℕ × ℕ)) (dir : ℕ) (rows : Links) (last : ℕ) (index : Listing) → IsNumbered rows last → NamesDiffer table rows → HasLinksOf table rows dir index → AreInNameOrder table rows index
 index-ordered table dir rows last index numbered differ has =
     let listed = links-listed table dir rows last numbered index.numbers has.numbers in
     record {
@@ -149,9 +149,6 @@ module _ (table : List (ℕ × ℕ)) (dir : ℕ) (rows : Links) (id : ℕ) (link
 
 pub name-itself : (table : List (ℕ × ℕ)) (name : List ℕ) → same_name table name name ≡ true
 name-itself table name = same-key table name name ∙ ap is_eq (tied_itself nat_list_cmp_total (upcased table name))
-
-pub name-swap : (table : List (ℕ × ℕ)) (left right : List ℕ) → same_name table left right ≡ same_name table right left
-name-swap table left right = nat_list_eq_equiv.symm (upcased table left) (upcased table right)
 
 pub named-itself : (table : List (ℕ × ℕ)) (link : Link) → is_named table link.parent link.name link ≡ true
 named-itself table link = let here : (link.parent == link.parent) ≡ true = eq-eqb link.parent link.parent refl in rw (here, name-itself table link.name) refl
@@ -263,7 +260,7 @@ module _ (table : List (ℕ × ℕ)) (change : Link → Link) (id : ℕ) (parent
   listed-at : (dir : ℕ) (rows : Links) → links_by_name table dir (with_row_changed change rows id) ≡ map (change_at change id) (links_by_name table dir rows)
   listed-at dir rows = ap (in_order (is_key_before (name_key table))) (links_in-at dir rows) ∙ in_order-at (links_in dir rows)
 
-  pub links-marked : (dir : ℕ) (rows : Links) (index : Numbers) → HasLinksOf table rows dir index → HasLinksOf table (with_row_changed change rows id) dir index
+  pub links-marked : (dir : ℕ) (rows : Links) (index : Listing) → HasLinksOf table rows dir index → HasLinksOf table (with_row_changed change rows id) dir index
   links-marked dir rows index has = record {
     numbers = has.numbers ∙ sym (numbers-at_change (links_by_name table dir rows)) ∙ ap (map (λ (e : ℕ × Link). e.0)) (sym (listed-at dir rows));
     heads = has.heads ∙ sym (heads-at_change (links_by_name table dir rows)) ∙ ap (map (link_head table)) (sym (listed-at dir rows));

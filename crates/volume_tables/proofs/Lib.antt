@@ -1,12 +1,8 @@
-pub mod BeginningLemmas
-pub mod ChildLemmas
 pub mod DirectoryLemmas
 pub mod DirectoryLaws
 pub mod EntryLemmas
-pub mod HeadLemmas
 pub mod IndexLaws
 pub mod LockLemmas
-pub mod NameLemmas
 pub mod NextLemmas
 pub mod OpenLemmas
 pub mod OrderLemmas

@@ -1,12 +1,9 @@
-pub mod Beginnings
 pub mod CallKey
 pub mod Directories
 pub mod HandleIndex
 pub mod HandleShares
 pub mod HandleTable
-pub mod Heads
 pub mod LinkTable
-pub mod Names
 pub mod Ranges
 pub mod Rooms
 pub mod ShareTable

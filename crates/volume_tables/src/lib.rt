@@ -38,13 +38,10 @@
 //! handles, by calls, streams and links, have all of them, and that the counts of a stream or a link are those of its
 //! handles.
 //!
-//! `NamesByDirectory` has for each directory an index, the numbers of its links in the order of their names, beside the
-//! table that has the names; `LinkTable` keeps one. An index has the head of each name too, its first units in one
-//! number, among which a name is searched: mostly one row is looked up, and none where no head is that of the name.
-//! Where a name goes, 24 bytes move of each of those of its directory before it or of those behind it, whichever are
-//! fewer; where one comes, of those behind it, or of those before it where they are fewer and there is a free slot
-//! before them. A directory has an index from the first room that is promised to it on; where the link of a directory
-//! goes, so does its index, unless it has names or room is promised to it.
+//! `NamesByDirectory` has for each directory an index, a `Directory` of `link_index` with its links in the order of their
+//! names, beside the table that has the names; `LinkTable` keeps one. A directory has an index from the first room that
+//! is promised to it on; where the link of a directory goes, so does its index, unless it has names or room is promised
+//! to it.
 //!
 //! - It asks that room was reserved and that numbers are left; `add_lock` asks that the handle has a
 //!   stream, and not whether the range conflicts with another. A tally asks that owners are admitted, that
@@ -64,15 +61,12 @@
 #![tactic(auto)]
 
 mod among;
-mod beginning;
 mod call_key;
 mod handle_index;
 mod handle_shares;
 mod handle_table;
-mod head;
 mod link_table;
 mod lock_row;
-mod name_index;
 mod names_by_directory;
 mod ranges;
 mod room_list;

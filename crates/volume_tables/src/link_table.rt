@@ -7,7 +7,7 @@ ghost use Rattle.fsa_types.specs.Rows.{row_of, without_row, with_row_changed};
 ghost use Rattle.fsa_model.specs.Lookups.{has_child, is_named};
 ghost use Rattle.object_tables.specs.Next.{IsNext};
 ghost use Rattle.volume_rows.specs.Children.{links_after};
-ghost use Rattle.volume_tables.specs.Beginnings.{begins_with};
+ghost use Rattle.link_index.specs.Beginnings.{begins_with};
 ghost use Rattle.volume_tables.specs.Rooms.{room_in};
 
 use crate::names_by_directory::NamesByDirectory;

@@ -10,30 +10,27 @@ ghost use Rattle.fsa_types.specs.Rows.{row_of, with_row_changed, without_row};
 ghost use Rattle.fsa_model.specs.Lookups.{is_named};
 ghost use Rattle.object_tables.specs.Places.{ArePlaced, rows_in};
 ghost use Rattle.volume_rows.specs.Children.{links_after};
-ghost use Rattle.volume_tables.specs.Beginnings.{begins_with};
+ghost use Rattle.link_index.specs.Beginnings.{begins_with};
 ghost use Rattle.volume_tables.specs.Directories.{AreByDirectory, index_at, index_of};
-ghost use Rattle.volume_tables.specs.Names.{AreInNameOrder, IsNamePut, IsNameTaken, KeepsNames, links_at};
+ghost use Rattle.link_index.specs.Directory.{AreInNameOrder, IsNamePut, IsNameTaken, KeepsNames, links_at};
 
-use crate::name_index::NameIndex;
 use fsa_types::{NoMemory, UpcaseTable};
+use link_index::Directory;
 use object_tables::{ShiftList, Table};
 use slab::Slab;
 use std::alloc::Global;
 use std::marker::Model;
 use volume_rows::LinkRow;
 
-/// For each directory an index: the numbers of its links in the order of their names. The names stand in the table of
-/// the links alone. A directory is found by a binary search among those that have an index, and a name in it by one
-/// among the heads of its names. One row is looked up, or a number of them that is logarithmic in its names where some
-/// have the same head; each takes time logarithmic in all links at most. Where a name goes, 24 bytes move of each of
-/// those of its directory before it or of those behind it, whichever are fewer; where one comes, of those behind it,
-/// or of those before it where they are fewer and there is a free slot before them. Where an index comes or goes, 16
-/// bytes move of each directory behind it, or before it.
+/// For each directory an index: a `Directory`, its links in the order of their names. The names stand in the table of
+/// the links alone. A directory is found by a binary search among those that have an index, and a name in it as
+/// `link_index` says, as is what moves where a name comes or goes. Each link that is looked up takes time logarithmic in
+/// all links at most. Where an index comes or goes, 16 bytes move of each directory behind it, or before it.
 #[derive(Debug, Drop)]
 pub struct NamesByDirectory {
     // Each directory that has an index, with the slot of it, by rising number.
     places: ShiftList<(u64, usize)>,
-    indexes: Slab<NameIndex>,
+    indexes: Slab<Directory>,
     alloc: Global,
 }
 
@@ -41,9 +38,9 @@ impl Model for NamesByDirectory {
     ghost use Rattle.object_tables.specs.Places.{ArePlaced, rows_in};
     ghost use Rattle.slab.specs.Slab.{get};
     ghost use Rattle.std.specs.Prelude.{ℕ, List, ◌^◌};
-    ghost use Rattle.volume_tables.specs.Names.{Numbers};
+    ghost use Rattle.link_index.specs.Directory.{Listing};
 
-    ghost Value = { List (ℕ × Numbers) };
+    ghost Value = { List (ℕ × Listing) };
 
     ghost view = { λ d. rows_in d.indexes d.places.items };
 
@@ -70,7 +67,7 @@ impl NamesByDirectory {
         match place_of(self.places.as_slice(), dir) {
             Ok(place) => reserve_at(&mut self.indexes, &self.places, dir, place, more),
             Err(place) => {
-                let mut index = NameIndex::new(self.alloc);
+                let mut index = Directory::new(self.alloc);
                 index.reserve(more)?;
                 self.places.reserve(1)?;
                 self.indexes.reserve(1)?;
@@ -81,7 +78,7 @@ impl NamesByDirectory {
     }
 
     // The index of a directory.
-    fn get(&self, dir: u64) -> Option<&NameIndex>
+    fn get(&self, dir: u64) -> Option<&Directory>
         ensures { option_copied result ≡ row_of self.now dir }
     {
         match place_of(self.places.as_slice(), dir) {
@@ -104,7 +101,7 @@ impl NamesByDirectory {
         let _ = links.len();
         match self.get(dir) {
             None => None,
-            Some(index) => index.child(links, table, units),
+            Some(index) => index.get(links, table, units),
         }
     }
 
@@ -255,7 +252,7 @@ fn place_of(places: &[(u64, usize)], dir: u64) -> Result<usize, usize>
 
 // Takes room for `more` numbers in the index of the directory at a place.
 fn reserve_at(
-    indexes: &mut Slab<NameIndex>,
+    indexes: &mut Slab<Directory>,
     places: &ShiftList<(u64, usize)>,
     dir: u64,
     place: usize,
@@ -272,7 +269,7 @@ fn reserve_at(
 }
 
 // Takes room for `more` numbers in the index in a slot.
-fn reserve_in(indexes: &mut Slab<NameIndex>, slot: usize, more: usize) -> Result<(), NoMemory>
+fn reserve_in(indexes: &mut Slab<Directory>, slot: usize, more: usize) -> Result<(), NoMemory>
     requires { ContainsKey indexes.old slot }
     ensures updates { Updates indexes.old indexes.new slot (Some (index_at indexes.new slot)) }
     ensures kept { KeepsNames (index_at indexes.old slot) (index_at indexes.new slot) }
@@ -284,10 +281,10 @@ fn reserve_in(indexes: &mut Slab<NameIndex>, slot: usize, more: usize) -> Result
 // Puts the index of a directory that has none in, where it would stand.
 fn insert_at(
     places: &mut ShiftList<(u64, usize)>,
-    indexes: &mut Slab<NameIndex>,
+    indexes: &mut Slab<Directory>,
     dir: u64,
     place: usize,
-    index: NameIndex,
+    index: Directory,
 )
     requires placed { ArePlaced (get indexes.old) places.old.items (2 ^ 64) }
     requires missing { StandsAt places.old.items dir place }
@@ -304,7 +301,7 @@ fn insert_at(
 
 // Puts a number in the index in a slot.
 fn put_in(
-    indexes: &mut Slab<NameIndex>,
+    indexes: &mut Slab<Directory>,
     slot: usize,
     links: &Table<LinkRow>,
     table: &UpcaseTable,
@@ -318,12 +315,12 @@ fn put_in(
     ensures updates { Updates indexes.old indexes.new slot (Some (index_at indexes.new slot)) }
     ensures put { IsNamePut table.now links.now.rows id units.now (index_at indexes.old slot) (index_at indexes.new slot) }
 {
-    indexes[slot].put(links, table, id, units);
+    indexes[slot].insert(links, table, id, units);
 }
 
 // Takes the number of the link of this name out of the index in a slot.
 fn take_in(
-    indexes: &mut Slab<NameIndex>,
+    indexes: &mut Slab<Directory>,
     slot: usize,
     links: &Table<LinkRow>,
     table: &UpcaseTable,
@@ -334,12 +331,12 @@ fn take_in(
     ensures updates { Updates indexes.old indexes.new slot (Some (index_at indexes.new slot)) }
     ensures taken { IsNameTaken table.now links.now.rows units.now (index_at indexes.old slot) (index_at indexes.new slot) }
 {
-    indexes[slot].take(links, table, units);
+    let _ = indexes[slot].remove(links, table, units);
 }
 
 // True only where the index of the directory at a place has no numbers.
 fn is_empty_at(
-    indexes: &Slab<NameIndex>,
+    indexes: &Slab<Directory>,
     places: &ShiftList<(u64, usize)>,
     dir: u64,
     place: usize,
@@ -355,7 +352,7 @@ fn is_empty_at(
 // Takes the index of the directory at a place out.
 fn take_out(
     places: &mut ShiftList<(u64, usize)>,
-    indexes: &mut Slab<NameIndex>,
+    indexes: &mut Slab<Directory>,
     dir: u64,
     place: usize,
 )

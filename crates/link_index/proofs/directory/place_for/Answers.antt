@@ -1,9 +1,13 @@
-use Rattle.std.proofs.Common.{Ok}
-use Rattle.link_index.specs.Directory.{IsPlace}
-use Rattle.link_index.proofs.NameLaws.{new-unfound}
+use Rattle.fsa_types.specs.CaseTable.{upcased}
+use Rattle.std.proofs.Common.{◌∙◌, sym, get_or}
+use Rattle.link_index.proofs.KeyLaws.{new-unfound}
+use Rattle.link_index.specs.Beginnings.{name_key}
+use Rattle.link_index.specs.Directory.{links_at}
+use Rattle.link_index.proofs.NameLemmas.{same-key}
 use Rattle.link_index.proofs.directory.place_for.Goals as goal
 
 pub returns-in-Ok : goal.returns-in-Ok
 returns-in-Ok c =
-    let place : IsPlace c.args.table.now c.args.entries.now c.args.name.now (Ok c.in-Ok.place) = rw c.units.ensures at c.in-Ok.ensures in
-    new-unfound c.args.table.now c.args.entries.now c.args.name.now c.in-Ok.place c.requires.is_new place
+    let links = links_at c.args.links.now.rows c.args.numbers.now in
+    new-unfound (name_key c.args.table.now) links (upcased c.args.table.now c.args.units.now) c.in-Ok.place
+    (λ k d within. sym (same-key c.args.table.now (get_or links k d).1.name c.args.units.now) ∙ c.requires.is_new k d within) c.in-Ok.ensures

@@ -1,19 +1,29 @@
-use Rattle.std.proofs.Common.{Err}
-use Rattle.link_index.specs.Directory.{AreInOrder, IsPlace}
-use Rattle.link_index.proofs.NameLaws.{with-here, ordered-inserted}
+use Rattle.std.proofs.Common.{ℕ, sym, Err, arith}
+use Rattle.fsa_types.specs.CaseTable.{upcased}
+use Rattle.fsa_model.specs.Volume.{Link}
+use Rattle.link_index.specs.Keyed.{IsKeyPlace}
+use Rattle.link_index.specs.Beginnings.{name_key}
+use Rattle.link_index.specs.Heads.{link_head}
+use Rattle.link_index.specs.Directory.{AreInNameOrder, links_at}
+use Rattle.link_index.proofs.NameLemmas.{mapped-put, numbers-at, put-stays}
 use Rattle.link_index.proofs.directory.Directory.insert.Goals as goal
-use Rattle.link_index.proofs.directory.Directory.insert.Goals.{in-Ok, in-Err}
 
-pub returns-clause-entries : goal.returns-clause-entries
-returns-clause-entries c =
-    let place : IsPlace c.args.table.now c.self.inside.entries.items c.args.name (Err c.place_for-place.result) = rw c.deref.ensures.value at c.place_for-place.ensures in
-    elim c.match-insert.branch [
-      | in-Ok w ↦ rw (w.result-is, c.insert.ensures.items, w.in-Ok.is, ← c.self.view_is) (with-here c.args.table.now c.self.inside.entries.items c.args.name c.args.link c.place_for-place.result place)
-      | in-Err w ↦ rw w.result-is tt
-    ]
+pub returns-clause-put : goal.returns-clause-put
+returns-clause-put c =
+    let numbers = c.self.inside.numbers.items in
+    let place : IsKeyPlace (name_key c.args.table.now) (links_at c.args.links.now.rows numbers) (upcased c.args.table.now c.args.units.now) (Err c.place_for-place.result) = rw c.as_slice-2.ensures at c.place_for-place.ensures in
+    let order : AreInNameOrder c.args.table.now c.args.links.now.rows _ = rw (← c.self.view_is) at c.requires.ordered in
+    let one = c.insert.ensures.left in
+    let two = c.insert-2.ensures.left in
+    rw (← c.self.view_is) (record {
+      numbers = λ parent file deleted. rw c.insert.ensures.items
+          (mapped-put c.args.table.now (links_at c.args.links.now.rows numbers) (c.args.id, record { parent = parent; name = c.args.units.now; file = file; deleted = deleted }) c.place_for-place.result place
+          (λ (e : ℕ × Link). e.0) numbers (sym (numbers-at c.args.links.now.rows numbers)));
+      heads = λ parent file deleted. rw (c.insert-2.ensures.items, c.head_of.ensures)
+          (mapped-put c.args.table.now (links_at c.args.links.now.rows numbers) (c.args.id, record { parent = parent; name = c.args.units.now; file = file; deleted = deleted }) c.place_for-place.result place
+          (link_head c.args.table.now) c.self.inside.heads.items order.heads);
+      left = omega arith;
+    })
 
 pub returns-clause-still_ordered : goal.returns-clause-still_ordered
-returns-clause-still_ordered c =
-    let place : IsPlace c.args.table.now c.self.inside.entries.items c.args.name (Err c.place_for-place.result) = rw c.deref.ensures.value at c.place_for-place.ensures in
-    let ordered : AreInOrder c.args.table.now c.self.inside.entries.items = rw (← c.self.view_is) at c.requires.ordered in
-    rw c.insert.ensures.items (ordered-inserted c.args.table.now _ c.self.inside.entries.items c.args.name c.args.link c.place_for-place.result ordered place)
+returns-clause-still_ordered c = λ rows same named. put-stays c.args.table.now c.args.links.now.rows c.args.units.now _ _ c.requires.ordered rows c.args.id c.requires.is_new (returns-clause-put c) same named

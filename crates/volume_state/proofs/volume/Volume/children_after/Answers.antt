@@ -2,7 +2,7 @@ use Rattle.std.proofs.Common.{ℕ, Bool, ◌∙◌, ap}
 use Rattle.std.specs.Prelude.{filter}
 use Rattle.std.specs.Option.{option_copied}
 use Rattle.fsa_model.specs.Volume.{Link}
-use Rattle.volume_tables.specs.Beginnings.{begins_with}
+use Rattle.link_index.specs.Beginnings.{begins_with}
 use Rattle.volume_state.specs.Children.{is_unmarked}
 use Rattle.volume_state.specs.Content.{content_of}
 use Rattle.volume_state.proofs.ChildLaws.{children-listed, children-under}

@@ -4,7 +4,7 @@ use Rattle.fsa_model.specs.Volume.{Link}
 use Rattle.fsa_model.proofs.RowLaws.{any-same}
 use Rattle.std.specs.Prelude.{◌==◌}
 use Rattle.volume_rows.specs.Children.{is_child_after}
-use Rattle.volume_tables.proofs.ChildLemmas.{any-listed, first-each}
+use Rattle.link_index.proofs.ChildLemmas.{any-listed, first-each}
 use Rattle.volume_tables.proofs.link_table.LinkTable.has_child.Goals as goal
 
 pub returns : goal.returns

@@ -2,7 +2,7 @@ use Rattle.std.proofs.Common.{◌≡◌, Some, sym}
 use Rattle.fsa_types.specs.Rows.{row_of}
 use Rattle.fsa_model.specs.Volume.{Link}
 use Rattle.volume_tables.specs.Directories.{index_of}
-use Rattle.volume_tables.specs.Names.{IsNameTaken}
+use Rattle.link_index.specs.Directory.{IsNameTaken}
 use Rattle.volume_tables.proofs.DirectoryLaws.{ByDirectory-none, ByDirectory-without, each-ordered}
 use Rattle.volume_tables.proofs.names_by_directory.NamesByDirectory.take.Goals as goal
 

@@ -1,0 +1,65 @@
+//! The links whose names begin with given units, among links in the order of names.
+
+ghost use Rattle.std.specs.Prelude.{◌≡◌, ◌≤◌, filter, false, length, map, true};
+ghost use Rattle.std.specs.List.Sorted.{IsPartitionPoint};
+ghost use Rattle.std.specs.Ordering.{is_ge, is_gt};
+ghost use Rattle.link_index.specs.Keyed.{AreInKeyOrder};
+ghost use Rattle.link_index.specs.Beginnings.{begins_with, cmp_beginning, name_key};
+ghost use Rattle.link_index.specs.Directory.{link_at, links_at};
+
+use fsa_types::UpcaseTable;
+use object_tables::Table;
+use std::cmp::Ordering;
+use volume_rows::LinkRow;
+
+/// Of numbers whose links are in the order of names, those of links whose names begin with these units. They stand
+/// together.
+pub(crate) fn beginning_with<'a>(
+    numbers: &'a [u64],
+    links: &Table<LinkRow>,
+    table: &UpcaseTable,
+    units: &[u16],
+) -> &'a [u64]
+    requires { AreInKeyOrder (name_key table.now) (links_at links.now.rows numbers.now) }
+    ensures { result.now ≡ map (λ entry. entry.0) (filter (λ entry. begins_with table.now units.now entry.1.name) (links_at links.now.rows numbers.now)) }
+{
+    let end = end_of(numbers, links, table, units);
+    let begin = begin_of(numbers, links, table, units).min(end);
+    &numbers[begin..end]
+}
+
+// Where those end whose names begin with less than the units.
+fn begin_of(numbers: &[u64], links: &Table<LinkRow>, table: &UpcaseTable, units: &[u16]) -> usize
+    requires { AreInKeyOrder (name_key table.now) (links_at links.now.rows numbers.now) }
+    ensures bound { result ≤ length numbers.now }
+    ensures point { IsPartitionPoint (λ id. is_gt (cmp_beginning table.now units.now (link_at links.now.rows id).1.name) ≡ true) (λ id. is_gt (cmp_beginning table.now units.now (link_at links.now.rows id).1.name) ≡ false) numbers.now result }
+{
+    numbers.partition_point(|id| cmp_number(links, table, *id, units).is_gt())
+}
+
+// Where those end whose names begin with the units or with less.
+fn end_of(numbers: &[u64], links: &Table<LinkRow>, table: &UpcaseTable, units: &[u16]) -> usize
+    requires { AreInKeyOrder (name_key table.now) (links_at links.now.rows numbers.now) }
+    ensures bound { result ≤ length numbers.now }
+    ensures point { IsPartitionPoint (λ id. is_ge (cmp_beginning table.now units.now (link_at links.now.rows id).1.name) ≡ true) (λ id. is_ge (cmp_beginning table.now units.now (link_at links.now.rows id).1.name) ≡ false) numbers.now result }
+{
+    numbers.partition_point(|id| cmp_number(links, table, *id, units).is_ge())
+}
+
+// How units compare with the beginning of the name of a number's link.
+fn cmp_number(links: &Table<LinkRow>, table: &UpcaseTable, id: u64, units: &[u16]) -> Ordering
+    ensures { result ≡ cmp_beginning table.now units.now (link_at links.now.rows id).1.name }
+{
+    match links.get(id) {
+        None => cmp_beginning(table, units, &[]),
+        Some(row) => cmp_beginning(table, units, row.name.units()),
+    }
+}
+
+// How units compare with the beginning of a name.
+fn cmp_beginning(table: &UpcaseTable, units: &[u16], name: &[u16]) -> Ordering
+    ensures { result ≡ cmp_beginning table.now units.now name.now }
+{
+    let most = units.len().min(name.len());
+    table.cmp_name(units, &name[..most])
+}
