@@ -31,7 +31,7 @@ impl<M: Machine> TurnLock<M> {
         ensures each { (i : ℕ) (p : _) → slice_get passes.items i ≡ Some p → Sees M.call_of M.client_of (M.list result.0) (known p).own }
         ensures no_others { All (λ entry. M.client_of (M.call_of entry) < clients_of self) (M.list result.0) }
     {
-        let TurnLock { table } = self;
+        let TurnLock { table, sleepers: _ } = self;
         let Joined {
             client,
             made,

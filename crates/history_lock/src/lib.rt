@@ -46,8 +46,9 @@
 //!
 //! # What it costs
 //!
-//! Beside the machine's own work a turn costs three steps on two words and two wakes, a busy answer one
-//! step, and `front` one. Nothing is copied, and no memory is taken but in `start` and by the machine.
+//! Beside the machine's own work a turn costs three steps on two words and two loads of a third, which
+//! counts those that sleep: only where there are some are two wakes asked of the system. A busy answer costs
+//! one step, and `front` one. Nothing is copied, and no memory is taken but in `start` and by the machine.
 //!
 //! # Caveats
 //!

@@ -11,6 +11,7 @@ use atomic_table::Table;
 use fsa_types::NoMemory;
 use std::alloc::Global;
 use std::sync::Wait;
+use std::sync::atomic::{AtomicU64, Ordering};
 
 /// A machine of which many threads make turns, one at a time. Threads share it by reference.
 ///
@@ -26,6 +27,9 @@ pub struct TurnLock<M: Machine> {
         Global,
     >,
     ghost sized: { (table.shared.table_id.words ≡ 2) × (table.shared.table_id.slots ≡ 1) × (1 ≤ table.shared.key.clients) },
+    // How many callers sleep on one of the words, are about to, or have just woken: where none does, none has to be
+    // woken.
+    pub(crate) sleepers: AtomicU64,
 }
 
 impl<M: Machine> TurnLock<M> {
@@ -62,12 +66,15 @@ impl<M: Machine> TurnLock<M> {
         match machine.turn(alloc, call) {
             Ok(out) => {
                 commit(top, &mut pass.seat, machine);
+                self.wake_next();
+                self.wake_readers();
                 pass.made += 1;
                 Turned::Did(out)
             }
             Err((back, why)) => {
                 load(top, &mut pass.seat);
                 release(top, &mut pass.seat, machine);
+                self.wake_next();
                 Turned::Refused(back, why)
             }
         }
@@ -105,10 +112,35 @@ impl<M: Machine> TurnLock<M> {
     /// Sleeps while the turn is held, for a caller that was answered `Busy`. It may return before the turn
     /// is free, and the turn may be taken again before the caller tries.
     pub fn wait_for_turn(&self, rt: &impl Wait) {
-        let top = &self.table.shared;
-        let holder = top.peek(TURN);
+        let holder = self.table.shared.peek(TURN);
         if holder != 0 {
-            top.park(rt, TURN, (holder % (1 << 32)) as u32);
+            self.sleep(rt, TURN, holder);
+        }
+    }
+
+    // Sleeps, if the low 32 bits of this word are those of the value, until a wake. It may return for no reason. A sleeper
+    // is counted before the word is looked at here, and whoever writes the word does so before it looks at the count: so
+    // either that one finds the sleeper counted, or the sleeper looks at the word after that write. If it sleeps then,
+    // what it waits for comes with a later write, and that writer finds it counted.
+    fn sleep(&self, rt: &impl Wait, word: usize, value: u64)
+        requires { word < 2 }
+    {
+        self.sleepers.fetch_add(1, Ordering::SeqCst);
+        self.table.shared.park(rt, word, (value % (1 << 32)) as u32);
+        self.sleepers.fetch_sub(1, Ordering::SeqCst);
+    }
+
+    // Wakes one of those that sleep until the turn is free.
+    fn wake_next(&self) {
+        if self.sleepers.load(Ordering::SeqCst) != 0 {
+            self.table.shared.wake_one(TURN);
+        }
+    }
+
+    // Wakes all that sleep until the history has more entries.
+    fn wake_readers(&self) {
+        if self.sleepers.load(Ordering::SeqCst) != 0 {
+            self.table.shared.wake_all(COUNT);
         }
     }
 
@@ -134,6 +166,7 @@ impl<M: Machine> TurnLock<M> {
         load(top, &mut pass.seat);
         let answer = machine.look(alloc, ask);
         release(top, &mut pass.seat, machine);
+        self.wake_next();
         match answer {
             Ok(shown) => Looked::Saw(shown),
             Err(NoMemory) => Looked::NoMemory,
@@ -167,9 +200,7 @@ impl<M: Machine> TurnLock<M> {
             if entries < count {
                 return count;
             }
-            self.table
-                .shared
-                .park(rt, COUNT, (count % (1 << 32)) as u32);
+            self.sleep(rt, COUNT, count);
         }
         unreachable!()
     }

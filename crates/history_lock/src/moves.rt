@@ -67,7 +67,6 @@ pub(crate) fn release<M: Machine>(top: &Top<M>, seat: &mut Place<M>, machine: M)
 {
     put(top, seat, machine);
     top.store::<Free>(seat, TURN, 0);
-    top.wake_one(TURN);
 }
 
 // Adds the machine's new entry to the history, and gives the turn up.
@@ -83,6 +82,4 @@ pub(crate) fn commit<M: Machine>(top: &Top<M>, seat: &mut Place<M>, machine: M)
     put(top, seat, machine);
     top.fetch_add::<Commit>(seat, COUNT, 1);
     top.store::<Free>(seat, TURN, 0);
-    top.wake_one(TURN);
-    top.wake_all(COUNT);
 }

@@ -11,6 +11,7 @@ use atomic_table::{Refused, Table};
 use fsa_types::NoMemory;
 use std::alloc::Global;
 use std::snapshot::Snapshot;
+use std::sync::atomic::AtomicU64;
 
 impl<M: Machine> TurnLock<M> {
     ghost use Rattle.history_lock.specs.Lock.{base_of, clients_of, known, IsPassOf};
@@ -47,7 +48,11 @@ impl<M: Machine> TurnLock<M> {
         match Table::new(alloc, &[0, 0], slots, &about) {
             Ok((table, first)) => {
                 let passes = deal(&table.shared, first, passes, clients);
-                Ok((TurnLock { table }, passes))
+                let lock = TurnLock {
+                    table,
+                    sleepers: AtomicU64::new(0),
+                };
+                Ok((lock, passes))
             }
             Err(Refused { slots }) => {
                 passes.destroy_empty();
