@@ -41,15 +41,21 @@ pub struct Signals {
 // How often in a row a client that can't go on gives its processor up for others before it sleeps.
 const YIELDS: u32 = 2;
 
-// For how long it sleeps then, in microseconds.
+// For how long it sleeps first, in microseconds.
 const PAUSE: u64 = 100;
 
-// Lets others go on: a client that has given way this often in a row gives its processor up, and later sleeps.
+// How often that doubles at most, as it sleeps again and again.
+const DOUBLINGS: u32 = 4;
+
+// Lets others go on: a client that has given way this often in a row gives its processor up, and later sleeps, each time
+// twice as long as before up to the longest sleep. So it comes back late by at most the first sleep more than it had
+// waited, and at most by the longest sleep, beside what the system adds.
 fn give_way<R: Clock>(rt: &R, in_vain: u32) {
     if in_vain < YIELDS {
         thread::yield_now();
     } else {
-        thread::sleep(rt, Duration::from_micros(PAUSE));
+        let doublings = (in_vain - YIELDS).min(DOUBLINGS);
+        thread::sleep(rt, Duration::from_micros(PAUSE << doublings));
     }
 }
 
