@@ -25,6 +25,7 @@ mod clients;
 mod counted;
 mod lock_requests;
 mod many_turns;
+mod masks;
 mod reserved;
 mod waiting_lock;
 

@@ -5,6 +5,7 @@ ghost use Rattle.fsa_types.specs.declared.request.Request.TheVariants.{Close, Lo
 ghost use Rattle.fsa_types.specs.declared.request.What.TheVariants.{Ask};
 ghost use Rattle.machine_example.specs.Asks.{CanBeMade};
 
+use crate::masks::{read_and_write, share_all};
 use fsa_types::{Disposition, Name, NoMemory, Request, What};
 use std::alloc::Global;
 
@@ -16,8 +17,8 @@ pub fn open_shared(alloc: Global) -> Result<What, NoMemory>
     let path = Name::copy_of(alloc, &[92, 76])?;
     Ok(What::Ask(Request::Create {
         path,
-        wanted: 0x3,
-        share: 0x7,
+        wanted: read_and_write(),
+        share: share_all(),
         disposition: Disposition::OpenIf,
         options: 0,
         attributes: 0,

@@ -9,6 +9,7 @@ ghost use Rattle.machine_example.specs.Asks.{CanBeMade, next_call};
 
 use crate::asking::{ask, next_number};
 use crate::clients::two_clients;
+use crate::masks::{read, read_and_write, share_all};
 use crate::waiting_lock::{own_status, status_of};
 use fsa_machine::VolumeMachine;
 use fsa_types::{
@@ -114,12 +115,12 @@ fn open_and_break(alloc: Global, machine: &mut VolumeMachine) -> Result<(), Why>
     ensures setup { machine.new.setup ≡ machine.old.setup }
     ensures few { length machine.new.entries ≤ length machine.old.entries + 3 }
 {
-    let Ok(first) = open(alloc, 0x3, 0x0, Disposition::CreateNew, 1) else {
+    let Ok(first) = open(alloc, read_and_write(), 0, Disposition::CreateNew, 1) else {
         return Err(Why::NoMemory);
     };
     ask(alloc, machine, 0, first)?;
     ask(alloc, machine, 0, all_levels())?;
-    let Ok(second) = open(alloc, 0x1, 0x7, Disposition::OpenExisting, 0) else {
+    let Ok(second) = open(alloc, read(), share_all(), Disposition::OpenExisting, 0) else {
         return Err(Why::NoMemory);
     };
     ask(alloc, machine, 1, second)?;
