@@ -16,7 +16,7 @@ VERBS = {
     "write": [("handle", MOST_ID), ("place", "start"), ("bytes", "bytes")],
     "flush": [("handle", MOST_ID)],
     "setend": [("handle", MOST_ID), ("length", MOST_PLACE)],
-    "lock": [("handle", MOST_ID), ("place", MOST_PLACE), ("length", MOST_PLACE), ("kind of lock", ("ex", "sh")), ("`wait` or `now`", ("wait", "now"))],
+    "lock": [("handle", MOST_ID), ("place", MOST_PLACE), ("length", MOST_PLACE), ("kind of lock (`ex` or `sh`)", ("ex", "sh")), ("`wait` or `now`", ("wait", "now"))],
     "unlock": [("handle", MOST_ID), ("place", MOST_PLACE), ("length", MOST_PLACE)],
     "oplock": [("handle", MOST_ID), ("level", ("r", "rh", "rw", "rwh"))],
     "ack": [("handle", MOST_ID), ("level", ("none", "r", "rh", "rw", "rwh"))],
@@ -141,7 +141,7 @@ def request(words, names, calls):
     if len(fields) > len(wanted) and re.match(r"#|//|;|--", fields[len(wanted)]):
         return "what stands behind the fields looks like a comment, and a script has none"
     if len(fields) != len(wanted):
-        return f"`{verb}` has the fields {', '.join(it for it, _ in wanted)}: {len(wanted)}, and here are {len(fields)}" + (". A space in a path or an expression is written %0020" if verb in ("create", "rename", "link", "querydir") and len(fields) > len(wanted) else "")
+        return f"`{verb}` has the fields {', '.join(it for it, _ in wanted)}: {len(wanted)}, not {len(fields)}" + (". A space in a path or an expression is written %0020" if verb in ("create", "rename", "link", "querydir") and len(fields) > len(wanted) else "")
     for word, (what, form) in zip(fields, wanted):
         fault = field(word, what, form)
         if fault:
