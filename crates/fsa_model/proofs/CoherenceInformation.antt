@@ -17,7 +17,7 @@ use Rattle.fsa_model.specs.Coherence.{IsTied, blockers_of}
 use Rattle.fsa_model.specs.Edits.{with_cursor, with_point}
 use Rattle.fsa_model.specs.Lookups.{file_of_link, handle_of, is_link_marked}
 use Rattle.fsa_model.specs.Outcome.{Outcome}
-use Rattle.fsa_model.specs.QueryDir.{Entry, how_many_fit, begun_enumeration, left_to_list, list_entries, query_dir_in, query_dir_by, query_dir_at, try_query_dir}
+use Rattle.fsa_model.specs.QueryDir.{DirectoryEntry, how_many_fit, begun_enumeration, left_to_list, list_entries, query_dir_in, query_dir_by, query_dir_at, try_query_dir}
 use Rattle.fsa_model.specs.QueryInfo.{fixed_size, how_many_streams_fit, needs_attributes, stream_rows, query_streams, query_streams_by, query_file, query_info_by, query_info_at, try_query_info}
 use Rattle.fsa_model.specs.Quota.{is_administrator, try_set_quota, try_query_quota}
 use Rattle.fsa_model.specs.ReparsePoints.{with_point_noted, may_set_point, has_other_tag, is_no_tag, set_point, set_buffer, set_reparse_by, set_reparse_at, try_set_reparse, point_buffer, get_point, get_reparse_of, get_reparse_by, get_reparse_at, try_get_reparse, remove_point, delete_reparse_of, delete_reparse_by, delete_reparse_at, try_delete_reparse}
@@ -146,7 +146,7 @@ Behaves-with_cursor v acting key id expression cursor outcome tied is =
       falls = rw is (Falls-with_cursor v id expression cursor);
     }
 
-Behaves-list_entries : (v : Volume) (acting : Option ℕ) (key id : ℕ) (kind : DirKind) (expression : List ℕ) (cursor : Cursor) (entries : List Entry) (room : ℕ) → IsTied v
+Behaves-list_entries : (v : Volume) (acting : Option ℕ) (key id : ℕ) (kind : DirKind) (expression : List ℕ) (cursor : Cursor) (entries : List DirectoryEntry) (room : ℕ) → IsTied v
     → Behaves v acting key (list_entries v id kind expression cursor entries room)
 unfolding list_entries
 Behaves-list_entries v acting key id kind expression cursor entries room tied =

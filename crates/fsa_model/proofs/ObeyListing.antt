@@ -19,7 +19,7 @@ use Rattle.fsa_types.specs.declared.status.Status.TheVariants.{InvalidHandle, In
 use Rattle.fsa_model.specs.Edits.{with_cursor}
 use Rattle.fsa_model.specs.Lookups.{file_of_link, handle_of, is_opened_by}
 use Rattle.fsa_model.specs.Outcome.{ends_with}
-use Rattle.fsa_model.specs.QueryDir.{Entry, begun_enumeration, entry_rows, how_many_fit, is_start, left_to_list, list_entries, none_left_status, place_after, query_dir_at, query_dir_by, query_dir_in, try_query_dir}
+use Rattle.fsa_model.specs.QueryDir.{DirectoryEntry, begun_enumeration, entry_rows, how_many_fit, is_start, left_to_list, list_entries, none_left_status, place_after, query_dir_at, query_dir_by, query_dir_in, try_query_dir}
 use Rattle.fsa_model.specs.Starving.{is_no_memory}
 use Rattle.fsa_model.specs.Volume.{Cursor, Handle, Volume}
 use Rattle.fsa_model.proofs.FrameLaws.{FailsTo-cursor, KeepsFrame-cursor}
@@ -90,7 +90,7 @@ fits-any kind rows room none_there = elim (fits-longest kind rows room (length r
 none_left-plain : (cursor : Cursor) → is_no_memory (none_left_status cursor) ≡ false
 none_left-plain cursor = elim (cases_Bool (is_start cursor)) [ inl is ↦ rw is refl | inr isnt ↦ rw isnt refl ]
 
-list_entries-obeys : (v : Volume) (client number handle : ℕ) (kind asked_kind : DirKind) (asked : List ℕ) (restart : Bool) (id : ℕ) (expression : List ℕ) (cursor : Cursor) (entries : List Entry) (room : ℕ)
+list_entries-obeys : (v : Volume) (client number handle : ℕ) (kind asked_kind : DirKind) (asked : List ℕ) (restart : Bool) (id : ℕ) (expression : List ℕ) (cursor : Cursor) (entries : List DirectoryEntry) (room : ℕ)
     → Obeys (queries client number handle asked_kind asked restart room) v (list_entries v id kind expression cursor entries room)
 unfolding list_entries
 list_entries-obeys v client number handle kind asked_kind asked restart id expression cursor entries room =

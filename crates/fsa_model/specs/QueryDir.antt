@@ -26,7 +26,7 @@ use Rattle.fsa_model.specs.Volume.{Cursor, Start, Dot, DotDot, After, Handle, Li
 -- ---- the entries
 
 -- an entry: where the enumeration stands once it was given, its name, and the file that it shows
-pub record Entry : Type 0 where
+pub record DirectoryEntry : Type 0 where
   pub place : Cursor
   pub name : List ℕ
   pub file : ℕ
@@ -36,7 +36,7 @@ abbrev pub parent_directory : Volume → ℕ → ℕ
 parent_directory v dir = option_map_or (λ entry. entry.1.parent) (link_of_file v.links dir) dir
 
 -- `.` shows the directory and `..` its parent; the root has neither
-abbrev pub dots : Volume → ℕ → List Entry
+abbrev pub dots : Volume → ℕ → List DirectoryEntry
 dots v dir =
     if dir == 1 then []
     else record { place = Dot; name = 0x2E ∷ []; file = dir } ∷ record { place = DotDot; name = 0x2E ∷ 0x2E ∷ []; file = parent_directory v dir } ∷ []
@@ -49,10 +49,10 @@ is_listed_before table one other = is_lt (cmp_name table one.1.name other.1.name
 abbrev pub listed_links : Volume → ℕ → List (ℕ × Link)
 listed_links v dir = in_order (is_listed_before v.table) (filter (λ entry. entry.1.parent == dir && not entry.1.deleted) v.links)
 
-abbrev pub link_entry : ℕ × Link → Entry
+abbrev pub link_entry : ℕ × Link → DirectoryEntry
 link_entry entry = record { place = After entry.1.name; name = entry.1.name; file = entry.1.file }
 
-abbrev pub directory_entries : Volume → ℕ → List Entry
+abbrev pub directory_entries : Volume → ℕ → List DirectoryEntry
 directory_entries v dir = dots v dir ++ map link_entry (listed_links v dir)
 
 -- ---- where an enumeration stands
@@ -82,7 +82,7 @@ is_still_to_come table DotDot place = is_link_place place
 is_still_to_come table (After name) place = is_link_after table name place
 
 -- the entries that are still to come and match the expression
-abbrev pub left_to_list : Volume → ℕ → List ℕ → Cursor → List Entry
+abbrev pub left_to_list : Volume → ℕ → List ℕ → Cursor → List DirectoryEntry
 left_to_list v dir expression cursor =
     filter (λ entry. is_still_to_come v.table cursor entry.place && matches v.table expression entry.name) (directory_entries v dir)
 
@@ -101,18 +101,18 @@ begun_enumeration handle expression restart =
 -- ---- the answer
 
 -- how an entry is packed
-abbrev pub entry_row : Volume → Entry → PackRow
+abbrev pub entry_row : Volume → DirectoryEntry → PackRow
 entry_row v entry = record { numbers = listed_numbers v entry.file; name = entry.name }
 
-abbrev pub entry_rows : Volume → List Entry → List PackRow
+abbrev pub entry_rows : Volume → List DirectoryEntry → List PackRow
 entry_rows v entries = map (entry_row v) entries
 
 -- how many of these fit into the room
-abbrev pub how_many_fit : Volume → DirKind → List Entry → ℕ → ℕ
+abbrev pub how_many_fit : Volume → DirKind → List DirectoryEntry → ℕ → ℕ
 how_many_fit v kind entries room = fitting (pack_kind kind) (entry_rows v entries) room
 
 -- where the enumeration stands once so many of these were given
-abbrev pub place_after : Cursor → List Entry → ℕ → Cursor
+abbrev pub place_after : Cursor → List DirectoryEntry → ℕ → Cursor
 place_after cursor entries given = option_map_or (λ entry. entry.place) (slice_get entries (given - 1)) cursor
 
 abbrev pub is_start : Cursor → Bool
@@ -128,7 +128,7 @@ abbrev pub packed_reply : PackKind → List PackRow → Reply
 packed_reply kind rows = record { status = Success; body = Packed kind (bytes kind rows) }
 
 -- as many as fit are given; where the first doesn't, no part of it is
-unfoldable pub list_entries : Volume → ℕ → DirKind → List ℕ → Cursor → List Entry → ℕ → Outcome
+unfoldable pub list_entries : Volume → ℕ → DirKind → List ℕ → Cursor → List DirectoryEntry → ℕ → Outcome
 list_entries v id kind expression cursor entries room =
     if length entries == 0 then ends_with (with_cursor v id expression cursor) (none_left_status cursor)
     else if how_many_fit v kind entries room == 0 then ends_with (with_cursor v id expression cursor) BufferOverflow

@@ -71,7 +71,7 @@ rename_free v naming dir replaced =
     if waits_to_name v naming (set.Link naming.link) then held_to_name v naming (set.Link naming.link)
     else rename_done (with_name_breaks v naming (set.Link naming.link)) naming dir replaced
 
--- the link that is replaced has no handle
+-- the link that is replaced must have no handle
 unfoldable pub rename_over_closed : Volume → Naming → ℕ → ℕ → Outcome
 rename_over_closed v naming dir replaced =
     if is_any_open v (set.Link replaced) then refused v AccessDenied else rename_free v naming dir (Some replaced)

@@ -1,10 +1,10 @@
 pub mod Access
+pub mod Backing
 pub mod BoundedList
 pub mod CaseTable
 pub mod CaseTableBody
 pub mod Masks
 pub mod FixedBuffers
-pub mod Held
 pub mod LittleEndian
 pub mod Match
 pub mod OplockGrants

@@ -91,7 +91,7 @@ loses class level =
     || (waits_for_handles class && has_handle level && not (has_handle (keep class)))
 
 -- the request waits for the break of such an oplock: where the level loses something, or where the
--- break in progress was told a target that isn't within what the class leaves
+-- target of the break in progress isn't within what the class leaves
 abbrev pub is_awaited : Class → Level → Option Level → Bool
 is_awaited class level target =
-    loses class level || option_map_or (λ told. not (is_within told (keep class))) target false
+    loses class level || option_map_or (λ to. not (is_within to (keep class))) target false

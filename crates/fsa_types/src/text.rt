@@ -1,8 +1,8 @@
 //! Names of UTF-16 units and strings of bytes.
 
-ghost use Rattle.std.specs.Prelude.{◌≡◌, ◌≤◌, [], length, IfOk, IfSome};
+ghost use Rattle.std.specs.Prelude.{◌≡◌, ◌≤◌, ◌+◌, [], drop, length, take, IfOk, IfSome};
 ghost use Rattle.std.specs.Vec.{vec_capacity};
-ghost use Rattle.fsa_types.specs.Held.{bytes_held};
+ghost use Rattle.fsa_types.specs.Backing.{bytes_in};
 
 use crate::copy::TryCopy;
 use crate::memory::NoMemory;
@@ -62,12 +62,12 @@ impl TryCopy for Name {
 /// A string of bytes. Strings that are equal may share one list.
 #[derive(Drop)]
 pub struct Bytes {
-    held: Held,
+    backing: Backing,
 }
 
 // Where the bytes of a string stand.
 #[derive(Drop)]
-enum Held {
+enum Backing {
     // In a list of its own.
     Own(Vec<u8>),
     // In a list that other strings may share.
@@ -79,9 +79,9 @@ impl Model for Bytes {
 
     ghost Value = { List ℕ };
 
-    ghost use Rattle.fsa_types.specs.Held.{bytes_held};
+    ghost use Rattle.fsa_types.specs.Backing.{bytes_in};
 
-    ghost view = { λ b. bytes_held b.held };
+    ghost view = { λ b. bytes_in b.backing };
 }
 
 impl fmt::Debug for Bytes {
@@ -98,17 +98,17 @@ const FEWEST_SHARED: usize = 128;
 
 // These bytes in a list without spare room, which is one to be shared where they are many and there
 // is memory to count its owners.
-fn share(mut bytes: Vec<u8>) -> Held
-    ensures { bytes_held result ≡ bytes.items }
+fn share(mut bytes: Vec<u8>) -> Backing
+    ensures { bytes_in result ≡ bytes.items }
 {
     bytes.shrink_to_fit();
     if bytes.len() < FEWEST_SHARED {
-        return Held::Own(bytes);
+        return Backing::Own(bytes);
     }
     let alloc = *bytes.allocator();
     match Arc::new(alloc, bytes) {
-        Ok(bytes) => Held::Shared(bytes),
-        Err(failed) => Held::Own(failed.value),
+        Ok(bytes) => Backing::Shared(bytes),
+        Err(failed) => Backing::Own(failed.value),
     }
 }
 
@@ -125,10 +125,18 @@ impl Bytes {
     pub fn bytes(&self) -> &[u8]
         ensures { result.now ≡ self.now }
     {
-        match &self.held {
-            Held::Own(bytes) => bytes.as_slice(),
-            Held::Shared(bytes) => bytes.as_slice(),
+        match &self.backing {
+            Backing::Own(bytes) => bytes.as_slice(),
+            Backing::Shared(bytes) => bytes.as_slice(),
         }
+    }
+
+    /// `count` of the bytes, from the place `at` on.
+    pub fn part(&self, at: usize, count: usize) -> &[u8]
+        requires { at + count ≤ length self.now }
+        ensures { result.now ≡ take count (drop at self.now) }
+    {
+        &self.bytes()[at..at + count]
     }
 
     /// The same string. Where it has 128 bytes at least and there is memory to count the owners of
@@ -136,9 +144,9 @@ impl Bytes {
     pub fn shared(self) -> Bytes
         ensures { result ≡ self }
     {
-        match self.held {
-            Held::Own(bytes) => Bytes { held: share(bytes) },
-            held => Bytes { held },
+        match self.backing {
+            Backing::Own(bytes) => Bytes { backing: share(bytes) },
+            backing => Bytes { backing },
         }
     }
 
@@ -147,11 +155,11 @@ impl Bytes {
     fn sharing(&self) -> Option<Bytes>
         ensures { IfSome result (λ made. made ≡ self.now) }
     {
-        match &self.held {
-            Held::Own(_) => None,
-            Held::Shared(bytes) => match Arc::try_clone(bytes) {
+        match &self.backing {
+            Backing::Own(_) => None,
+            Backing::Shared(bytes) => match Arc::try_clone(bytes) {
                 Ok(bytes) => Some(Bytes {
-                    held: Held::Shared(bytes),
+                    backing: Backing::Shared(bytes),
                 }),
                 Err(_) => None,
             },
@@ -183,7 +191,7 @@ impl From<Vec<u8>> for Bytes {
 
     fn from(bytes: Vec<u8>) -> Bytes {
         Bytes {
-            held: Held::Own(bytes),
+            backing: Backing::Own(bytes),
         }
     }
 }

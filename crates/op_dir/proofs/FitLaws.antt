@@ -10,7 +10,7 @@ use Rattle.fsa_types.specs.declared.reply.PackKind.{PackKind}
 use Rattle.fsa_types.specs.declared.reply.PackKind.TheVariants.{Names, Dir, Full, IdFull}
 use Rattle.fsa_types.specs.declared.request.DirKind.{DirKind}
 use Rattle.fsa_types.specs.declared.request.DirKind.TheVariants as dir
-use Rattle.fsa_model.specs.QueryDir.{Entry, entry_row, entry_rows, how_many_fit, place_after}
+use Rattle.fsa_model.specs.QueryDir.{DirectoryEntry, entry_row, entry_rows, how_many_fit, place_after}
 use Rattle.fsa_model.specs.Volume.{Cursor, Volume}
 use Rattle.op_dir.specs.Filling.{Fills, padded, padded_size}
 use Rattle.op_dir.specs.Listing.{Lists}
@@ -26,17 +26,17 @@ use Rattle.pack_info.proofs.PackLaws.{fit, fit-is, fit-more, fit-none, fit-withi
 -- ---- how many fit
 
 -- an entry of a directory has its name alone behind its head
-size-entry : (kind : DirKind) (v : Volume) (entry : Entry) → size_of (pack_kind kind) (packed (pack_kind kind) (entry_row v entry)) ≡ head_size (pack_kind kind) + 2 * length entry.name
+size-entry : (kind : DirKind) (v : Volume) (entry : DirectoryEntry) → size_of (pack_kind kind) (packed (pack_kind kind) (entry_row v entry)) ≡ head_size (pack_kind kind) + 2 * length entry.name
 size-entry dir.Names v entry = omega (arith, length-name_of Names entry.name)
 size-entry dir.Dir v entry = omega (arith, length-name_of Dir entry.name)
 size-entry dir.Full v entry = omega (arith, length-name_of Full entry.name)
 size-entry dir.IdFull v entry = omega (arith, length-name_of IdFull entry.name)
 
-abbrev packed_entries : DirKind → Volume → List Entry → List Packed
+abbrev packed_entries : DirKind → Volume → List DirectoryEntry → List Packed
 packed_entries kind v entries = map (packed (pack_kind kind)) (entry_rows v entries)
 
 -- where no other fits behind the first ones, as many fit as of these
-fit-filled : (kind : DirKind) (v : Volume) (used room : ℕ) (first rest : List Entry) → room - (used + padded_size (pack_kind kind) first) < head_size (pack_kind kind)
+fit-filled : (kind : DirKind) (v : Volume) (used room : ℕ) (first rest : List DirectoryEntry) → room - (used + padded_size (pack_kind kind) first) < head_size (pack_kind kind)
     → fit (pack_kind kind) used room (packed_entries kind v first) ≡ fit (pack_kind kind) used room (packed_entries kind v (first ++ rest))
 fit-filled kind v used room [] [] full = refl
 fit-filled kind v used room [] (entry ∷ rest) full =
@@ -66,12 +66,12 @@ pub bytes-packed : (kind : PackKind) (n : ℕ) (rows others : List PackRow) → 
 bytes-packed kind n rows others same =
     ap (entries_bytes kind) (sym (take-map (packed kind) n rows) ∙ ap (take n) same ∙ take-map (packed kind) n others)
 
-fit-same : (v : Volume) (kind : DirKind) (first rest : List Entry) (room : ℕ) → room - padded_size (pack_kind kind) first < head_size (pack_kind kind)
+fit-same : (v : Volume) (kind : DirKind) (first rest : List DirectoryEntry) (room : ℕ) → room - padded_size (pack_kind kind) first < head_size (pack_kind kind)
     → how_many_fit v kind first room ≡ how_many_fit v kind (first ++ rest) room
 fit-same v kind first rest room full =
     fitting-fit (pack_kind kind) (entry_rows v first) room ∙ fit-filled kind v 0 room first rest (omega (arith, full)) ∙ sym (fitting-fit (pack_kind kind) (entry_rows v (first ++ rest)) room)
 
-fit-first : (v : Volume) (kind : DirKind) (first : List Entry) (room : ℕ) → how_many_fit v kind first room ≤ length first
+fit-first : (v : Volume) (kind : DirKind) (first : List DirectoryEntry) (room : ℕ) → how_many_fit v kind first room ≤ length first
 fit-first v kind first room = omega (arith, fitting-within (pack_kind kind) (entry_rows v first) room, length-map first (entry_row v))
 
 -- ---- the first of a list
@@ -84,13 +84,13 @@ got-first (suc n) (x ∷ xs) ys few = got-first n xs ys (omega arith)
 nonzero : (n : ℕ) → (suc n == 0) ≡ false
 nonzero n = ne_eqb (suc n) 0 (λ e. omega (arith, e))
 
-none-first : (kind : PackKind) (first rest : List Entry) (room : ℕ) → head_size kind ≤ room → room - padded_size kind first < head_size kind → (length first == 0) ≡ (length (first ++ rest) == 0)
+none-first : (kind : PackKind) (first rest : List DirectoryEntry) (room : ℕ) → head_size kind ≤ room → room - padded_size kind first < head_size kind → (length first == 0) ≡ (length (first ++ rest) == 0)
 none-first kind [] rest room some full = absurd (omega arith)
 none-first kind (entry ∷ first) rest room some full = nonzero (length first) ∙ sym (nonzero (length (first ++ rest)))
 
 -- ---- what is listed
 
-Lists-first : (v : Volume) (kind : DirKind) (cursor : Cursor) (first rest : List Entry) (room : ℕ) (listing : Listing) → head_size (pack_kind kind) ≤ room
+Lists-first : (v : Volume) (kind : DirKind) (cursor : Cursor) (first rest : List DirectoryEntry) (room : ℕ) (listing : Listing) → head_size (pack_kind kind) ≤ room
     → room - padded_size (pack_kind kind) first < head_size (pack_kind kind) → Lists v kind cursor first room listing → Lists v kind cursor (first ++ rest) room listing
 Lists-first v kind cursor first rest room NoneLeft some full lists = sym (none-first (pack_kind kind) first rest room some full) ∙ lists
 Lists-first v kind cursor first rest room NoneFits some full lists = (
@@ -105,7 +105,7 @@ Lists-first v kind cursor first rest room (Given after made) some full lists =
     let long : length (entry_rows v first) ≡ length first = length-map first (entry_row v) in (
       sym (none-first (pack_kind kind) first rest room some full) ∙ lists.0,
       ap (λ n. n == 0) (sym same) ∙ lists.1,
-      lists.2 ∙ ap (λ (o : Option Entry). option_map_or (λ entry. entry.place) o cursor) (got-first (n - 1) first rest (omega (arith, within, given)))
+      lists.2 ∙ ap (λ (o : Option DirectoryEntry). option_map_or (λ entry. entry.place) o cursor) (got-first (n - 1) first rest (omega (arith, within, given)))
           ∙ ap (place_after cursor (first ++ rest)) same,
       lists.3 ∙ ap (bytes (pack_kind kind)) (sym (take-append-le n (entry_rows v first) (entry_rows v rest) (omega (arith, within, long))))
           ∙ ap (λ (rows : List PackRow). bytes (pack_kind kind) (take n rows)) (sym (map-append (entry_row v) first rest))
@@ -117,41 +117,41 @@ Lists-first v kind cursor first rest room (Given after made) some full lists =
     zero-less (suc n) some = omega arith
 
 -- listing from the first entries, which fill the room, is listing from all
-pub Lists-filled : (v : Volume) (kind : DirKind) (cursor : Cursor) (first all : List Entry) (room : ℕ) (listing : Listing) → head_size (pack_kind kind) ≤ room
+pub Lists-filled : (v : Volume) (kind : DirKind) (cursor : Cursor) (first all : List DirectoryEntry) (room : ℕ) (listing : Listing) → head_size (pack_kind kind) ≤ room
     → Fills (pack_kind kind) room first all → Lists v kind cursor first room listing → Lists v kind cursor all room listing
 Lists-filled v kind cursor first all room listing some fills lists = rw fills.parts (go fills.rest fills.full)
   where
-    go : (rest : List Entry) → (rest ≡ []) ⊎ (room - padded_size (pack_kind kind) first < head_size (pack_kind kind)) → Lists v kind cursor (first ++ rest) room listing
+    go : (rest : List DirectoryEntry) → (rest ≡ []) ⊎ (room - padded_size (pack_kind kind) first < head_size (pack_kind kind)) → Lists v kind cursor (first ++ rest) room listing
     go rest (inl none) = rw (none, append-nil first) lists
     go rest (inr full) = Lists-first v kind cursor first rest room listing some full lists
 
 -- ---- how entries fill a room
 
-pub padded_size-append : (kind : PackKind) (some more : List Entry) → padded_size kind (some ++ more) ≡ padded_size kind some + padded_size kind more
+pub padded_size-append : (kind : PackKind) (some more : List DirectoryEntry) → padded_size kind (some ++ more) ≡ padded_size kind some + padded_size kind more
 padded_size-append kind [] more = omega arith
 padded_size-append kind (entry ∷ some) more = omega (arith, padded_size-append kind some more)
 
 -- what is left of the room behind some is at most this, so behind some more it is at most what these leave of it
-pub fills_on : (kind : PackKind) (room left behind : ℕ) (some more all : List Entry) → room - padded_size kind some ≤ left → all ≡ some ++ more → behind ≡ left - padded_size kind more → room - padded_size kind all ≤ behind
+pub fills_on : (kind : PackKind) (room left behind : ℕ) (some more all : List DirectoryEntry) → room - padded_size kind some ≤ left → all ≡ some ++ more → behind ≡ left - padded_size kind more → room - padded_size kind all ≤ behind
 fills_on kind room left behind some more all at_most are is = rw (are, is) (omega (arith, at_most, padded_size-append kind some more))
 
-pub fills-all : (kind : PackKind) (room : ℕ) (first rest all : List Entry) → first ++ rest ≡ all → rest ≡ [] → Fills kind room first all
+pub fills-all : (kind : PackKind) (room : ℕ) (first rest all : List DirectoryEntry) → first ++ rest ≡ all → rest ≡ [] → Fills kind room first all
 fills-all kind room first rest all parts none = record { rest = rest; parts = sym parts; full = inl none }
 
-pub fills-full : (kind : PackKind) (room left : ℕ) (first rest all : List Entry) → first ++ rest ≡ all → room - padded_size kind first ≤ left → left < head_size kind → Fills kind room first all
+pub fills-full : (kind : PackKind) (room left : ℕ) (first rest all : List DirectoryEntry) → first ++ rest ≡ all → room - padded_size kind first ≤ left → left < head_size kind → Fills kind room first all
 fills-full kind room left first rest all parts at_most full = record { rest = rest; parts = sym parts; full = inr (omega (arith, at_most, full)) }
 
 -- ---- what was packed
 
 -- the rows of some, and of some more
-pub rows_on : (v : Volume) (kind : PackKind) (some more all : List Entry) (rows made : List PackRow) → map (packed kind) rows ≡ map (packed kind) (entry_rows v some) → all ≡ some ++ more
+pub rows_on : (v : Volume) (kind : PackKind) (some more all : List DirectoryEntry) (rows made : List PackRow) → map (packed kind) rows ≡ map (packed kind) (entry_rows v some) → all ≡ some ++ more
     → map (packed kind) made ≡ map (packed kind) rows ++ map (packed kind) (entry_rows v more) → map (packed kind) made ≡ map (packed kind) (entry_rows v all)
 rows_on v kind some more all rows made before are is =
     is
     ∙ ap (λ (entries : List Packed). entries ++ map (packed kind) (entry_rows v more)) before
     ∙ sym (map-append (packed kind) (entry_rows v some) (entry_rows v more))
     ∙ ap (map (packed kind)) (sym (map-append (entry_row v) some more))
-    ∙ ap (λ (entries : List Entry). map (packed kind) (entry_rows v entries)) (sym are)
+    ∙ ap (λ (entries : List DirectoryEntry). map (packed kind) (entry_rows v entries)) (sym are)
 
 slice_get-mapped : {X Y : Type 0} (f : X → Y) (xs : List X) (i : ℕ) (x d : X) → i < length xs → x ≡ get_or xs i d → slice_get (map f xs) i ≡ Some (f x)
 slice_get-mapped f [] i x d within is = absurd (omega arith)
@@ -162,7 +162,7 @@ slice_get-mapped f (y ∷ ys) (suc i) x d within is = slice_get-mapped f ys i x 
 pub place-given : (v : Volume) (dir : ℕ) (cursor : Cursor) (places : List Place) (given : ℕ) (place d : Place) → given - 1 < length places → place ≡ get_or places (given - 1) d
     → place_after cursor (map (entry_at v dir) places) given ≡ (entry_at v dir place).place
 place-given v dir cursor places given place d within is =
-    ap (λ (o : Option Entry). option_map_or (λ entry. entry.place) o cursor) (slice_get-mapped (entry_at v dir) places (given - 1) place d within is)
+    ap (λ (o : Option DirectoryEntry). option_map_or (λ entry. entry.place) o cursor) (slice_get-mapped (entry_at v dir) places (given - 1) place d within is)
 
 pub none-given : (v : Volume) (dir : ℕ) (kind : DirKind) (places : List Place) (room count : ℕ) → (length places == 0) ≡ false → count ≡ how_many_fit v kind (map (entry_at v dir) places) room → count ≡ 0
     → (cursor : Cursor) → Lists v kind cursor (map (entry_at v dir) places) room NoneFits

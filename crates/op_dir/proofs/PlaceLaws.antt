@@ -8,7 +8,7 @@ use Rattle.std.proofs.lemmas.List.{at_drop_more, map-append}
 use Rattle.std.proofs.lemmas.List.Elements.{filter-append}
 use Rattle.fsa_types.specs.Match.{matches}
 use Rattle.fsa_types.specs.Rows.{row_of}
-use Rattle.fsa_model.specs.QueryDir.{Entry, dots, is_still_to_come, left_to_list, link_entry, listed_links}
+use Rattle.fsa_model.specs.QueryDir.{DirectoryEntry, dots, is_still_to_come, left_to_list, link_entry, listed_links}
 use Rattle.fsa_model.specs.Volume.{Cursor, After, Link, Volume}
 use Rattle.op_dir.specs.Places.{is_listed, is_wanted}
 use Rattle.link_index.specs.Beginnings.{begins_with}
@@ -76,7 +76,7 @@ left-from v dir expression cursor links left =
     ∙ ap (λ rest. filter (is_wanted v expression cursor) (dots v dir) ++ map link_entry rest) (sym left)
 
 -- the entries of those links that are listed
-abbrev pub listed_under : Volume → List ℕ → List ℕ → List Entry
+abbrev pub listed_under : Volume → List ℕ → List ℕ → List DirectoryEntry
 listed_under v expression ids = map link_entry (filter (is_listed v expression) (links_under v ids))
 
 under-both : (v : Volume) (ids others : List ℕ) → links_under v (ids ++ others) ≡ links_under v ids ++ links_under v others
@@ -96,9 +96,9 @@ listed-more v expression ids i d within =
     ∙ map-append link_entry (filter (is_listed v expression) (links_under v (get_or ids i d ∷ []))) (filter (is_listed v expression) (links_under v (drop (i + 1) ids)))
 
 -- one more was taken, and the others are still to come
-pub goes_on : (v : Volume) (expression ids : List ℕ) (i d : ℕ) (some more all : List Entry) → i < length ids → some ++ listed_under v expression (drop i ids) ≡ all
+pub goes_on : (v : Volume) (expression ids : List ℕ) (i d : ℕ) (some more all : List DirectoryEntry) → i < length ids → some ++ listed_under v expression (drop i ids) ≡ all
     → more ≡ some ++ listed_under v expression (get_or ids i d ∷ []) → more ++ listed_under v expression (drop (i + 1) ids) ≡ all
 goes_on v expression ids i d some more all within before is =
     rw is (append_assoc some (listed_under v expression (get_or ids i d ∷ [])) (listed_under v expression (drop (i + 1) ids)))
-    ∙ ap (λ (entries : List Entry). some ++ entries) (sym (listed-more v expression ids i d within))
+    ∙ ap (λ (entries : List DirectoryEntry). some ++ entries) (sym (listed-more v expression ids i d within))
     ∙ before

@@ -3,26 +3,26 @@ use Rattle.std.specs.Prelude.{ℕ, Bool, ◌&&◌, not, List, [], ◌∷◌}
 use Rattle.std.specs.Option.{option_map_or}
 use Rattle.fsa_types.specs.Match.{matches}
 use Rattle.fsa_types.specs.Rows.{row_of}
-use Rattle.fsa_model.specs.QueryDir.{Entry, is_still_to_come, link_entry, parent_directory}
+use Rattle.fsa_model.specs.QueryDir.{DirectoryEntry, is_still_to_come, link_entry, parent_directory}
 use Rattle.fsa_model.specs.Volume.{Cursor, Dot, DotDot, Link, Volume}
 use Rattle.op_dir.specs.declared.places.Place.{Place}
 use Rattle.op_dir.specs.declared.places.Place.TheVariants as place
 
 -- `.` and `..` of a directory
-abbrev pub dot_entry : ℕ → Entry
+abbrev pub dot_entry : ℕ → DirectoryEntry
 dot_entry dir = record { place = Dot; name = 0x2E ∷ []; file = dir }
 
-abbrev pub dot_dot_entry : Volume → ℕ → Entry
+abbrev pub dot_dot_entry : Volume → ℕ → DirectoryEntry
 dot_dot_entry v dir = record { place = DotDot; name = 0x2E ∷ 0x2E ∷ []; file = parent_directory v dir }
 
 -- the entry at a place; for a number that no link has, `.`
-abbrev pub entry_at : Volume → ℕ → Place → Entry
+abbrev pub entry_at : Volume → ℕ → Place → DirectoryEntry
 entry_at v dir place.Dot = dot_entry dir
 entry_at v dir place.DotDot = dot_dot_entry v dir
 entry_at v dir (place.Link id) = option_map_or (λ row. link_entry (id, row)) (row_of v.links id) (dot_entry dir)
 
 -- an entry is still to come behind the cursor, and matches
-abbrev pub is_wanted : Volume → List ℕ → Cursor → Entry → Bool
+abbrev pub is_wanted : Volume → List ℕ → Cursor → DirectoryEntry → Bool
 is_wanted v expression cursor entry = is_still_to_come v.table cursor entry.place && matches v.table expression entry.name
 
 -- a link isn't marked for deletion, and matches

@@ -4,7 +4,7 @@ ghost use Rattle.std.specs.Prelude.{ℕ, ◌≡◌, ◌≤◌, List, false, IfOk
 ghost use Rattle.fsa_types.specs.Match.{is_refused};
 ghost use Rattle.fsa_types.specs.PackedRows.{pack_kind};
 ghost use Rattle.fsa_types.specs.Packing.{head_size};
-ghost use Rattle.fsa_model.specs.QueryDir.{Entry, left_to_list, list_entries, none_left_status, query_dir_at, query_dir_in, try_query_dir};
+ghost use Rattle.fsa_model.specs.QueryDir.{DirectoryEntry, left_to_list, list_entries, none_left_status, query_dir_at, query_dir_in, try_query_dir};
 ghost use Rattle.op_dir.specs.Calls.{IsQueryDir, asked_query_dir};
 ghost use Rattle.op_dir.specs.Listing.{Lists};
 ghost use Rattle.volume_rows.specs.Cursors.{cursor_of};
@@ -60,7 +60,7 @@ fn list_entries(
     listing: Listing,
 ) -> Tried
     requires sound { is_refused begun.expression ≡ false }
-    ensures gives { (entries : List Entry) (room : ℕ) → Lists volume.old.content kind (cursor_of begun.cursor) entries room listing → Gives (list_entries volume.old.content id kind begun.expression (cursor_of begun.cursor) entries room) volume.old.content volume.new.content result }
+    ensures gives { (entries : List DirectoryEntry) (room : ℕ) → Lists volume.old.content kind (cursor_of begun.cursor) entries room listing → Gives (list_entries volume.old.content id kind begun.expression (cursor_of begun.cursor) entries room) volume.old.content volume.new.content result }
     ensures room { HasHoldRoom result volume.new.spare }
     ensures ends { KeepsEnds volume.old volume.new }
 {

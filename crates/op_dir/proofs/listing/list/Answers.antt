@@ -1,7 +1,7 @@
 use Rattle.std.proofs.Common.{List, map, subst, sym}
 use Rattle.std.proofs.lemmas.Result.{IfOk-weaker}
 use Rattle.fsa_types.specs.PackedRows.{pack_kind}
-use Rattle.fsa_model.specs.QueryDir.{Entry, left_to_list}
+use Rattle.fsa_model.specs.QueryDir.{DirectoryEntry, left_to_list}
 use Rattle.fsa_model.specs.Volume.{Cursor}
 use Rattle.op_dir.specs.Filling.{Fills}
 use Rattle.op_dir.specs.Listing.{Lists}
@@ -16,8 +16,8 @@ pub returns : goal.returns
 returns c =
     let v = c.args.volume.now.content in
     let cursor : Cursor = cursor_of c.args.cursor.now in
-    let all : List Entry = left_to_list v c.args.dir c.args.expression.now cursor in
-    let first : List Entry = map (entry_at v c.args.dir) c.deref.result.now in
+    let all : List DirectoryEntry = left_to_list v c.args.dir c.args.expression.now cursor in
+    let first : List DirectoryEntry = map (entry_at v c.args.dir) c.deref.result.now in
     let fills : Fills (pack_kind c.args.kind) c.args.room first all = subst (λ (places : List Place). Fills (pack_kind c.args.kind) c.args.room (map (entry_at v c.args.dir) places) all) (sym c.deref.ensures.value) c.in_ok-places.ensures.fills in
     IfOk-weaker c.pack_places.result
     (λ listing. (cursor : Cursor) → Lists v c.args.kind cursor first c.args.room listing)

@@ -4,7 +4,7 @@ use Rattle.std.specs.List.{filter}
 use Rattle.fsa_types.specs.Match.{matches}
 use Rattle.fsa_types.specs.PackedRows.{pack_kind}
 use Rattle.fsa_types.specs.declared.reply.PackKind.{PackKind}
-use Rattle.fsa_model.specs.QueryDir.{Entry, dots, is_still_to_come, left_to_list, link_entry, listed_links}
+use Rattle.fsa_model.specs.QueryDir.{DirectoryEntry, dots, is_still_to_come, left_to_list, link_entry, listed_links}
 use Rattle.fsa_model.specs.Volume.{Cursor, After, Link, Volume}
 use Rattle.op_dir.specs.Filling.{Fills}
 use Rattle.op_dir.specs.Places.{entry_at, is_listed, is_wanted}
@@ -21,7 +21,7 @@ all-left : (v : Volume) (dir : ℕ) (expression : List ℕ) (cursor : Cursor) (l
     → Fills kind room (map (entry_at v dir) all) (left_to_list v dir expression cursor)
 all-left v dir expression cursor links kind room some all begun left put =
     subst (Fills kind room (map (entry_at v dir) all))
-    (ap (λ (entries : List Entry). entries ++ map link_entry (filter (is_listed v expression) links)) begun ∙ sym (left-from v dir expression cursor links left))
+    (ap (λ (entries : List DirectoryEntry). entries ++ map link_entry (filter (is_listed v expression) links)) begun ∙ sym (left-from v dir expression cursor links left))
     put
 
 pub returns-clause-fills : goal.returns-clause-fills
