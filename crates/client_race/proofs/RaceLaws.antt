@@ -11,7 +11,7 @@ use Rattle.history_lock.specs.Lock.{known}
 use Rattle.history_lock.specs.Turns.{Sees}
 use Rattle.history_lock.proofs.Places.{all_middle, given_below}
 use Rattle.shared_volume.specs.declared.shared.SharedVolume.{SharedVolume}
-use Rattle.shared_volume.specs.Shared.{IsPass, call_of, client_of as client_of_call, setup_at}
+use Rattle.shared_volume.specs.Shared.{IsPass, entry_call, call_client as client_of_call, setup_at}
 use Rattle.client_run.specs.Calls.{IsLined, calls_in}
 use Rattle.client_run.specs.Shown.{IsOrderly}
 use Rattle.client_run.proofs.Ordering.{orderly_closed}
@@ -19,7 +19,7 @@ use Rattle.client_run.proofs.ServeLaws.{serves_new}
 use Rattle.client_race.specs.declared.runner.Runner.{Runner}
 use Rattle.client_race.specs.Lists.{Pointwise, Each, Faces}
 use Rattle.client_race.specs.Passes.{view_of}
-use Rattle.client_race.specs.Runners.{Follows, IsFresh, IsReady, client_of, plan_of, todo_of}
+use Rattle.client_race.specs.Runners.{Follows, IsFresh, IsReady, runner_client, runner_plan, todo_of}
 use Rattle.client_race.proofs.DeskLaws.{sees_history}
 use Rattle.client_race.proofs.Facing.{some_at}
 
@@ -31,29 +31,29 @@ none_at_first setup client seen none r is =
 
 module _ (volume : SharedVolume) where
   -- a new runner makes just the calls that are given
-  plan_is : (runner : Runner) (p : _) (line : List Call) → runner.pass ≡ p → todo_of runner ≡ line → (known p).own.mine ≡ [] → plan_of runner ≡ line
+  plan_is : (runner : Runner) (p : _) (line : List Call) → runner.pass ≡ p → todo_of runner ≡ line → (known p).own.mine ≡ [] → runner_plan runner ≡ line
   plan_is runner p line same todo none = ap (λ (l : List Call). l ++ todo_of runner) (ap (λ z. (known z).own.mine) same ∙ none) ∙ todo
 
   starts : (i : ℕ) (runner : Runner) (p : _) (line : List Call) → runner.pass ≡ p → IsFresh runner → todo_of runner ≡ line → IsPass volume p → (known p).own ≡ record { client = i; seen = []; mine = [] } → IsLined i line → IsReady volume runner
   starts i runner p line same fresh todo of own lined =
-      let by : client_of runner ≡ i = ap (λ z. (known z).own.client) same ∙ ap (λ o. o.client) own in
+      let by : runner_client runner ≡ i = ap (λ z. (known z).own.client) same ∙ ap (λ o. o.client) own in
       let pass : IsPass volume runner.pass = subst (λ z. IsPass volume z) (sym same) of in (
         pass,
         serves_new (view_of volume runner.pass) runner.run fresh.1 fresh.0 (ap (λ z. (known z).own.mine) same ∙ ap (λ o. o.mine) own)
             (sees_history (setup_at volume) (known runner.pass) pass.5 runner.pass.own_calls)
-            (none_at_first (setup_at volume) (client_of runner) (known runner.pass).own.seen (ap (λ z. (known z).own.seen) same ∙ ap (λ o. o.seen) own))
+            (none_at_first (setup_at volume) (runner_client runner) (known runner.pass).own.seen (ap (λ z. (known z).own.seen) same ∙ ap (λ o. o.seen) own))
             (subst (λ (z : ℕ × List Call). IsLined z.0 z.1) (λ k. (sym by k, sym todo k)) lined),
       )
 
   ends : (i : ℕ) (runner r : Runner) (p q : _) (line : List Call) → runner.pass ≡ p → todo_of runner ≡ line → (known p).own ≡ record { client = i; seen = []; mine = [] } → Follows volume runner r → r.pass ≡ q → todo_of r ≡ []
       → IsPass volume q × ((known q).own.client ≡ i) × ((known q).own.mine ≡ line) × IsOrderly (setup_at volume) i (known q).own.seen
   ends i runner r p q line same todo own follows last over =
-      let made : plan_of r ≡ (known r.pass).own.mine = ap (λ (l : List Call). (known r.pass).own.mine ++ l) over ∙ append-nil (known r.pass).own.mine in
-      let by : client_of r ≡ i = follows.1 ∙ (ap (λ z. (known z).own.client) same ∙ ap (λ o. o.client) own) in (
+      let made : runner_plan r ≡ (known r.pass).own.mine = ap (λ (l : List Call). (known r.pass).own.mine ++ l) over ∙ append-nil (known r.pass).own.mine in
+      let by : runner_client r ≡ i = follows.1 ∙ (ap (λ z. (known z).own.client) same ∙ ap (λ o. o.client) own) in (
         subst (λ z. IsPass volume z) last follows.0.0,
         ap (λ z. (known z).own.client) (sym last) ∙ by,
         ap (λ z. (known z).own.mine) (sym last) ∙ (sym made ∙ (follows.2 ∙ plan_is runner p line same todo (ap (λ o. o.mine) own))),
-        subst (λ (k : ℕ). IsOrderly (setup_at volume) k (known q).own.seen) by (subst (λ z. IsOrderly (setup_at volume) (client_of r) (known z).own.seen) last follows.0.1.orderly),
+        subst (λ (k : ℕ). IsOrderly (setup_at volume) k (known q).own.seen) by (subst (λ z. IsOrderly (setup_at volume) (runner_client r) (known z).own.seen) last follows.0.1.orderly),
       )
 
 module _ {L : Type 0} (calls : L → List Call) (volume : SharedVolume) where
@@ -94,7 +94,7 @@ pub record IsMade (script : Script) (setup : Setup) (entries : List HistoryEntry
   pub orderly : IsOrderly setup client entries
 
 pub made-at : (script : Script) (setup : Setup) (entries : List HistoryEntry) (client : ℕ) (part : Part HistoryEntry Call) → part.mine ≡ calls_in part.client part.seen → part.client ≡ client → part.mine ≡ own_calls script client
-    → IsOrderly setup client part.seen → Sees call_of client_of_call entries part → IsMade script setup entries client
+    → IsOrderly setup client part.seen → Sees entry_call client_of_call entries part → IsMade script setup entries client
 made-at script setup entries client part knows by made orderly sees =
     let all : calls_in client entries ≡ part.mine = ap (λ (c : ℕ). calls_in c entries) (sym by) ∙ sym sees.mine in
     let own : part.mine ≡ calls_in client part.seen = knows ∙ ap (λ (c : ℕ). calls_in c part.seen) by in record {

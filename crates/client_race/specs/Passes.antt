@@ -16,8 +16,8 @@ use Rattle.shared_volume.specs.Shared.{Known, setup_at}
 use Rattle.client_run.specs.Desks.{DeskView}
 
 -- what a pass knows, as what a desk shows
-abbrev pub shown : Setup → Known → DeskView
-shown setup v = record { setup = setup; client = v.own.client; made = v.own.mine; seen = v.own.seen; loads = v.loads; lost = v.lost }
+abbrev pub shown_by : Setup → Known → DeskView
+shown_by setup v = record { setup = setup; client = v.own.client; made = v.own.mine; seen = v.own.seen; loads = v.loads; lost = v.lost }
 
 abbrev pub view_of : {machine : Ghosts Engine Setup HistoryEntry Call Out Why CallId (Option Reply)} → SharedVolume → Pass Engine Setup HistoryEntry Call Out Why CallId (Option Reply) machine → DeskView
-view_of volume pass = shown (setup_at volume) (known pass)
+view_of volume pass = shown_by (setup_at volume) (known pass)

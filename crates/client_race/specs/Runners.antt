@@ -12,15 +12,15 @@ abbrev pub todo_of : Runner → List Call
 todo_of runner = todo_in runner.run
 
 -- all calls of the run, those made first
-abbrev pub plan_of : Runner → List Call
-plan_of runner = planned (known runner.pass).own.mine runner.run
+abbrev pub runner_plan : Runner → List Call
+runner_plan runner = planned (known runner.pass).own.mine runner.run
 
-abbrev pub client_of : Runner → ℕ
-client_of runner = (known runner.pass).own.client
+abbrev pub runner_client : Runner → ℕ
+runner_client runner = (known runner.pass).own.client
 
 -- it waits for no call, and has its pass's client
 abbrev pub IsFresh : Runner → Type 0
-IsFresh runner = (runner.run.waits ≡ None) × (runner.run.client ≡ client_of runner)
+IsFresh runner = (runner.run.waits ≡ None) × (runner.run.client ≡ runner_client runner)
 
 -- its pass is one of this volume, and its run is that pass's
 abbrev pub IsReady : SharedVolume → Runner → Type 0
@@ -28,4 +28,4 @@ IsReady volume runner = IsPass volume runner.pass × FitsDesk (view_of volume ru
 
 -- the second runner is the first one, later
 abbrev pub Follows : SharedVolume → Runner → Runner → Type 0
-Follows volume v w = IsReady volume w × (client_of w ≡ client_of v) × (plan_of w ≡ plan_of v)
+Follows volume v w = IsReady volume w × (runner_client w ≡ runner_client v) × (runner_plan w ≡ runner_plan v)

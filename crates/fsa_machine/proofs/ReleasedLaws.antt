@@ -23,7 +23,7 @@ use Rattle.fsa_model.proofs.EngineLaws.{turn-released}
 use Rattle.fsa_model.proofs.OnceHistory.{Takes, turn-takes}
 use Rattle.fsa_model.proofs.SettleLaws.{some_equal}
 use Rattle.fsa_model.proofs.TakenLaws.{GoesOn-begins, GoesOn-settle_step}
-use Rattle.fsa_machine.specs.MachineView.{RunsTo, calls_in}
+use Rattle.fsa_machine.specs.MachineView.{RunsTo, calls_of_entries}
 use Rattle.fsa_machine.specs.Released.{how_many_let_go, how_many_released, is_held_free}
 use Rattle.fsa_machine.specs.Step.{ready_of}
 use Rattle.fsa_machine.specs.declared.store.Ready.{Ready}
@@ -179,7 +179,7 @@ own-let_go v call may done none =
 
 -- so the tries of a turn are one, and one more for each call that it released
 pub tries-released : (setup : Setup) (entries : List HistoryEntry) (outs : List TurnOut) (v : Volume) (call : Call) (before after : ℕ) → RunsTo setup entries outs v → IsLineCall (length v.clients) call
-    → call.number ≡ calls_of call.client (calls_in entries) + 1 → after ≤ before + (1 + how_many_let_go (own_tried v call))
+    → call.number ≡ calls_of call.client (calls_of_entries entries) + 1 → after ≤ before + (1 + how_many_let_go (own_tried v call))
     → (r : Run) → run setup entries ≡ Some r → after ≤ before + (1 + how_many_released r.volume call)
 tries-released setup entries outs v call before after stands asked next most r runs =
     let same : r.volume ≡ v = (same-run setup entries outs v r stands runs).0 in

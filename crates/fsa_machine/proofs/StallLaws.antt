@@ -20,7 +20,7 @@ use Rattle.fsa_model.specs.Outcome.{Outcome, Done, Stay, Hold}
 use Rattle.fsa_model.specs.Try.{try}
 use Rattle.fsa_types.specs.declared.request.Call.{Call}
 use Rattle.std.proofs.lemmas.List.{drop_all}
-use Rattle.fsa_machine.specs.Step.{id_of}
+use Rattle.volume_state.specs.Waits.{id_of}
 use Rattle.std.specs.Prelude.{IsTrue, nat_lt}
 use Rattle.std.proofs.lemmas.Bool.{eqb-true, lt-ltb}
 use Rattle.std.proofs.lemmas.List.Elements.{All-nil}

@@ -35,10 +35,10 @@ use Rattle.fsa_model.proofs.OnceLaws.{is_same-equal}
 use Rattle.fsa_model.proofs.ScheduleLaws.{calls_of-push}
 use Rattle.fsa_model.proofs.SettleLaws.{some_equal}
 use Rattle.fsa_model.proofs.TurnLaws.{Turns, turn-turns}
-use Rattle.fsa_machine.specs.Kept.{entry_of}
+use Rattle.fsa_machine.specs.Kept.{kept_entry}
 use Rattle.fsa_machine.specs.declared.kept.KeptTurn.{KeptTurn}
 use Rattle.fsa_machine.specs.Serves.{KnowsWaited, MayTry, SameBase, Serves, ServesOn, most_entries, most_turns}
-use Rattle.fsa_machine.specs.MachineView.{CallsNumbered, GaveOut, RunsTo, calls_in, setup_in}
+use Rattle.fsa_machine.specs.MachineView.{CallsNumbered, GaveOut, RunsTo, calls_of_entries, setup_in}
 use Rattle.fsa_model.specs.Ended.{ended_with_list, reply_in}
 use Rattle.fsa_machine.proofs.LookLaws.{some-found}
 use Rattle.fsa_machine.proofs.ServeLaws.{All-each, GivesUpTo-more, Serves-fresh, few-oplocks}
@@ -64,38 +64,38 @@ one_more n k = elim (cases_Bool (k + 1 == n)) [
     later : (k + 1 == n) ≡ false → nat_le n k ≡ false → nat_le n (k + 1) ≡ false
     later isnt above = grind (arith, nat_tests)
 
-next-numbered : (entries : List HistoryEntry) (entry : HistoryEntry) → CallsNumbered entries → entry.call.number ≡ calls_of entry.call.client (calls_in entries) + 1 → CallsNumbered (entries ++ entry ∷ [])
+next-numbered : (entries : List HistoryEntry) (entry : HistoryEntry) → CallsNumbered entries → entry.call.number ≡ calls_of entry.call.client (calls_of_entries entries) + 1 → CallsNumbered (entries ++ entry ∷ [])
 next-numbered entries entry numbered next client number =
     let before = numbered client number in
     let more = how_many-append (is_entry_of client number) entries (entry ∷ []) in
-    let pushed : calls_of client (calls_in (entries ++ entry ∷ [])) ≡ calls_of client (calls_in entries) + cond (entry.call.client == client) 1 0
-    = ap (λ (calls : List Call). calls_of client calls) (map-append (λ (e : HistoryEntry). e.call) entries (entry ∷ [])) ∙ calls_of-push client (calls_in entries) entry.call in
+    let pushed : calls_of client (calls_of_entries (entries ++ entry ∷ [])) ≡ calls_of client (calls_of_entries entries) + cond (entry.call.client == client) 1 0
+    = ap (λ (calls : List Call). calls_of client calls) (map-append (λ (e : HistoryEntry). e.call) entries (entry ∷ [])) ∙ calls_of-push client (calls_of_entries entries) entry.call in
     rw pushed (elim (cases_Bool (entry.call.client == client)) [
       | inr other ↦ (let count : how_many (is_entry_of client number) (entries ++ entry ∷ []) ≡ how_many (is_entry_of client number) entries + (0 + 0) = rw other at more in
-          rw other (let same : calls_of client (calls_in entries) + 0 ≡ calls_of client (calls_in entries) = omega arith in rw same (omega arith)))
+          rw other (let same : calls_of client (calls_of_entries entries) + 0 ≡ calls_of client (calls_of_entries entries) = omega arith in rw same (omega arith)))
       | inl own ↦ (let same : entry.call.client ≡ client = eqb-true entry.call.client client own in
-          let is_next : entry.call.number ≡ calls_of client (calls_in entries) + 1 = subst (λ (c : ℕ). entry.call.number ≡ calls_of c (calls_in entries) + 1) same next in
-          let step = one_more number (calls_of client (calls_in entries)) in
+          let is_next : entry.call.number ≡ calls_of client (calls_of_entries entries) + 1 = subst (λ (c : ℕ). entry.call.number ≡ calls_of c (calls_of_entries entries) + 1) same next in
+          let step = one_more number (calls_of client (calls_of_entries entries)) in
           let count : how_many (is_entry_of client number) (entries ++ entry ∷ []) ≡ how_many (is_entry_of client number) entries + (cond (entry.call.number == number) 1 0 + 0) = rw own at more in
-          let counted : how_many (is_entry_of client number) (entries ++ entry ∷ []) ≡ how_many (is_entry_of client number) entries + (cond (calls_of client (calls_in entries) + 1 == number) 1 0 + 0) = subst (λ (n : ℕ). how_many (is_entry_of client number) (entries ++ entry ∷ []) ≡ how_many (is_entry_of client number) entries + (cond (n == number) 1 0 + 0)) is_next count in
+          let counted : how_many (is_entry_of client number) (entries ++ entry ∷ []) ≡ how_many (is_entry_of client number) entries + (cond (calls_of client (calls_of_entries entries) + 1 == number) 1 0 + 0) = subst (λ (n : ℕ). how_many (is_entry_of client number) (entries ++ entry ∷ []) ≡ how_many (is_entry_of client number) entries + (cond (n == number) 1 0 + 0)) is_next count in
           rw own (omega arith))
     ])
 
 -- the next call isn't made
-new-call : (entries : List HistoryEntry) (client number : ℕ) → CallsNumbered entries → number ≡ calls_of client (calls_in entries) + 1 → how_many (is_entry_of client number) entries ≡ 0
+new-call : (entries : List HistoryEntry) (client number : ℕ) → CallsNumbered entries → number ≡ calls_of client (calls_of_entries entries) + 1 → how_many (is_entry_of client number) entries ≡ 0
 new-call entries client number numbered next =
     let is = numbered client number in
-    let past : nat_le number (calls_of client (calls_in entries)) ≡ false = not_below in
+    let past : nat_le number (calls_of client (calls_of_entries entries)) ≡ false = not_below in
     elim (cases_Bool (nat_lt 0 number)) [
       | inl above ↦ (let none : how_many (is_entry_of client number) entries ≡ 0 = rw (above, past) at is in none)
       | inr zero ↦ (let none : how_many (is_entry_of client number) entries ≡ 0 = rw zero at is in none)
     ]
   where
-    not_below : nat_le number (calls_of client (calls_in entries)) ≡ false
+    not_below : nat_le number (calls_of client (calls_of_entries entries)) ≡ false
     not_below = grind (arith, nat_tests)
 
 differ : (entries : List HistoryEntry) → CallsNumbered entries → CallsDiffer entries
-differ entries numbered client number = (let is = numbered client number in elim (cases_Bool (nat_lt 0 number && nat_le number (calls_of client (calls_in entries)))) [
+differ entries numbered client number = (let is = numbered client number in elim (cases_Bool (nat_lt 0 number && nat_le number (calls_of client (calls_of_entries entries)))) [
   | inl one ↦ (let count : how_many (is_entry_of client number) entries ≡ 1 = rw one at is in omega arith)
   | inr none ↦ (let count : how_many (is_entry_of client number) entries ≡ 0 = rw none at is in omega arith)
 ])
@@ -164,7 +164,7 @@ pub record AsksTurn (v : Volume) (call : Call) : Type 0 where
   pub new : times call.client call.number v ≡ 0
 
 pub asks-turn : (setup : Setup) (entries : List HistoryEntry) (outs : List TurnOut) (v : Volume) (call : Call) → RunsTo setup entries outs v → IsLineCall (length v.clients) call
-    → call.number ≡ calls_of call.client (calls_in entries) + 1 → AsksTurn v call
+    → call.number ≡ calls_of call.client (calls_of_entries entries) + 1 → AsksTurn v call
 asks-turn setup entries outs v call stands asked next =
     let run = stands-runs setup entries outs v stands in
     let none : times call.client call.number v ≡ 0 = stands-times setup entries outs v call.client call.number stands ∙ new-call entries call.client call.number stands.numbered next in
@@ -180,7 +180,7 @@ asks-turn setup entries outs v call stands asked next =
         opened = All-each (λ (entry : ℕ × Handle). IsTrue (nat_lt 0 entry.1.number)) (λ (entry : ℕ × Handle). 0 < entry.1.number) (λ entry above. ltb-true 0 entry.1.number above) v.handles stands.serves.opened;
         gives = GivesUpTo-more v (length v.ended + 1) most_turns (omega arith) stands.serves.gives;
         breaks = few-oplocks v most_turns run.may.take_up.given (let most = stands.serves.breaks in omega arith);
-        waited = knows v call.client call.number (calls_of call.client (calls_in entries)) call.what next (λ earlier. stands-times setup entries outs v call.client earlier stands ∙ stands.numbered call.client earlier);
+        waited = knows v call.client call.number (calls_of call.client (calls_of_entries entries)) call.what next (λ earlier. stands-times setup entries outs v call.client earlier stands ∙ stands.numbered call.client earlier);
       };
       number = omega arith;
       new = none;
@@ -189,7 +189,7 @@ asks-turn setup entries outs v call stands asked next =
 -- ---- one more turn
 
 pub RunsTo-turn : (setup : Setup) (entries after : List HistoryEntry) (outs later : List TurnOut) (v w : Volume) (call : Call) (starved : List CallId) (out : TurnOut) → RunsTo setup entries outs v
-    → length entries < most_entries → call.number ≡ calls_of call.client (calls_in entries) + 1 → ServesOn v w
+    → length entries < most_entries → call.number ≡ calls_of call.client (calls_of_entries entries) + 1 → ServesOn v w
     → turn v call starved ≡ Some (record { volume = w; out = out }) → after ≡ entries ++ record { call = call; starved = starved } ∷ [] → later ≡ outs ++ out ∷ []
     → RunsTo setup after later w
 RunsTo-turn setup entries after outs later v w call starved out stands few next serves turned is given =
@@ -216,7 +216,7 @@ pub same-setup : (v w : Volume) → SameBase v w → setup_in w ≡ setup_in v
 same-setup v w base = rw (base.table, base.clients) refl
 
 pub RunsTo-next : (entries after : List HistoryEntry) (outs later : List TurnOut) (v w : Volume) (call : Call) (starved : List CallId) (out : TurnOut) → RunsTo (setup_in v) entries outs v
-    → length entries < most_entries → call.number ≡ calls_of call.client (calls_in entries) + 1 → ServesOn v w
+    → length entries < most_entries → call.number ≡ calls_of call.client (calls_of_entries entries) + 1 → ServesOn v w
     → turn v call starved ≡ Some (record { volume = w; out = out }) → after ≡ entries ++ record { call = call; starved = starved } ∷ [] → later ≡ outs ++ out ∷ []
     → RunsTo (setup_in w) after later w
 RunsTo-next entries after outs later v w call starved out stands few next serves turned is given =
@@ -277,9 +277,9 @@ released-turn before setup entries after outs w (Ok out) call stands same is = �
 released-turn before setup entries after outs w (Err back) call stands same is = tt
 
 -- the call that is kept at a place
-pub call-in : (kept : List KeptTurn) (i : ℕ) (turn : KeptTurn) → slice_get kept i ≡ Some turn → slice_get (calls_in (map entry_of kept)) i ≡ Some turn.call
+pub call-in : (kept : List KeptTurn) (i : ℕ) (turn : KeptTurn) → slice_get kept i ≡ Some turn → slice_get (calls_of_entries (map kept_entry kept)) i ≡ Some turn.call
 call-in kept i turn found =
-    slice_get-map (λ (entry : HistoryEntry). entry.call) (map entry_of kept) i ∙ ap (option_map (λ (entry : HistoryEntry). entry.call)) (slice_get-map entry_of kept i ∙ ap (option_map entry_of) found)
+    slice_get-map (λ (entry : HistoryEntry). entry.call) (map kept_entry kept) i ∙ ap (option_map (λ (entry : HistoryEntry). entry.call)) (slice_get-map kept_entry kept i ∙ ap (option_map kept_entry) found)
 
 -- ---- a look at a call
 

@@ -4,8 +4,8 @@ use Rattle.fsa_model.specs.Outcome.{TurnOut, out_of}
 use Rattle.fsa_machine.specs.declared.kept.KeptTurn.{KeptTurn}
 
 -- the entry of the history
-abbrev pub entry_of : KeptTurn → HistoryEntry
-entry_of kept = record { call = kept.call; starved = kept.out.starved.items }
+abbrev pub kept_entry : KeptTurn → HistoryEntry
+kept_entry kept = record { call = kept.call; starved = kept.out.starved.items }
 
 -- what it gave out
 abbrev pub out_kept : KeptTurn → TurnOut

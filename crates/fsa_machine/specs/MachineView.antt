@@ -27,12 +27,12 @@ abbrev pub setup_in : Volume → Setup
 setup_in v = record { table = v.table; clients = v.clients }
 
 -- the calls of these entries
-abbrev pub calls_in : List HistoryEntry → List Call
-calls_in entries = map (λ entry. entry.call) entries
+abbrev pub calls_of_entries : List HistoryEntry → List Call
+calls_of_entries entries = map (λ entry. entry.call) entries
 
 -- the calls of each client are numbered from 1, and each is there once
 abbrev pub CallsNumbered : List HistoryEntry → Type 0
-CallsNumbered entries = (client number : ℕ) → how_many (is_entry_of client number) entries ≡ cond (nat_lt 0 number && nat_le number (calls_of client (calls_in entries))) 1 0
+CallsNumbered entries = (client number : ℕ) → how_many (is_entry_of client number) entries ≡ cond (nat_lt 0 number && nat_le number (calls_of client (calls_of_entries entries))) 1 0
 
 -- the volume is that of the run of these turns, which gave out this
 pub record RunsTo (setup : Setup) (entries : List HistoryEntry) (outs : List TurnOut) (v : Volume) : Type 0 where

@@ -40,8 +40,8 @@ abbrev pub itself : Out → Out
 itself out = out
 
 -- the first of the two that are given out alike
-abbrev pub first_of : Out × Out → Out
-first_of outs = outs.0
+abbrev pub first_out : Out × Out → Out
+first_out outs = outs.0
 
 -- what a turn that was made gives out
 abbrev pub given_by : MadeTurn → Out

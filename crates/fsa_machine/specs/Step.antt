@@ -6,7 +6,6 @@ use Rattle.fsa_types.specs.declared.request.Request.TheVariants.{Notify}
 use Rattle.fsa_types.specs.declared.request.What.{What}
 use Rattle.fsa_types.specs.declared.request.What.TheVariants.{Ask}
 use Rattle.fsa_model.specs.Frame.{IsBare, most_reply_bytes, most_reply_units}
-use Rattle.fsa_types.specs.declared.request.CallId.{CallId}
 use Rattle.fsa_types.specs.declared.status.Status.TheVariants.{NoMemory}
 use Rattle.fsa_model.specs.Edits.{with_end}
 use Rattle.fsa_model.specs.Lookups.{handle_of}
@@ -31,10 +30,6 @@ ready_of v entry = record {
   held = is_held entry.1;
   report = report_to v entry.1.call.client entry.1.call.what;
 }
-
--- a call by its client and number
-abbrev pub id_of : ℕ × Pending → CallId
-id_of entry = record { client = entry.1.call.client; number = entry.1.call.number }
 
 -- the ready call may find no memory: it ends so then, and nothing else changes
 abbrev pub Starves : Volume → Ready → Type 0

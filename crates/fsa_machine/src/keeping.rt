@@ -6,7 +6,7 @@ ghost use Rattle.fsa_model.specs.Engine.{own_tried};
 ghost use Rattle.fsa_model.specs.Once.{made};
 ghost use Rattle.fsa_model.specs.Outcome.{out_of};
 ghost use Rattle.fsa_model.specs.Turn.{turn};
-ghost use Rattle.fsa_machine.specs.Kept.{entry_of, out_kept};
+ghost use Rattle.fsa_machine.specs.Kept.{kept_entry, out_kept};
 ghost use Rattle.fsa_machine.specs.OneTurn.{CanTurn, TurnsOrStays, itself};
 ghost use Rattle.fsa_machine.specs.Released.{how_many_let_go};
 ghost use Rattle.fsa_machine.specs.Serves.{ServesOn, most_entries};
@@ -57,7 +57,7 @@ fn short_copy(call: &Call) -> Option<Call>
 // Keeps what a turn gave out beside the copy of its call, for which there is room.
 fn keep_out(kept: &mut Vec<KeptTurn>, call: Call, out: Out)
     requires place { vec_len kept.old < vec_capacity kept.old }
-    ensures entries { map entry_of kept.new.items ≡ map entry_of kept.old.items ++ record { call = call; starved = out.starved.items } ∷ [] }
+    ensures entries { map kept_entry kept.new.items ≡ map kept_entry kept.old.items ++ record { call = call; starved = out.starved.items } ∷ [] }
     ensures outs { map out_kept kept.new.items ≡ map out_kept kept.old.items ++ out_of out ∷ [] }
     ensures len { vec_len kept.new ≡ vec_len kept.old + 1 }
     ensures capacity { vec_capacity kept.old ≤ vec_capacity kept.new }
@@ -78,7 +78,7 @@ fn keep_new<S: Store, L: Ledger>(
 ) -> Result<Out, (Call, NoMemory)>
     requires can { CanTurn (S.content store.old) call }
     ensures turned { TurnsOrStays itself (S.content store.old) (S.content store.new) (S.spare_ends store.old) (S.spare_ends store.new) (S.spare_pending store.old) (S.spare_pending store.new) call steps.old steps.new result }
-    ensures entries { IfOk result (λ out. map entry_of kept.new.items ≡ map entry_of kept.old.items ++ record { call = call; starved = out.starved.items } ∷ []) }
+    ensures entries { IfOk result (λ out. map kept_entry kept.new.items ≡ map kept_entry kept.old.items ++ record { call = call; starved = out.starved.items } ∷ []) }
     ensures outs { IfOk result (λ out. map out_kept kept.new.items ≡ map out_kept kept.old.items ++ out_of out ∷ []) }
     ensures len { OnOk result (vec_len kept.new ≡ vec_len kept.old + 1) }
     ensures len_kept { OnErr result (vec_len kept.new ≡ vec_len kept.old) }
@@ -113,7 +113,7 @@ fn keep_spare<S: Store, L: Ledger>(
     requires copy { copy ≡ call }
     requires place { vec_len kept.old < vec_capacity kept.old }
     ensures turned { TurnsOrStays itself (S.content store.old) (S.content store.new) (S.spare_ends store.old) (S.spare_ends store.new) (S.spare_pending store.old) (S.spare_pending store.new) call steps.old steps.new (Ok result) }
-    ensures entries { map entry_of kept.new.items ≡ map entry_of kept.old.items ++ record { call = call; starved = result.starved.items } ∷ [] }
+    ensures entries { map kept_entry kept.new.items ≡ map kept_entry kept.old.items ++ record { call = call; starved = result.starved.items } ∷ [] }
     ensures outs { map out_kept kept.new.items ≡ map out_kept kept.old.items ++ out_of result ∷ [] }
     ensures len { vec_len kept.new ≡ vec_len kept.old + 1 }
     ensures capacity { vec_capacity kept.old ≤ vec_capacity kept.new }
@@ -155,7 +155,7 @@ pub fn keep_turn<S: Store, L: Ledger>(
     requires spare { AreSpare (S.content store.old) (S.spare_ends store.old) (S.spare_pending store.old) (vec_len kept.old) (vec_capacity kept.old) spare.old }
     ensures turn { IfOk result (λ out. turn (S.content store.old) call out.starved.items ≡ Some (record { volume = S.content store.new; out = out_of out })) }
     ensures serves { OnOk result (ServesOn (S.content store.old) (S.content store.new)) }
-    ensures entries { IfOk result (λ out. map entry_of kept.new.items ≡ map entry_of kept.old.items ++ record { call = call; starved = out.starved.items } ∷ []) }
+    ensures entries { IfOk result (λ out. map kept_entry kept.new.items ≡ map kept_entry kept.old.items ++ record { call = call; starved = out.starved.items } ∷ []) }
     ensures outs { IfOk result (λ out. map out_kept kept.new.items ≡ map out_kept kept.old.items ++ out_of out ∷ []) }
     ensures spare { AreSpare (S.content store.new) (S.spare_ends store.new) (S.spare_pending store.new) (vec_len kept.new) (vec_capacity kept.new) spare.new }
     ensures spare_turns { spare.old.turns ≤ spare.new.turns + 1 }

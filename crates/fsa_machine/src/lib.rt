@@ -59,7 +59,7 @@ mod turns;
 mod volume_machine;
 mod waiting;
 
-pub use machine::{MOST_ENTRIES, Machine};
+pub use machine::{MOST_ENTRIES, StoreMachine};
 pub use serving::try_call;
 pub use steps::Steps;
 pub use store::{Ready, Report, Store};

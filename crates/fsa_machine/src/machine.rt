@@ -12,12 +12,12 @@ ghost use Rattle.fsa_model.specs.Schedule.{calls_of};
 ghost use Rattle.fsa_model.specs.Volume.{fresh};
 ghost use Rattle.fsa_model.specs.Waiting.{is_pending, waits};
 ghost use Rattle.fsa_model.specs.Watched.{WatchesReport};
-ghost use Rattle.fsa_machine.specs.Kept.{entry_of, out_kept};
+ghost use Rattle.fsa_machine.specs.Kept.{kept_entry, out_kept};
 ghost use Rattle.fsa_machine.specs.Released.{how_many_released};
 ghost use Rattle.fsa_machine.specs.Serves.{most_entries};
 ghost use Rattle.fsa_machine.specs.Spare.{AreSpare, is_ack_or_cancel};
 ghost use Rattle.fsa_machine.specs.Trimmed.{trimmed_base};
-ghost use Rattle.fsa_machine.specs.MachineView.{GaveOut, RunsTo, calls_in, is_full, setup_in};
+ghost use Rattle.fsa_machine.specs.MachineView.{GaveOut, RunsTo, calls_of_entries, is_full, setup_in};
 ghost use Rattle.fsa_model.specs.Ended.{ended_with_list, reply_in};
 
 use crate::keeping::reserve_turns;
@@ -37,15 +37,15 @@ pub const MOST_ENTRIES: usize = 1_000_000;
 
 /// A store that stands for a setup and a history, which it keeps.
 #[derive(Drop)]
-pub struct Machine<S: Store> {
+pub struct StoreMachine<S: Store> {
     kept: Vec<KeptTurn>,
     spare: SpareRooms,
     store: S,
 }
 
-impl<S: Store> Model for Machine<S> {
+impl<S: Store> Model for StoreMachine<S> {
     ghost use Rattle.std.specs.Prelude.{◌≡◌, map};
-    ghost use Rattle.fsa_machine.specs.Kept.{entry_of, out_kept};
+    ghost use Rattle.fsa_machine.specs.Kept.{kept_entry, out_kept};
     ghost use Rattle.std.specs.Vec.{vec_capacity, vec_len};
     ghost use Rattle.fsa_machine.specs.Spare.{AreSpare};
     ghost use Rattle.fsa_machine.specs.Trimmed.{trimmed_base};
@@ -53,9 +53,9 @@ impl<S: Store> Model for Machine<S> {
 
     ghost Value = { MachineView };
 
-    ghost view = { λ m. record { setup = setup_in (S.content m.store); entries = map entry_of m.kept.items; spare_turns = m.spare.turns; log_base = S.log_base m.store } };
+    ghost view = { λ m. record { setup = setup_in (S.content m.store); entries = map kept_entry m.kept.items; spare_turns = m.spare.turns; log_base = S.log_base m.store } };
 
-    ghost invariant = { λ m. RunsTo (setup_in (S.content m.store)) (map entry_of m.kept.items) (map out_kept m.kept.items) (S.content m.store)
+    ghost invariant = { λ m. RunsTo (setup_in (S.content m.store)) (map kept_entry m.kept.items) (map out_kept m.kept.items) (S.content m.store)
         × AreSpare (S.content m.store) (S.spare_ends m.store) (S.spare_pending m.store) (vec_len m.kept) (vec_capacity m.kept) m.spare
         × (S.log_base m.store ≡ trimmed_base (S.content m.store)) };
 }
@@ -69,14 +69,14 @@ fn turn_of<S: Store, L: Ledger>(
     call: Call,
     steps: &mut Steps<L>,
 ) -> Result<Out, (Call, Why)>
-    requires stands { RunsTo (setup_in (S.content store.old)) (map entry_of kept.old.items) (map out_kept kept.old.items) (S.content store.old) }
+    requires stands { RunsTo (setup_in (S.content store.old)) (map kept_entry kept.old.items) (map out_kept kept.old.items) (S.content store.old) }
     requires asked { IsLineCall (length (S.content store.old).clients) call }
-    requires number { call.number ≡ calls_of call.client (calls_in (map entry_of kept.old.items)) + 1 }
+    requires number { call.number ≡ calls_of call.client (calls_of_entries (map kept_entry kept.old.items)) + 1 }
     requires spare { AreSpare (S.content store.old) (S.spare_ends store.old) (S.spare_pending store.old) (vec_len kept.old) (vec_capacity kept.old) spare.old }
     requires trimmed { S.log_base store.old ≡ trimmed_base (S.content store.old) }
-    ensures stands { RunsTo (setup_in (S.content store.new)) (map entry_of kept.new.items) (map out_kept kept.new.items) (S.content store.new) }
+    ensures stands { RunsTo (setup_in (S.content store.new)) (map kept_entry kept.new.items) (map out_kept kept.new.items) (S.content store.new) }
     ensures setup { setup_in (S.content store.new) ≡ setup_in (S.content store.old) }
-    ensures entries { IfOk result (λ out. map entry_of kept.new.items ≡ map entry_of kept.old.items ++ record { call = call; starved = out.starved.items } ∷ []) }
+    ensures entries { IfOk result (λ out. map kept_entry kept.new.items ≡ map kept_entry kept.old.items ++ record { call = call; starved = out.starved.items } ∷ []) }
     ensures outs { IfOk result (λ out. map out_kept kept.new.items ≡ map out_kept kept.old.items ++ out_of out ∷ []) }
     ensures full { is_full result ≡ (length kept.old.items == most_entries) }
     ensures spare { AreSpare (S.content store.new) (S.spare_ends store.new) (S.spare_pending store.new) (vec_len kept.new) (vec_capacity kept.new) spare.new }
@@ -84,7 +84,7 @@ fn turn_of<S: Store, L: Ledger>(
     ensures trimmed { S.log_base store.new ≡ trimmed_base (S.content store.new) }
     ensures memory { is_ack_or_cancel call.what ≡ true → 1 ≤ spare.old.turns → OnErr result (is_full result ≡ true) }
     ensures err { IfErr result (λ back. (S.content store.new ≡ S.content store.old) × (S.log_base store.new ≡ S.log_base store.old) × (kept.new.items ≡ kept.old.items) × (spare.new ≡ spare.old) × (back.0 ≡ call)) }
-    ensures tries { (r : Run) → run (setup_in (S.content store.old)) (map entry_of kept.old.items) ≡ Some r → steps.new ≤ steps.old + (1 + how_many_released r.volume call) }
+    ensures tries { (r : Run) → run (setup_in (S.content store.old)) (map kept_entry kept.old.items) ≡ Some r → steps.new ≤ steps.old + (1 + how_many_released r.volume call) }
     ensures rises { steps.old ≤ steps.new }
 {
     if kept.as_slice().len() == MOST_ENTRIES {
@@ -105,17 +105,17 @@ fn turn_uncounted<S: Store, L: Ledger>(
     call: Call,
     blank: Blank,
 ) -> Result<Out, (Call, Why)>
-    requires stands { RunsTo (setup_in (S.content store.old)) (map entry_of kept.old.items) (map out_kept kept.old.items) (S.content store.old) }
+    requires stands { RunsTo (setup_in (S.content store.old)) (map kept_entry kept.old.items) (map out_kept kept.old.items) (S.content store.old) }
     requires asked { IsLineCall (length (S.content store.old).clients) call }
-    requires number { call.number ≡ calls_of call.client (calls_in (map entry_of kept.old.items)) + 1 }
+    requires number { call.number ≡ calls_of call.client (calls_of_entries (map kept_entry kept.old.items)) + 1 }
     requires spare { AreSpare (S.content store.old) (S.spare_ends store.old) (S.spare_pending store.old) (vec_len kept.old) (vec_capacity kept.old) spare.old }
     requires trimmed { S.log_base store.old ≡ trimmed_base (S.content store.old) }
     requires name { blank.name ≡ L.name }
     requires parts { blank.parts ≡ L.parts }
     requires some { 0 < blank.parts }
-    ensures stands { RunsTo (setup_in (S.content store.new)) (map entry_of kept.new.items) (map out_kept kept.new.items) (S.content store.new) }
+    ensures stands { RunsTo (setup_in (S.content store.new)) (map kept_entry kept.new.items) (map out_kept kept.new.items) (S.content store.new) }
     ensures setup { setup_in (S.content store.new) ≡ setup_in (S.content store.old) }
-    ensures entries { IfOk result (λ out. map entry_of kept.new.items ≡ map entry_of kept.old.items ++ record { call = call; starved = out.starved.items } ∷ []) }
+    ensures entries { IfOk result (λ out. map kept_entry kept.new.items ≡ map kept_entry kept.old.items ++ record { call = call; starved = out.starved.items } ∷ []) }
     ensures outs { IfOk result (λ out. map out_kept kept.new.items ≡ map out_kept kept.old.items ++ out_of out ∷ []) }
     ensures full { is_full result ≡ (length kept.old.items == most_entries) }
     ensures spare { AreSpare (S.content store.new) (S.spare_ends store.new) (S.spare_pending store.new) (vec_len kept.new) (vec_capacity kept.new) spare.new }
@@ -128,9 +128,9 @@ fn turn_uncounted<S: Store, L: Ledger>(
     turn_of(alloc, store, kept, spare, call, &mut steps)
 }
 
-impl<S: Store> Machine<S> {
+impl<S: Store> StoreMachine<S> {
     /// The machine with no history, over a new store.
-    pub fn over(alloc: Global, mut store: S) -> Machine<S>
+    pub fn over(alloc: Global, mut store: S) -> StoreMachine<S>
         requires fresh { S.content store ≡ fresh (setup_in (S.content store)) }
         ensures setup { result.setup ≡ setup_in (S.content store) }
         ensures entries { result.entries ≡ [] }
@@ -138,7 +138,7 @@ impl<S: Store> Machine<S> {
         store.trim();
         let kept = Vec::new(alloc);
         let spare = SpareRooms::none(alloc);
-        Machine { kept, spare, store }
+        StoreMachine { kept, spare, store }
     }
 
     /// Makes a turn of the client's next call: tries it, and settles what is pending. It appends one entry
@@ -156,7 +156,7 @@ impl<S: Store> Machine<S> {
     /// from which a watch is due, and none where there is no watch.
     pub fn turn(&mut self, alloc: Global, call: Call) -> Result<Out, (Call, Why)>
         requires asked { IsLineCall (length self.old.setup.clients) call }
-        requires number { call.number ≡ calls_of call.client (calls_in self.old.entries) + 1 }
+        requires number { call.number ≡ calls_of call.client (calls_of_entries self.old.entries) + 1 }
         ensures setup { self.new.setup ≡ self.old.setup }
         ensures entries { IfOk result (λ out. self.new.entries ≡ self.old.entries ++ record { call = call; starved = out.starved.items } ∷ []) }
         ensures out { IfOk result (λ out. GaveOut self.new.setup self.new.entries (out_of out)) }
@@ -193,7 +193,7 @@ impl<S: Store> Machine<S> {
         steps: &mut Steps<L>,
     ) -> Result<Out, (Call, Why)>
         requires asked { IsLineCall (length self.old.setup.clients) call }
-        requires number { call.number ≡ calls_of call.client (calls_in self.old.entries) + 1 }
+        requires number { call.number ≡ calls_of call.client (calls_of_entries self.old.entries) + 1 }
         ensures setup { self.new.setup ≡ self.old.setup }
         ensures entries { IfOk result (λ out. self.new.entries ≡ self.old.entries ++ record { call = call; starved = out.starved.items } ∷ []) }
         ensures out { IfOk result (λ out. GaveOut self.new.setup self.new.entries (out_of out)) }
@@ -267,7 +267,7 @@ impl<S: Store> Machine<S> {
     /// The call of the turn at this place, from 0.
     pub fn call_at(&self, i: u64) -> &Call
         requires within { i < length self.now.entries }
-        ensures { slice_get (calls_in self.now.entries) i ≡ Some result.now }
+        ensures { slice_get (calls_of_entries self.now.entries) i ≡ Some result.now }
     {
         let Some(kept) = self.kept.get(i as usize) else {
             unreachable!()

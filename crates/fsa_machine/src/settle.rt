@@ -15,7 +15,8 @@ ghost use Rattle.fsa_model.specs.Waiting.{next_ready, waits_in_order, with_stall
 ghost use Rattle.fsa_model.specs.Watching.{due_size, report, with_watch_seen};
 ghost use Rattle.fsa_machine.specs.Released.{how_many_let_go};
 ghost use Rattle.fsa_machine.specs.Serves.{Serves, ServesOn, most_entries};
-ghost use Rattle.fsa_machine.specs.Step.{HasReplyRoom, HasReportRoom, Starves, id_of, ready_of};
+ghost use Rattle.volume_state.specs.Waits.{id_of};
+ghost use Rattle.fsa_machine.specs.Step.{HasReplyRoom, HasReportRoom, Starves, ready_of};
 
 use crate::ends::{EndLists, tell};
 use crate::replies::{ReplyRooms, copy_report, copy_twice, take_report_rooms, take_rooms};

@@ -4,7 +4,7 @@ ghost use Rattle.std.specs.Prelude.{◌≡◌, ◌≤◌, ◌<◌, ◌+◌, ◌-
 ghost use Rattle.std.specs.Vec.{vec_len};
 ghost use Rattle.fsa_model.specs.Once.{made};
 ghost use Rattle.fsa_model.specs.Turn.{turn};
-ghost use Rattle.fsa_machine.specs.OneTurn.{CanTurn, TurnsOrStays, first_of};
+ghost use Rattle.fsa_machine.specs.OneTurn.{CanTurn, TurnsOrStays, first_out};
 ghost use Rattle.fsa_machine.specs.Serves.{most_entries};
 ghost use Rattle.fsa_machine.specs.Spare.{AreLists, HasLists, is_ack_or_cancel};
 ghost use Rattle.fsa_machine.specs.Step.{HasReplyRoom};
@@ -167,7 +167,7 @@ impl SpareRooms {
         steps: &mut Steps<L>,
     ) -> Result<(Out, Out), (Call, NoMemory)>
         requires can { CanTurn (S.content store.old) call }
-        ensures turned { TurnsOrStays first_of (S.content store.old) (S.content store.new) (S.spare_ends store.old) (S.spare_ends store.new) (S.spare_pending store.old) (S.spare_pending store.new) call steps.old steps.new result }
+        ensures turned { TurnsOrStays first_out (S.content store.old) (S.content store.new) (S.spare_ends store.old) (S.spare_ends store.new) (S.spare_pending store.old) (S.spare_pending store.new) call steps.old steps.new result }
         ensures same { IfOk result (λ outs. outs.1 ≡ outs.0) }
         ensures turns { self.new ≡ self.old }
     {
@@ -193,7 +193,7 @@ impl SpareRooms {
         requires short { is_ack_or_cancel call.what ≡ true }
         requires some { 0 < self.old.turns }
         requires lists { length (S.content store.old).pending + 1 ≤ self.old.calls }
-        ensures turned { TurnsOrStays first_of (S.content store.old) (S.content store.new) (S.spare_ends store.old) (S.spare_ends store.new) (S.spare_pending store.old) (S.spare_pending store.new) call steps.old steps.new result }
+        ensures turned { TurnsOrStays first_out (S.content store.old) (S.content store.new) (S.spare_ends store.old) (S.spare_ends store.new) (S.spare_pending store.old) (S.spare_pending store.new) call steps.old steps.new result }
         ensures same { IfOk result (λ outs. outs.1 ≡ outs.0) }
         ensures memory { is_ack_or_cancel call.what ≡ true → 1 ≤ S.spare_pending store.old → IsOk result }
         ensures left { self.old.turns ≡ self.new.turns + 1 }

@@ -11,7 +11,8 @@ ghost use Rattle.fsa_model.specs.Waiting.{all_wait, next_ready, waits, waits_in_
 ghost use Rattle.fsa_model.specs.Watching.{due_size, is_something_due, report, with_watch_seen};
 ghost use Rattle.fsa_machine.specs.Serves.{HoldsRightly, MayHoldAnew, MayPend, MayTry, Serves};
 ghost use Rattle.fsa_machine.specs.Spare.{is_ack_or_cancel};
-ghost use Rattle.fsa_machine.specs.Step.{id_of, ready_of};
+ghost use Rattle.volume_state.specs.Waits.{id_of};
+ghost use Rattle.fsa_machine.specs.Step.{ready_of};
 ghost use Rattle.fsa_machine.specs.Tried.{HasPendRoom};
 ghost use Rattle.fsa_machine.specs.Trimmed.{trimmed_base};
 ghost use Rattle.volume_state.specs.Tried.{Gives, HasAnswer};

@@ -5,7 +5,7 @@ ghost use Rattle.std.specs.Option.{option_copied, option_map_or};
 ghost use Rattle.fsa_types.specs.Rows.{row_of};
 ghost use Rattle.fsa_machine.specs.Serves.{HoldsRightly, MayHoldAnew, MayPend, MayTry, Serves};
 ghost use Rattle.fsa_machine.specs.Spare.{is_ack_or_cancel};
-ghost use Rattle.fsa_machine.specs.Step.{id_of, ready_of, report_to};
+ghost use Rattle.fsa_machine.specs.Step.{ready_of, report_to};
 ghost use Rattle.fsa_machine.specs.Tried.{HasPendRoom};
 ghost use Rattle.fsa_machine.specs.Trimmed.{trimmed_base};
 ghost use Rattle.fsa_model.specs.Edits.{with_blockers, with_end, with_pending};
@@ -14,7 +14,7 @@ ghost use Rattle.fsa_model.specs.Try.{try};
 ghost use Rattle.fsa_model.specs.Waiting.{all_wait, next_ready, waits, waits_in_order};
 ghost use Rattle.fsa_model.specs.Watching.{due_size, is_something_due, report, with_watch_seen};
 ghost use Rattle.volume_state.specs.Tried.{Gives, HasAnswer};
-ghost use Rattle.volume_state.specs.Waits.{lesser};
+ghost use Rattle.volume_state.specs.Waits.{id_of, lesser};
 
 use crate::serving;
 use crate::store::{Ready, Report, Store};

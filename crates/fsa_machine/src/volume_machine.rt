@@ -3,15 +3,15 @@
 ghost use Rattle.std.specs.Prelude.{◌≡◌, ◌<◌, [], All, IfOk, length};
 ghost use Rattle.fsa_model.specs.Setup.{setup_of};
 
-use crate::machine::Machine;
+use crate::machine::StoreMachine;
 use fsa_types::{NoMemory, Setup};
 use std::alloc::Global;
 use volume_state::Volume;
 
 /// The machine over the volume in memory.
-pub type VolumeMachine = Machine<Volume>;
+pub type VolumeMachine = StoreMachine<Volume>;
 
-impl Machine<Volume> {
+impl StoreMachine<Volume> {
     /// The machine with no history, over a volume with the root alone. Each client has to have a SID.
     /// `NoMemory` where there is none for it.
     pub fn new(alloc: Global, setup: Setup) -> Result<VolumeMachine, NoMemory>
@@ -20,6 +20,6 @@ impl Machine<Volume> {
         ensures entries { IfOk result (λ machine. machine.entries ≡ []) }
     {
         let volume = Volume::new(alloc, setup)?;
-        Ok(Machine::over(alloc, volume))
+        Ok(StoreMachine::over(alloc, volume))
     }
 }

@@ -7,7 +7,7 @@ use Rattle.std.proofs.lemmas.List.Elements.{All-map, All-filter}
 use Rattle.std.proofs.lemmas.List.Kept.{AllPairs-filter}
 use Rattle.fsa_types.proofs.OplockLemmas.{AreOplocks-effect, CanHave-effect, IsCopy-effect, chosen-are}
 use Rattle.fsa_types.proofs.RowLemmas.{length-filter_le}
-use Rattle.fsa_types.specs.OplockLists.{OplockState, begun, lowered, left_by, last_by, after_effect, effect_on, after_breaks, IsSoundOplock, CanHave, IsCopy}
+use Rattle.fsa_types.specs.OplockLists.{OplockState, break_begun, lowered, left_by_effect, last_by, after_effect, effect_on, after_breaks, IsSoundOplock, CanHave, IsCopy}
 use Rattle.fsa_types.specs.OplockLists.{number_of_break}
 use Rattle.fsa_types.specs.Oplocks.{Effect, Stays, Ends, Begins, Lowers, effect, is_awaited}
 use Rattle.fsa_types.specs.Rows.{row_of}
@@ -219,11 +219,11 @@ keys-changed handles change oplocks same keys =
     All-map (λ oplock. has_its_key handles oplock ≡ true) change oplocks (λ k d within. same (get_or oplocks k d) ∙ keys k d within)
 
 keys-left : (handles : List (ℕ × Handle)) (done : Effect) (handle number : ℕ) (oplocks : List Oplock)
-    → All (λ oplock. has_its_key handles oplock ≡ true) oplocks → All (λ oplock. has_its_key handles oplock ≡ true) (left_by done handle number oplocks)
+    → All (λ oplock. has_its_key handles oplock ≡ true) oplocks → All (λ oplock. has_its_key handles oplock ≡ true) (left_by_effect done handle number oplocks)
 keys-left handles Stays handle number oplocks keys = keys
 keys-left handles Ends handle number oplocks keys = All-filter (λ (o : Oplock). not (o.handle == handle)) (λ o. has_its_key handles o ≡ true) oplocks keys
 keys-left handles (Begins level) handle number oplocks keys =
-    keys-changed handles (begun handle level number) oplocks (λ o. elim (cases_Bool (o.handle == handle)) [ inl here ↦ rw here refl | inr other ↦ rw other refl ]) keys
+    keys-changed handles (break_begun handle level number) oplocks (λ o. elim (cases_Bool (o.handle == handle)) [ inl here ↦ rw here refl | inr other ↦ rw other refl ]) keys
 keys-left handles (Lowers level) handle number oplocks keys =
     keys-changed handles (lowered handle level) oplocks (λ o. elim (cases_Bool (o.handle == handle)) [ inl here ↦ rw here refl | inr other ↦ rw other refl ]) keys
 

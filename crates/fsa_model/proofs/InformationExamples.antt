@@ -4,7 +4,7 @@ use Rattle.std.specs.Prelude.{◌≡◌, ℕ, Bool, true, false, List, [], ◌�
 use Rattle.std.specs.Fmt.{digits}
 use Rattle.fsa_types.specs.CaseTable.{ascii_pairs}
 use Rattle.fsa_types.specs.LittleEndian.{zeros}
-use Rattle.fsa_types.specs.Packing.{head, name_of, entry_bytes}
+use Rattle.fsa_types.specs.Packing.{head, name_field, entry_bytes}
 use Rattle.fsa_types.specs.Status.{status_name}
 use Rattle.fsa_types.specs.declared.reply.Answer.{Answer}
 use Rattle.fsa_types.specs.declared.reply.Answer.TheVariants.{Ended, Pending}
@@ -204,7 +204,7 @@ info_by_rights = refl
 pub info_leaves_all :
     map {B = Volume} (λ (asked : InfoKind × ℕ). volume_after (try_query_info (before 0x7F) 0 1 asked.0 asked.1)) ((Streams, 80) ∷ (Streams, 160) ∷ kinds)
     ≡ replicate 6 (before 0x7F)
-unfolding try_query_info query_info_at query_info_by query_file query_streams query_streams_by head name_of entry_bytes zeros
+unfolding try_query_info query_info_at query_info_by query_file query_streams query_streams_by head name_field entry_bytes zeros
 info_leaves_all = refl
 
 -- ---- answers of a fixed size
@@ -304,7 +304,7 @@ pub streams_in_rooms :
     ++ codes "2800000010000000000000000000000000000000000000003a0042003a0024004400410054004100"
     ++ codes "0000000010000000020000000000000000100000000000003a0073003a0024004400410054004100")
     ∷ []
-unfolding try_query_info query_info_at query_info_by query_file query_streams query_streams_by head name_of entry_bytes zeros
+unfolding try_query_info query_info_at query_info_by query_file query_streams query_streams_by head name_field entry_bytes zeros
 streams_in_rooms = refl
 
 -- by a handle of a named stream, and by another link; of a file with one stream, at its size and one byte below; and
@@ -319,7 +319,7 @@ pub streams_by_handle :
     ∷ codes "SUCCESS"
     ∷ codes "SUCCESS"
     ∷ []
-unfolding try_query_info query_info_at query_info_by query_file query_streams query_streams_by head name_of entry_bytes zeros
+unfolding try_query_info query_info_at query_info_by query_file query_streams query_streams_by head name_field entry_bytes zeros
 streams_by_handle = refl
 
 -- ---- times and attributes that are refused
@@ -496,5 +496,5 @@ pub information_run :
     ∷ codes "SUCCESS x00000000000000000000000000000000050000000000000003000000000000000200000000000000"
     ∷ codes "SUCCESS"
     ∷ [])
-unfolding digits try_create create_at create_walked create_named create_by_link create_found create_there create_in_file create_stream create_on_stream open_stream open_directory open_granted overwrite_existing open_existing clashed create_missing make_file make_directory stopped try_write write_at write_by write_stream write_at_place write_range write_unlocked write_grown write_bytes try_flush flush_at try_query_info query_info_at query_info_by query_file query_streams query_streams_by try_set_basic set_basic_at set_basic_by set_basic_of head name_of entry_bytes zeros
+unfolding digits try_create create_at create_walked create_named create_by_link create_found create_there create_in_file create_stream create_on_stream open_stream open_directory open_granted overwrite_existing open_existing clashed create_missing make_file make_directory stopped try_write write_at write_by write_stream write_at_place write_range write_unlocked write_grown write_bytes try_flush flush_at try_query_info query_info_at query_info_by query_file query_streams query_streams_by try_set_basic set_basic_at set_basic_by set_basic_of head name_field entry_bytes zeros
 information_run = refl

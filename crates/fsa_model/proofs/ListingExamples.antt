@@ -3,7 +3,7 @@
 use Rattle.std.specs.Prelude.{◌≡◌, ℕ, Bool, true, false, List, [], ◌∷◌, ◌++◌, map, Option, Some, None, codes, option_map, replicate, refl}
 use Rattle.fsa_types.specs.CaseTable.{ascii_pairs}
 use Rattle.fsa_types.specs.LittleEndian.{zeros}
-use Rattle.fsa_types.specs.Packing.{head, name_of, entry_bytes}
+use Rattle.fsa_types.specs.Packing.{head, name_field, entry_bytes}
 use Rattle.fsa_types.specs.Status.{status_name}
 use Rattle.fsa_types.specs.declared.reply.Answer.{Answer}
 use Rattle.fsa_types.specs.declared.reply.Answer.TheVariants.{Ended, Pending}
@@ -204,7 +204,7 @@ later_bad_expression = refl
 pub query_with_largest_expression :
     lists before (replicate 255 97) ∷ lists before (0x20 ∷ []) ∷ []
     ≡ ends (stands (replicate 255 97) Start) NoSuchFile ∷ ends (stands (0x20 ∷ []) Start) NoSuchFile ∷ []
-unfolding try_query_dir query_dir_at query_dir_by query_dir_in list_entries head name_of entry_bytes zeros
+unfolding try_query_dir query_dir_at query_dir_by query_dir_in list_entries head name_field entry_bytes zeros
 query_with_largest_expression = refl
 
 -- the room below the place of the name; from there on the query begins, and `.` doesn't fit below two bytes more
@@ -219,7 +219,7 @@ pub query_rooms_at_the_name :
     map {B = Outcome} (λ (asked : DirKind × ℕ). try_query_dir before 0 1 asked.0 [] false asked.1)
     ((Names, 12) ∷ (Names, 13) ∷ (Dir, 64) ∷ (Dir, 65) ∷ (Full, 68) ∷ (Full, 69) ∷ (IdFull, 80) ∷ (IdFull, 81) ∷ [])
     ≡ replicate 8 (ends (stands (codes "*") Start) BufferOverflow)
-unfolding try_query_dir query_dir_at query_dir_by query_dir_in list_entries head name_of entry_bytes zeros
+unfolding try_query_dir query_dir_at query_dir_by query_dir_in list_entries head name_field entry_bytes zeros
 query_rooms_at_the_name = refl
 
 -- ---- what is given, and where it stands then
@@ -235,7 +235,7 @@ pub query_fits :
     ∷ After (codes "B.txt") ∷ After (codes "B.txt")
     ∷ After (codes "e") ∷ After (codes "e")
     ∷ [])
-unfolding try_query_dir query_dir_at query_dir_by query_dir_in list_entries head name_of entry_bytes zeros
+unfolding try_query_dir query_dir_at query_dir_by query_dir_in list_entries head name_field entry_bytes zeros
 query_fits = refl
 
 pub given_in_rooms :
@@ -246,7 +246,7 @@ pub given_in_rooms :
     ∷ (codes "SUCCESS x1000000000000000020000002e000000" ++ codes "1000000000000000040000002e002e00" ++ codes "10000000000000000200000021000000" ++ codes "10000000000000000200000061000000" ++ codes "00000000000000000a00000042002e00740078007400")
     ∷ (codes "SUCCESS x1000000000000000020000002e000000" ++ codes "1000000000000000040000002e002e00" ++ codes "10000000000000000200000021000000" ++ codes "10000000000000000200000061000000" ++ codes "18000000000000000a00000042002e007400780074000000" ++ codes "0000000000000000020000006500")
     ∷ []
-unfolding try_query_dir query_dir_at query_dir_by query_dir_in list_entries head name_of entry_bytes zeros
+unfolding try_query_dir query_dir_at query_dir_by query_dir_in list_entries head name_field entry_bytes zeros
 given_in_rooms = refl
 
 -- going on from each place: from the last name given, also where that is no name of the directory, in any case of the
@@ -264,7 +264,7 @@ pub goes_on :
     ∷ codes "NO_MORE_FILES"
     ∷ codes "NO_MORE_FILES"
     ∷ []
-unfolding try_query_dir query_dir_at query_dir_by query_dir_in list_entries head name_of entry_bytes zeros
+unfolding try_query_dir query_dir_at query_dir_by query_dir_in list_entries head name_field entry_bytes zeros
 goes_on = refl
 
 -- where nothing is left the enumeration stays where it is; at the start there is no such file, again and again
@@ -281,19 +281,19 @@ pub none_left :
     ∷ ends (stands (codes "q*") Start) NoSuchFile
     ∷ ends (stands (codes "q*") Start) NoSuchFile
     ∷ []
-unfolding try_query_dir query_dir_at query_dir_by query_dir_in list_entries head name_of entry_bytes zeros
+unfolding try_query_dir query_dir_at query_dir_by query_dir_in list_entries head name_field entry_bytes zeros
 none_left = refl
 
 -- an entry that doesn't fit is given whole by a later query, and stops the smaller one behind it
 pub overflow_on_the_way :
     map {B = Outcome} (lists_in (stands (codes "*") (After (codes "a")))) (21 ∷ 12 ∷ [])
     ≡ replicate 2 (ends (stands (codes "*") (After (codes "a"))) BufferOverflow)
-unfolding try_query_dir query_dir_at query_dir_by query_dir_in list_entries head name_of entry_bytes zeros
+unfolding try_query_dir query_dir_at query_dir_by query_dir_in list_entries head name_field entry_bytes zeros
 overflow_on_the_way = refl
 
 pub given_after_overflow :
     text_of (lists_in (stands (codes "*") (After (codes "a"))) 22) ≡ codes "SUCCESS x00000000000000000a00000042002e00740078007400"
-unfolding try_query_dir query_dir_at query_dir_by query_dir_in list_entries head name_of entry_bytes zeros
+unfolding try_query_dir query_dir_at query_dir_by query_dir_in list_entries head name_field entry_bytes zeros
 given_after_overflow = refl
 
 -- a restart begins anew also where the first entry doesn't fit; one that is refused before leaves all as it was
@@ -304,7 +304,7 @@ pub restart_with_small_room :
     ≡ ends (stands (codes "*") Start) BufferOverflow
     ∷ ends (stands (codes "*") (After (codes "a"))) InfoLengthMismatch
     ∷ []
-unfolding try_query_dir query_dir_at query_dir_by query_dir_in list_entries head name_of entry_bytes zeros
+unfolding try_query_dir query_dir_at query_dir_by query_dir_in list_entries head name_field entry_bytes zeros
 restart_with_small_room = refl
 
 -- ---- expressions
@@ -326,7 +326,7 @@ pub expressions_kept :
     ∷ Some (codes "b*", After (codes "B.txt"))
     ∷ Some (codes "e", After (codes "e"))
     ∷ []
-unfolding try_query_dir query_dir_at query_dir_by query_dir_in list_entries head name_of entry_bytes zeros
+unfolding try_query_dir query_dir_at query_dir_by query_dir_in list_entries head name_field entry_bytes zeros
 expressions_kept = refl
 
 -- all, and one each of its names; one unit; a dot in it; `<`, `>` and `"`; case of the letters
@@ -346,14 +346,14 @@ pub expressions_match :
     ∷ (codes "SUCCESS x0000000000000000020000006100")
     ∷ (codes "SUCCESS x00000000000000000a00000042002e00740078007400")
     ∷ []
-unfolding try_query_dir query_dir_at query_dir_by query_dir_in list_entries head name_of entry_bytes zeros
+unfolding try_query_dir query_dir_at query_dir_by query_dir_in list_entries head name_field entry_bytes zeros
 expressions_match = refl
 
 -- no name: a marked link's, that of another directory, and the other expressions that match none
 pub expressions_match_none :
     map {B = List ℕ} (λ expression. text_of (lists before expression)) (codes "c" ∷ codes "z" ∷ codes "d" ∷ codes "~" ∷ codes "e?" ∷ codes "B<txt.t" ∷ [])
     ≡ replicate 6 (codes "NO_SUCH_FILE")
-unfolding try_query_dir query_dir_at query_dir_by query_dir_in list_entries head name_of entry_bytes zeros
+unfolding try_query_dir query_dir_at query_dir_by query_dir_in list_entries head name_field entry_bytes zeros
 expressions_match_none = refl
 
 -- ---- the root, a marked directory, and another handle
@@ -366,12 +366,12 @@ pub root_entries :
     ∷ codes "NO_SUCH_FILE"
     ∷ codes "NO_SUCH_FILE"
     ∷ []
-unfolding try_query_dir query_dir_at query_dir_by query_dir_in list_entries head name_of entry_bytes zeros
+unfolding try_query_dir query_dir_at query_dir_by query_dir_in list_entries head name_field entry_bytes zeros
 root_entries = refl
 
 pub empty_root :
     text_of (try_query_dir (record before { links = [] }) 0 2 Names [] false 16384) ≡ codes "NO_SUCH_FILE"
-unfolding try_query_dir query_dir_at query_dir_by query_dir_in list_entries head name_of entry_bytes zeros
+unfolding try_query_dir query_dir_at query_dir_by query_dir_in list_entries head name_field entry_bytes zeros
 empty_root = refl
 
 -- a directory that is marked is listed as before, and not in its parent
@@ -382,20 +382,20 @@ pub marked_directory :
     ≡ codes "SUCCESS x0000000000000000020000006500"
     ∷ codes "SUCCESS x0000000000000000020000007a00"
     ∷ []
-unfolding try_query_dir query_dir_at query_dir_by query_dir_in list_entries head name_of entry_bytes zeros
+unfolding try_query_dir query_dir_at query_dir_by query_dir_in list_entries head name_field entry_bytes zeros
 marked_directory = refl
 
 -- each handle has an enumeration of its own, and nothing else of the volume changes
 pub other_handle :
     map {B = List ℕ} text_of (try_query_dir (stands (codes "e") Start) 1 1 Names (codes "*") false 16384 ∷ try_query_dir (stands (codes "e") Start) 1 1 Names [] true 16384 ∷ [])
     ≡ codes "NO_MORE_FILES" ∷ codes "NO_SUCH_FILE" ∷ []
-unfolding try_query_dir query_dir_at query_dir_by query_dir_in list_entries head name_of entry_bytes zeros
+unfolding try_query_dir query_dir_at query_dir_by query_dir_in list_entries head name_field entry_bytes zeros
 other_handle = refl
 
 pub listed_volume :
     lists_in before 14
     ≡ Done (stands (codes "*") Dot) (record { status = Success; body = Packed pack.Names (0 ∷ 0 ∷ 0 ∷ 0 ∷ 0 ∷ 0 ∷ 0 ∷ 0 ∷ 2 ∷ 0 ∷ 0 ∷ 0 ∷ 46 ∷ 0 ∷ []) })
-unfolding try_query_dir query_dir_at query_dir_by query_dir_in list_entries head name_of entry_bytes zeros
+unfolding try_query_dir query_dir_at query_dir_by query_dir_in list_entries head name_field entry_bytes zeros
 listed_volume = refl
 
 -- ---- the other layouts
@@ -410,7 +410,7 @@ pub dir_bytes :
     ++ codes "480000000000000029000000000000002a000000000000002b000000000000002c000000000000000000000000000000000000000000000000040000020000006100000000000000"
     ++ codes "50000000000000001f0000000000000020000000000000002100000000000000220000000000000005000000000000000010000000000000210000000a00000042002e00740078007400000000000000"
     ++ codes "000000000000000033000000000000003400000000000000350000000000000036000000000000000000000000000000000000000000000010000000020000006500"
-unfolding try_query_dir query_dir_at query_dir_by query_dir_in list_entries head name_of entry_bytes zeros
+unfolding try_query_dir query_dir_at query_dir_by query_dir_in list_entries head name_field entry_bytes zeros
 dir_bytes = refl
 
 pub full_bytes :
@@ -421,7 +421,7 @@ pub full_bytes :
     ++ codes "480000000000000029000000000000002a000000000000002b000000000000002c000000000000000000000000000000000000000000000000040000020000000000000061000000"
     ++ codes "50000000000000001f0000000000000020000000000000002100000000000000220000000000000005000000000000000010000000000000210000000a0000000000000042002e007400780074000000"
     ++ codes "00000000000000003300000000000000340000000000000035000000000000003600000000000000000000000000000000000000000000001000000002000000000000006500"
-unfolding try_query_dir query_dir_at query_dir_by query_dir_in list_entries head name_of entry_bytes zeros
+unfolding try_query_dir query_dir_at query_dir_by query_dir_in list_entries head name_field entry_bytes zeros
 full_bytes = refl
 
 pub id_full_bytes :
@@ -432,7 +432,7 @@ pub id_full_bytes :
     ++ codes "580000000000000029000000000000002a000000000000002b000000000000002c00000000000000000000000000000000000000000000000004000002000000000000000000000004000000000000006100000000000000"
     ++ codes "60000000000000001f0000000000000020000000000000002100000000000000220000000000000005000000000000000010000000000000210000000a0000000000000000000000030000000000000042002e00740078007400000000000000"
     ++ codes "00000000000000003300000000000000340000000000000035000000000000003600000000000000000000000000000000000000000000001000000002000000000000000000000005000000000000006500"
-unfolding try_query_dir query_dir_at query_dir_by query_dir_in list_entries head name_of entry_bytes zeros
+unfolding try_query_dir query_dir_at query_dir_by query_dir_in list_entries head name_field entry_bytes zeros
 id_full_bytes = refl
 
 -- one byte less, and the last entry isn't given
@@ -440,7 +440,7 @@ pub one_byte_less :
     map {B = Option (List ℕ × Cursor)} enumeration_after
     (try_query_dir before 0 1 Dir [] false 433 ∷ try_query_dir before 0 1 Full [] false 437 ∷ try_query_dir before 0 1 IdFull [] false 529 ∷ [])
     ≡ replicate 3 (Some (codes "*", After (codes "B.txt")))
-unfolding try_query_dir query_dir_at query_dir_by query_dir_in list_entries head name_of entry_bytes zeros
+unfolding try_query_dir query_dir_at query_dir_by query_dir_in list_entries head name_field entry_bytes zeros
 one_byte_less = refl
 
 -- ---- a whole run
@@ -493,5 +493,5 @@ pub listing_run :
     ∷ codes "SUCCESS created"
     ∷ codes "SUCCESS x00000000000000000e00000078002e0079002e00740078007400"
     ∷ [])
-unfolding try_create create_at create_walked create_named create_by_link create_found create_there create_in_file create_stream create_on_stream open_stream open_directory open_granted overwrite_existing open_existing clashed create_missing make_file make_directory stopped try_query_dir query_dir_at query_dir_by query_dir_in list_entries head name_of entry_bytes zeros
+unfolding try_create create_at create_walked create_named create_by_link create_found create_there create_in_file create_stream create_on_stream open_stream open_directory open_granted overwrite_existing open_existing clashed create_missing make_file make_directory stopped try_query_dir query_dir_at query_dir_by query_dir_in list_entries head name_field entry_bytes zeros
 listing_run = refl

@@ -5,7 +5,7 @@ use Rattle.std.specs.Prelude.{◌==◌, is_some}
 use Rattle.std.proofs.lemmas.Bool.{cases_Bool}
 use Rattle.std.proofs.lemmas.List.{length-drop}
 use Rattle.std.proofs.lemmas.List.Splits.{join_with_byte-slice_split}
-use Rattle.fsa_types.specs.Paths.{rest_of, pieces}
+use Rattle.fsa_types.specs.Paths.{rest_of, path_pieces}
 use Rattle.fsa_types.specs.Rows.{row_of}
 use Rattle.fsa_types.specs.declared.request.Call.{Call}
 use Rattle.fsa_types.specs.declared.status.Status.TheVariants as status
@@ -36,7 +36,7 @@ join-drop (part ∷ next ∷ parts) (suc n) =
 
 pub length-rest_of : (path : List ℕ) (next : ℕ) → length (rest_of path next) ≤ length path
 length-rest_of path next =
-    let fewer = join-drop (pieces path) next in
+    let fewer = join-drop (path_pieces path) next in
     let whole = ap (λ (units : List ℕ). length units) (join_with_byte-slice_split 92 (drop 1 path)) in
     let tail = length-drop 1 path in
     omega arith

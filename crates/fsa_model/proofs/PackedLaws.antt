@@ -10,7 +10,7 @@ use Rattle.std.proofs.lemmas.List.Concat.{flat_map-cons}
 use Rattle.std.proofs.lemmas.Nat.{from_le_bytes-to_le_bytes_4, from_le_bytes-to_le_bytes_8}
 use Rattle.fsa_types.specs.LittleEndian.{little_endian, unit_bytes, utf16, zeros}
 use Rattle.fsa_types.specs.PackedRows.{Numbers, NumbersFit, PackRow}
-use Rattle.fsa_types.specs.Packing.{Packed, packed, head, head_size, before_name, after_name, name_of, rounded, shown, size_of, entry_bytes, entries_bytes, is_nothing, bytes}
+use Rattle.fsa_types.specs.Packing.{Packed, packed, head, head_size, before_name, after_name, name_field, rounded, shown, size_of, entry_bytes, entries_bytes, is_nothing, bytes}
 use Rattle.fsa_types.specs.declared.reply.PackKind.{PackKind}
 use Rattle.fsa_types.specs.declared.reply.PackKind.TheVariants.{Names, Dir, Full, IdFull, Streams, Changes}
 use Rattle.fsa_model.specs.PackedText.{number_in, units_in, numbers_at, next_at, len_at, field_of, inner, entry_at, rest_at, if_spelled, read_entry, first_entries, entries_in, shown_text, entry_text, packed_text, row_text, IsPacked, StartsWith, AreUnits, RowFits, RowsFit}
@@ -138,8 +138,8 @@ length-utf16 : (units : List ℕ) → length (utf16 units) ≡ 2 * length units
 length-utf16 [] = refl
 length-utf16 (unit ∷ units) = let more = length-utf16 units in ap length (flat_map-cons unit_bytes unit units) ∙ omega (arith, length-append (unit_bytes unit) (utf16 units), more)
 
-length-name_of : (kind : PackKind) (units : List ℕ) → length (name_of kind units) ≡ 2 * (length (before_name kind) + length units + length (after_name kind))
-unfolding name_of
+length-name_of : (kind : PackKind) (units : List ℕ) → length (name_field kind units) ≡ 2 * (length (before_name kind) + length units + length (after_name kind))
+unfolding name_field
 length-name_of kind units =
     let a = length-utf16 (before_name kind) in
     let b = length-utf16 units in
@@ -206,8 +206,8 @@ low-same : (units : List ℕ) → AreUnits units → map low units ≡ units
 low-same [] fit = refl
 low-same (unit ∷ units) fit = let first : low unit ≡ unit = (let fits = fit.0 in omega arith) in λ i. first i ∷ low-same units fit.1 i
 
-units-name : (kind : PackKind) (units : List ℕ) → units_in (name_of kind units) ≡ before_name kind ++ map low units ++ after_name kind
-unfolding name_of
+units-name : (kind : PackKind) (units : List ℕ) → units_in (name_field kind units) ≡ before_name kind ++ map low units ++ after_name kind
+unfolding name_field
 units-name Changes units = units-utf16 units []
 units-name Names units = units-utf16 units []
 units-name Dir units = units-utf16 units []
@@ -224,10 +224,10 @@ inner-name IdFull units = take_at units [] (length (units ++ []) - 0) (omega (ar
 inner-name Streams units = take_at units (after_name Streams) (length (0x3A ∷ (units ++ after_name Streams)) - 7) (omega (arith, length-append units (after_name Streams)))
 
 -- a name is read back as bytes, whatever its units
-name-again : (kind : PackKind) (units : List ℕ) → name_of kind (inner kind (units_in (name_of kind units))) ≡ name_of kind units
-unfolding name_of
+name-again : (kind : PackKind) (units : List ℕ) → name_field kind (inner kind (units_in (name_field kind units))) ≡ name_field kind units
+unfolding name_field
 name-again kind units =
-    ap (λ (us : List ℕ). name_of kind us) (ap (inner kind) (units-name kind units) ∙ inner-name kind (map low units))
+    ap (λ (us : List ℕ). name_field kind us) (ap (inner kind) (units-name kind units) ∙ inner-name kind (map low units))
     ∙ ap (λ (bs : List ℕ). utf16 (before_name kind) ++ bs ++ utf16 (after_name kind)) (utf16-low units)
 
 length-units_in : (xs : List ℕ) → 2 * length (units_in xs) ≤ length xs
@@ -258,8 +258,8 @@ entry-back : (kind : PackKind) (e : Packed) (last : Bool) (rest : List ℕ) → 
 entry-back kind e last rest is =
     let numbers : numbers_at kind (head kind e.numbers (next_of kind (size_of kind e) last) (length e.name) ++ behind kind e last rest) ≡ e.numbers
     = numbers-head kind e.numbers (next_of kind (size_of kind e) last) (length e.name) (behind kind e last rest) is.numbers ∙ is.only in
-    let name : name_of kind (inner kind (units_in (field_of kind (head kind e.numbers (next_of kind (size_of kind e) last) (length e.name) ++ behind kind e last rest)))) ≡ e.name
-    = ap (λ (bs : List ℕ). name_of kind (inner kind (units_in bs))) (field-back kind e last rest is ∙ is.name.1) ∙ name-again kind is.name.0 ∙ sym is.name.1 in
+    let name : name_field kind (inner kind (units_in (field_of kind (head kind e.numbers (next_of kind (size_of kind e) last) (length e.name) ++ behind kind e last rest)))) ≡ e.name
+    = ap (λ (bs : List ℕ). name_field kind (inner kind (units_in bs))) (field-back kind e last rest is ∙ is.name.1) ∙ name-again kind is.name.0 ∙ sym is.name.1 in
     λ i. record { numbers = numbers i; name = name i }
 
 rest-next : (bytes : List ℕ) (next : ℕ) → next_at bytes ≡ next → 0 < next → rest_at bytes ≡ drop next bytes
@@ -467,7 +467,7 @@ shown_text-shown Streams n units = refl
 
 entry_text-row : (kind : PackKind) (row : PackRow) → AreUnits row.name → entry_text kind (packed kind row) ≡ row_text kind row
 entry_text-row kind row units =
-    shown_text-shown kind row.numbers (units_in (name_of kind row.name))
+    shown_text-shown kind row.numbers (units_in (name_field kind row.name))
     ∙ ap (shown_text kind row.numbers) (units-name kind row.name ∙ ap (λ (us : List ℕ). before_name kind ++ us ++ after_name kind) (low-same row.name units))
 
 row-starts : (kind : PackKind) (row : PackRow) (rows : List PackRow) → RowFits row → StartsWith kind (bytes kind (row ∷ rows)) (packed kind row) (bytes kind rows)

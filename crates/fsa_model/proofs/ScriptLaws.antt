@@ -31,7 +31,7 @@ use Rattle.fsa_model.specs.ListingLines.{dir_kind_at, query_dir_fields, notify_f
 use Rattle.fsa_model.specs.ControlLines.{set_reparse_fields, get_reparse_fields, delete_reparse_fields, most_limit, set_quota_fields, query_quota_fields}
 use Rattle.fsa_model.specs.ClockLines.{tick_fields}
 use Rattle.fsa_model.specs.WaitLines.{cancel_fields, wait_fields}
-use Rattle.fsa_model.specs.InformationLines.{info_kind_at, query_info_fields, most_time, set_basic_fields, owner_at, ace_of, entry_of, after_entry, ace_onto, aces_of, most_aces, dacl_of, dacl_at, set_security_fields}
+use Rattle.fsa_model.specs.InformationLines.{info_kind_at, query_info_fields, most_time, set_basic_fields, owner_at, ace_of, before_comma, after_entry, ace_onto, aces_of, most_aces, dacl_of, dacl_at, set_security_fields}
 use Rattle.fsa_model.specs.Lines.{Line, Version, DefaultTable, PairTable, Pair, ClientLine, RequestLine, pair_at, sids_at, client_at, request_of, line_of}
 use Rattle.fsa_model.specs.Script.{Reading, nothing_read, takes_version, takes_table, takes_pairs, takes_clients, takes_requests, place_of, next_number, with_call, with_client, take_client, take_call, take_request_of, take_request, take_line, line_after, end_after, at_line, lines_from, pieces, script_of}
 use Rattle.fsa_model.specs.Schedule.{calls_of, leave_after, AreNumbered, all_calls}
@@ -351,7 +351,7 @@ aces_of-few zero bytes = only_if-gives (AreFew 0) (length bytes == 0) [] (omega 
 aces_of-few (suc most) [] = ok-gives (AreFew (suc most)) [] (omega arith)
 aces_of-few (suc most) (comma ∷ bytes) =
     if-gives (AreFew (suc most)) (comma == 44) _ _
-    (λ is. then-gives (AreFew (suc most)) (ace_of (entry_of bytes)) _ (λ ace. ace_onto-few most ace (aces_of most (after_entry bytes)) (aces_of-few most (after_entry bytes))))
+    (λ is. then-gives (AreFew (suc most)) (ace_of (before_comma bytes)) _ (λ ace. ace_onto-few most ace (aces_of most (after_entry bytes)) (aces_of-few most (after_entry bytes))))
     (λ no. err-gives (AreFew (suc most)) _)
 
 abbrev DaclFits : DaclChange → Type 0

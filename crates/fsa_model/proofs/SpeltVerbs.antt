@@ -31,8 +31,8 @@ use Rattle.fsa_model.specs.FieldText.{number_text, mask_text, choice_text, strin
 use Rattle.fsa_model.specs.OpenLines.{most_key, disposition_of, disposition_at, disposition_text, create_fields, close_fields}
 use Rattle.fsa_model.specs.ByteLines.{read_fields, written_place, start_at, start_text, write_fields, flush_fields, set_end_fields}
 use Rattle.fsa_model.specs.LockLines.{lock_fields, unlock_fields}
-use Rattle.fsa_model.specs.OplockLines.{level_of, level_at, oplock_fields, ack_fields}
-use Rattle.fsa_model.specs.InformationLines.{info_kind_of, info_kind_at, info_kind_text, query_info_fields, most_time, set_basic_fields, sid_of, owner_at, owner_text, ace_with, ace_of, ace_text, entry_of, after_entry, ace_onto, aces_of, most_aces, dacl_of, dacl_at, dacl_text, is_ace, is_dacl, set_security_fields}
+use Rattle.fsa_model.specs.OplockLines.{level_of_word, level_at, oplock_fields, ack_fields}
+use Rattle.fsa_model.specs.InformationLines.{info_kind_of, info_kind_at, info_kind_text, query_info_fields, most_time, set_basic_fields, sid_of, owner_at, owner_text, ace_with, ace_of, ace_text, before_comma, after_entry, ace_onto, aces_of, most_aces, dacl_of, dacl_at, dacl_text, is_ace, is_dacl, set_security_fields}
 use Rattle.fsa_model.specs.ListingLines.{dir_kind_of, dir_kind_at, dir_kind_text, query_dir_fields, notify_fields}
 use Rattle.fsa_model.specs.ControlLines.{set_reparse_fields, get_reparse_fields, delete_reparse_fields, most_limit, set_quota_fields, query_quota_fields}
 use Rattle.fsa_model.specs.NameLines.{rename_fields, link_fields, set_disposition_fields}
@@ -170,10 +170,10 @@ aces_of-back zero bytes aces is =
     subst (λ (b : List ℕ). ReadsAces zero aces b) (sym (none_left bytes parts.0)) (no_aces zero aces parts.1)
 aces_of-back (suc most) [] aces is = no_aces (suc most) aces (let e : Ok [] ≡ Ok aces = is in cc)
 aces_of-back (suc most) (comma ∷ bytes) aces is =
-    let parts = if_ok (comma == 44) (ace_of (entry_of bytes) >>= (λ ace. ace_onto ace (aces_of most (after_entry bytes)))) aces is in
-    let ace = bind_ok (ace_of (entry_of bytes)) (λ ace. ace_onto ace (aces_of most (after_entry bytes))) aces parts.1 in
+    let parts = if_ok (comma == 44) (ace_of (before_comma bytes) >>= (λ ace. ace_onto ace (aces_of most (after_entry bytes)))) aces is in
+    let ace = bind_ok (ace_of (before_comma bytes)) (λ ace. ace_onto ace (aces_of most (after_entry bytes))) aces parts.1 in
     let more = ace_onto_ok ace.0 (aces_of most (after_entry bytes)) aces ace.2 in
-    let first = ace_of-back (entry_of bytes) ace.0 ace.1 in
+    let first = ace_of-back (before_comma bytes) ace.0 ace.1 in
     let rest = aces_of-back most (after_entry bytes) more.0 more.1 in
     let few : length more.0 ≤ most = rest.2 in
     subst (λ (a : List Ace). ReadsAces (suc most) a (comma ∷ bytes)) more.2 (
@@ -268,7 +268,7 @@ level_case word name this level other text is else_so =
       | inr h ↦ else_so h
     ]
 
-level_of-back : (word : List ℕ) (level : Level) → level_of word ≡ Ok level → 32 ∷ word ≡ level_text level
+level_of-back : (word : List ℕ) (level : Level) → level_of_word word ≡ Ok level → 32 ∷ word ≡ level_text level
 level_of-back word level is =
     level_case word (codes "none") Nil level _ refl is (λ is.
     level_case word (codes "r") R level _ refl is (λ is.
@@ -280,7 +280,7 @@ level_at-back : (bytes : List ℕ) (level : Level × List ℕ) → level_at byte
 unfolding level_at
 level_at-back bytes level is =
     let word = bind_ok (field_at bytes) _ level is in
-    let value = bind_ok (level_of word.0.0) _ level word.2 in
+    let value = bind_ok (level_of_word word.0.0) _ level word.2 in
     let pair : (value.0, word.0.1) ≡ level = (let e : Ok (value.0, word.0.1) ≡ Ok level = value.2 in cc) in
     field_back bytes word.0 word.1 ∙ ap (λ (w : List ℕ). w ++ word.0.1) (level_of-back word.0.0 value.0 value.1) ∙ ap (λ (p : Level × List ℕ). level_text p.0 ++ p.1) pair
 

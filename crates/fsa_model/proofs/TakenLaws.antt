@@ -18,7 +18,7 @@ use Rattle.fsa_model.specs.Settle.{Settling, with_tried, starves, held_taken_up,
 use Rattle.fsa_model.specs.Try.{try}
 use Rattle.fsa_model.specs.Volume.{Pending, Volume}
 use Rattle.fsa_model.specs.Waiting.{AreLiving, blocker_lives, is_held, is_ready, next_ready, is_granted_under}
-pub use Rattle.fsa_model.specs.Settling.{is_ungiven, HasGiven, is_let_go, let_go, GivesAtMost, GoesOn, MayTakeUp}
+pub use Rattle.fsa_model.specs.Settling.{is_ungiven, HasGiven, is_let_go_under, let_go, GivesAtMost, GoesOn, MayTakeUp}
 use Rattle.fsa_model.proofs.CountLaws.{and_left, and_right, how_many-append, how_many-weaker, how_many-same, how_many-filter, how_many-filter_le, how_many-map, how_many-split, how_many-some, how_many-none, some-how_many, only-one, how_many-length}
 use Rattle.fsa_model.proofs.OnceLaws.{AddsEnds, AddsEnds-length, AddsEnds-same, AddsEnds-next, is_call_of, is_same-refl, IsOnce-kept}
 use Rattle.fsa_model.proofs.RowLaws.{option_cases, option_map-none, change_at, change_at-number}
@@ -97,9 +97,9 @@ blocked-same v w (b ∷ blockers) leaves given =
 -- as many calls are let go as before
 let_go-kept : (turn : ℕ) (v w : Volume) → Leaves v w → IsOnce v → GrantsNoneHeld v → HasGiven v → let_go turn w ≡ let_go turn v
 let_go-kept turn v w leaves once none given =
-    how_many-same (is_let_go turn w) (λ e. is_held e.1 && (is_under turn e && is_free w e)) w.pending (λ e. turned_round (is_under turn e) (is_held e.1) (is_free w e))
+    how_many-same (is_let_go_under turn w) (λ e. is_held e.1 && (is_under turn e && is_free w e)) w.pending (λ e. turned_round (is_under turn e) (is_held e.1) (is_free w e))
     ∙ leaves.held once none (λ e. is_under turn e && is_free w e)
-    ∙ how_many-agree (λ e. is_held e.1 && (is_under turn e && is_free w e)) (is_let_go turn v) (is_ungiven v) v.pending given.blockers
+    ∙ how_many-agree (λ e. is_held e.1 && (is_under turn e && is_free w e)) (is_let_go_under turn v) (is_ungiven v) v.pending given.blockers
     (λ e is. ap (λ (blocked : Bool). is_held e.1 && (is_under turn e && not blocked)) (blocked-same v w e.1.blockers leaves is) ∙ sym (turned_round (is_under turn e) (is_held e.1) (is_free v e)))
   where
     turned_round : (a b c : Bool) → (a && (b && c)) ≡ (b && (a && c))
@@ -127,25 +127,25 @@ HasGiven-kept v w leaves given = record {
 -- ---- a call that is let go ends, or is held anew
 
 -- it ends
-let_go-ends : (turn at : ℕ) (v : Volume) (client number : ℕ) (reply : Reply) → IsOnce v → list_any (λ e. is_call_of client number e && is_let_go at v e) v.pending ≡ true
+let_go-ends : (turn at : ℕ) (v : Volume) (client number : ℕ) (reply : Reply) → IsOnce v → list_any (λ e. is_call_of client number e && is_let_go_under at v e) v.pending ≡ true
     → one_if (at == turn) + let_go turn (with_end v client number reply) ≡ let_go turn v
 let_go-ends turn at v client number reply once some =
     let few : times client number v ≤ 1 = once client number in
-    let kept = how_many-filter (is_let_go turn v) (λ e. not (is_call client number e.1)) v.pending in
-    let same = how_many-same (λ e. not (is_call client number e.1) && is_let_go turn v e) (λ e. is_let_go turn v e && not (is_call_of client number e)) v.pending (λ e. swapped (not (is_call client number e.1)) (is_let_go turn v e)) in
-    let split = how_many-split (is_let_go turn v) (is_call_of client number) v.pending in
+    let kept = how_many-filter (is_let_go_under turn v) (λ e. not (is_call client number e.1)) v.pending in
+    let same = how_many-same (λ e. not (is_call client number e.1) && is_let_go_under turn v e) (λ e. is_let_go_under turn v e && not (is_call_of client number e)) v.pending (λ e. swapped (not (is_call client number e.1)) (is_let_go_under turn v e)) in
+    let split = how_many-split (is_let_go_under turn v) (is_call_of client number) v.pending in
     elim (cases_Bool (at == turn)) [
       | inl is ↦ (let here : at ≡ turn = eqb-true at turn is in
-          let there : list_any (λ e. is_call_of client number e && is_let_go turn v e) v.pending ≡ true = subst (λ (t : ℕ). list_any (λ e. is_call_of client number e && is_let_go t v e) v.pending ≡ true) here some in
-          let one = how_many-some (λ e. is_call_of client number e && is_let_go turn v e) v.pending there in
-          let commuted = how_many-same (λ e. is_let_go turn v e && is_call_of client number e) (λ e. is_call_of client number e && is_let_go turn v e) v.pending (λ e. swapped (is_let_go turn v e) (is_call_of client number e)) in
-          let most = how_many-weaker (λ e. is_call_of client number e && is_let_go turn v e) (is_call_of client number) v.pending (λ e both. and_left (is_call_of client number e) (is_let_go turn v e) both) in
+          let there : list_any (λ e. is_call_of client number e && is_let_go_under turn v e) v.pending ≡ true = subst (λ (t : ℕ). list_any (λ e. is_call_of client number e && is_let_go_under t v e) v.pending ≡ true) here some in
+          let one = how_many-some (λ e. is_call_of client number e && is_let_go_under turn v e) v.pending there in
+          let commuted = how_many-same (λ e. is_let_go_under turn v e && is_call_of client number e) (λ e. is_call_of client number e && is_let_go_under turn v e) v.pending (λ e. swapped (is_let_go_under turn v e) (is_call_of client number e)) in
+          let most = how_many-weaker (λ e. is_call_of client number e && is_let_go_under turn v e) (is_call_of client number) v.pending (λ e both. and_left (is_call_of client number e) (is_let_go_under turn v e) both) in
           rw is (omega arith))
       | inr other ↦ (let under : list_any (λ e. is_call_of client number e && is_under at e) v.pending ≡ true
-          = some-how_many (λ e. is_call_of client number e && is_under at e) v.pending (let many = how_many-some (λ e. is_call_of client number e && is_let_go at v e) v.pending some in
-          let weaker = how_many-weaker (λ e. is_call_of client number e && is_let_go at v e) (λ e. is_call_of client number e && is_under at e) v.pending (λ e all. fewer (is_call_of client number e) (is_under at e) _ all) in omega arith) in
+          = some-how_many (λ e. is_call_of client number e && is_under at e) v.pending (let many = how_many-some (λ e. is_call_of client number e && is_let_go_under at v e) v.pending some in
+          let weaker = how_many-weaker (λ e. is_call_of client number e && is_let_go_under at v e) (λ e. is_call_of client number e && is_under at e) v.pending (λ e all. fewer (is_call_of client number e) (is_under at e) _ all) in omega arith) in
           let none = how_many-none (λ e. is_call_of client number e && not (is_under at e)) v.pending (only-one (is_call_of client number) (is_under at) v.pending (omega arith) under) in
-          let no_more = how_many-weaker (λ e. is_let_go turn v e && is_call_of client number e) (λ e. is_call_of client number e && not (is_under at e)) v.pending (λ e all. elsewhere e other all) in
+          let no_more = how_many-weaker (λ e. is_let_go_under turn v e && is_call_of client number e) (λ e. is_call_of client number e && not (is_under at e)) v.pending (λ e all. elsewhere e other all) in
           rw other (omega arith))
     ]
   where
@@ -154,29 +154,29 @@ let_go-ends turn at v client number reply once some =
     fewer true false c all = all
     fewer false b c all = all
 
-    elsewhere : (e : ℕ × Pending) → (at == turn) ≡ false → (is_let_go turn v e && is_call_of client number e) ≡ true → (is_call_of client number e && not (is_under at e)) ≡ true
+    elsewhere : (e : ℕ × Pending) → (at == turn) ≡ false → (is_let_go_under turn v e && is_call_of client number e) ≡ true → (is_call_of client number e && not (is_under at e)) ≡ true
     elsewhere e other all =
-        let call : is_call_of client number e ≡ true = and_right (is_let_go turn v e) (is_call_of client number e) all in
-        let under : (e.0 == turn) ≡ true = and_left (is_under turn e) (is_held e.1 && is_free v e) (and_left (is_let_go turn v e) (is_call_of client number e) all) in
+        let call : is_call_of client number e ≡ true = and_right (is_let_go_under turn v e) (is_call_of client number e) all in
+        let under : (e.0 == turn) ≡ true = and_left (is_under turn e) (is_held e.1 && is_free v e) (and_left (is_let_go_under turn v e) (is_call_of client number e) all) in
         rw call (elim (cases_Bool (e.0 == at)) [
           | inr isnt ↦ rw isnt refl
           | inl is ↦ (let one : e.0 ≡ turn = eqb-true e.0 turn under in let two : e.0 ≡ at = eqb-true e.0 at is in let impossible : (at == turn) ≡ true = eq-eqb at turn (omega arith) in cc)
         ])
 
 -- it is held anew
-let_go-holds : (turn at : ℕ) (v : Volume) (blockers : List Blocker) → how_many (is_under at) v.pending ≤ 1 → list_any (is_let_go at v) v.pending ≡ true → list_any (blocker_lives v) blockers ≡ true
+let_go-holds : (turn at : ℕ) (v : Volume) (blockers : List Blocker) → how_many (is_under at) v.pending ≤ 1 → list_any (is_let_go_under at v) v.pending ≡ true → list_any (blocker_lives v) blockers ≡ true
     → one_if (at == turn) + let_go turn (with_blockers v at blockers) ≡ let_go turn v
 let_go-holds turn at v blockers one some live =
-    let mapped = how_many-map (is_let_go turn v) (change_at change at) v.pending in
+    let mapped = how_many-map (is_let_go_under turn v) (change_at change at) v.pending in
     elim (cases_Bool (at == turn)) [
       | inl is ↦ (let here : at ≡ turn = eqb-true at turn is in
-          let none = how_many-none (λ e. is_let_go turn v (change_at change at e)) v.pending (list_any_none (λ e. is_let_go turn v (change_at change at e)) v.pending (λ k d within. held_now here (get_at k d))) in
-          let there : list_any (is_let_go turn v) v.pending ≡ true = subst (λ (t : ℕ). list_any (is_let_go t v) v.pending ≡ true) here some in
-          let many = how_many-some (is_let_go turn v) v.pending there in
+          let none = how_many-none (λ e. is_let_go_under turn v (change_at change at e)) v.pending (list_any_none (λ e. is_let_go_under turn v (change_at change at e)) v.pending (λ k d within. held_now here (get_at k d))) in
+          let there : list_any (is_let_go_under turn v) v.pending ≡ true = subst (λ (t : ℕ). list_any (is_let_go_under t v) v.pending ≡ true) here some in
+          let many = how_many-some (is_let_go_under turn v) v.pending there in
           let few : how_many (is_under turn) v.pending ≤ 1 = subst (λ (t : ℕ). how_many (is_under t) v.pending ≤ 1) here one in
-          let most = how_many-weaker (is_let_go turn v) (is_under turn) v.pending (λ e both. and_left (is_under turn e) (is_held e.1 && is_free v e) both) in
+          let most = how_many-weaker (is_let_go_under turn v) (is_under turn) v.pending (λ e both. and_left (is_under turn e) (is_held e.1 && is_free v e) both) in
           rw is (omega arith))
-      | inr other ↦ (let same = how_many-same (λ e. is_let_go turn v (change_at change at e)) (is_let_go turn v) v.pending (λ e. not_it other e) in rw other (omega arith))
+      | inr other ↦ (let same = how_many-same (λ e. is_let_go_under turn v (change_at change at e)) (is_let_go_under turn v) v.pending (λ e. not_it other e) in rw other (omega arith))
     ]
   where
     change : Pending → Pending
@@ -190,13 +190,13 @@ let_go-holds turn at v blockers one some live =
     no_free true false = refl
     no_free false b = refl
 
-    held_now : at ≡ turn → (e : ℕ × Pending) → is_let_go turn v (change_at change at e) ≡ false
+    held_now : at ≡ turn → (e : ℕ × Pending) → is_let_go_under turn v (change_at change at e) ≡ false
     held_now here e = elim (cases_Bool (e.0 == at)) [
       | inl is ↦ rw (is, live) (no_free (e.0 == turn) (not (length blockers == 0)))
       | inr isnt ↦ (let elsewhere : (e.0 == turn) ≡ false = subst (λ (t : ℕ). (e.0 == t) ≡ false) here isnt in rw (isnt, elsewhere) refl)
     ]
 
-    not_it : (at == turn) ≡ false → (e : ℕ × Pending) → is_let_go turn v (change_at change at e) ≡ is_let_go turn v e
+    not_it : (at == turn) ≡ false → (e : ℕ × Pending) → is_let_go_under turn v (change_at change at e) ≡ is_let_go_under turn v e
     not_it other e = elim (cases_Bool (e.0 == at)) [
       | inl is ↦ (let elsewhere : (e.0 == turn) ≡ false = rw (eqb-true e.0 at is) other in rw (is, elsewhere) refl)
       | inr isnt ↦ rw isnt refl
@@ -240,7 +240,7 @@ GoesOn-step v s t turns on steps taken goes in_order below = record {
 }
 
 -- the call is there, and no living blocker holds it
-is-let_go : (v : Volume) (entry : ℕ × Pending) → IsNext v entry → is_held entry.1 ≡ true → is_let_go entry.0 v entry ≡ true
+is-let_go : (v : Volume) (entry : ℕ × Pending) → IsNext v entry → is_held entry.1 ≡ true → is_let_go_under entry.0 v entry ≡ true
 is-let_go v entry next held = rw (eq-eqb entry.0 entry.0 refl, held, ready-free v entry.1 next.ready) refl
 
 HasGiven-ends : (v : Volume) (client number : ℕ) (reply : Reply) → HasGiven v → HasGiven (with_end v client number reply)
@@ -271,8 +271,8 @@ LeadsTo-unheld v entry reply once none given there waits =
       gives = λ more up. GivesAtMost-ends v v entry.1.call.client entry.1.call.number more reply (FewNumbers-same (SameNumbers-same v)) (AddsEnds-same v.ended) up;
       breaks = omega arith;
       taken = λ turn. (let stay = held-ends v entry.1.call.client entry.1.call.number reply once other (λ e. is_under turn e && is_free v e) in
-          let before = how_many-same (is_let_go turn v) (λ e. is_held e.1 && (is_under turn e && is_free v e)) v.pending (λ e. turned_round (is_under turn e) (is_held e.1) (is_free v e)) in
-          let after = how_many-same (is_let_go turn v) (λ e. is_held e.1 && (is_under turn e && is_free v e)) (with_end v entry.1.call.client entry.1.call.number reply).pending (λ e. turned_round (is_under turn e) (is_held e.1) (is_free v e)) in
+          let before = how_many-same (is_let_go_under turn v) (λ e. is_held e.1 && (is_under turn e && is_free v e)) v.pending (λ e. turned_round (is_under turn e) (is_held e.1) (is_free v e)) in
+          let after = how_many-same (is_let_go_under turn v) (λ e. is_held e.1 && (is_under turn e && is_free v e)) (with_end v entry.1.call.client entry.1.call.number reply).pending (λ e. turned_round (is_under turn e) (is_held e.1) (is_free v e)) in
           omega arith);
     }
   where
@@ -306,14 +306,14 @@ LeadsTo-waits v w entry reply un once none given next waits =
 
 -- after the try the held call is still there, and still let go
 still-let_go : (v w : Volume) (entry : ℕ × Pending) (test : ℕ × Pending → Bool) → Leaves v w → IsOnce v → GrantsNoneHeld v → HasGiven v → IsNext v entry → is_held entry.1 ≡ true → test entry ≡ true
-    → list_any (λ e. test e && is_let_go entry.0 w e) w.pending ≡ true
+    → list_any (λ e. test e && is_let_go_under entry.0 w e) w.pending ≡ true
 still-let_go v w entry test leaves once none given next held passes =
     let there = next.is_there (λ e. is_held e.1 && (test e && (is_under entry.0 e && is_free v e))) (rw (held, passes, eq-eqb entry.0 entry.0 refl, ready-free v entry.1 next.ready) refl) in
     let later = leaves.held once none (λ e. test e && (is_under entry.0 e && is_free w e)) in
     let agree = how_many-agree (λ e. is_held e.1 && (test e && (is_under entry.0 e && is_free w e))) (λ e. is_held e.1 && (test e && (is_under entry.0 e && is_free v e))) (is_ungiven v) v.pending given.blockers
     (λ e is. ap (λ (blocked : Bool). is_held e.1 && (test e && (is_under entry.0 e && not blocked))) (blocked-same v w e.1.blockers leaves is)) in
-    let order = how_many-same (λ e. test e && is_let_go entry.0 w e) (λ e. is_held e.1 && (test e && (is_under entry.0 e && is_free w e))) w.pending (λ e. reordered (test e) (is_under entry.0 e) (is_held e.1) (is_free w e)) in
-    some-how_many (λ e. test e && is_let_go entry.0 w e) w.pending (omega arith)
+    let order = how_many-same (λ e. test e && is_let_go_under entry.0 w e) (λ e. is_held e.1 && (test e && (is_under entry.0 e && is_free w e))) w.pending (λ e. reordered (test e) (is_under entry.0 e) (is_held e.1) (is_free w e)) in
+    some-how_many (λ e. test e && is_let_go_under entry.0 w e) w.pending (omega arith)
   where
     reordered : (a b c d : Bool) → (a && (b && (c && d))) ≡ (c && (a && (b && d)))
     reordered true true true d = refl
@@ -330,10 +330,10 @@ LeadsTo-ends v w entry reply leaves few once none given next held =
     let client = entry.1.call.client in
     let number = entry.1.call.number in
     let once_after : IsOnce w = IsOnce-kept v w (leaves.keeps.times once) once in
-    let some : list_any (λ e. is_call_of client number e && is_let_go entry.0 w e) w.pending ≡ true
+    let some : list_any (λ e. is_call_of client number e && is_let_go_under entry.0 w e) w.pending ≡ true
     = still-let_go v w entry (is_call_of client number) leaves once none given next held (is_same-refl client number) in
-    let many = how_many-some (λ e. is_call_of client number e && is_let_go entry.0 w e) w.pending some in
-    let weaker = how_many-weaker (λ e. is_call_of client number e && is_let_go entry.0 w e) (is_call_of client number) w.pending (λ e both. and_left (is_call_of client number e) (is_let_go entry.0 w e) both) in
+    let many = how_many-some (λ e. is_call_of client number e && is_let_go_under entry.0 w e) w.pending some in
+    let weaker = how_many-weaker (λ e. is_call_of client number e && is_let_go_under entry.0 w e) (is_call_of client number) w.pending (λ e both. and_left (is_call_of client number e) (is_let_go_under entry.0 w e) both) in
     let keeps : Keeps v (with_end w client number reply) = Keeps-next leaves.keeps (Keeps-ends w client number reply (omega arith)) in
     record {
       none_held = GrantsNoneHeld-kept v _ keeps none;
@@ -387,7 +387,7 @@ LeadsTo-holds v w entry blockers leaves numbers living may once none given next 
     few : how_many (is_under entry.0) w.pending ≤ 1
     few = MaySettle.turns (MaySettle-kept v w leaves.keeps may) entry.0
 
-    still_there : list_any (λ e. true && is_let_go entry.0 w e) w.pending ≡ true → list_any (is_let_go entry.0 w) w.pending ≡ true
+    still_there : list_any (λ e. true && is_let_go_under entry.0 w e) w.pending ≡ true → list_any (is_let_go_under entry.0 w) w.pending ≡ true
     still_there some = some
 
     some_lives : list_any (blocker_lives w) blockers ≡ true
@@ -438,7 +438,7 @@ GoesOn-takes : (v : Volume) (s t : Settling) (entry : ℕ × Pending) → GoesOn
 GoesOn-takes v s t entry on next held steps taken goes = GoesOn-step v s t (entry.0 ∷ []) on steps taken goes in_order below
   where
     before : All (λ a. a < entry.0) s.taken
-    before = on.below entry.0 (next.is_there (is_let_go entry.0 s.volume) (is-let_go s.volume entry next held))
+    before = on.below entry.0 (next.is_there (is_let_go_under entry.0 s.volume) (is-let_go s.volume entry next held))
 
     in_order : AllPairs (λ a b. a < b) t.taken
     in_order = subst (λ (turns : List ℕ). AllPairs (λ a b. a < b) turns) (sym taken) (all_pairs_push (λ a b. a < b) s.taken entry.0 on.in_order (λ k d within. before k d within))
@@ -448,12 +448,12 @@ GoesOn-takes v s t entry on next held steps taken goes = GoesOn-step v s t (entr
       | inl is ↦ (let one = goes.taken turn in
           let both : (1 + 0) + let_go turn t.volume ≡ let_go turn s.volume = rw is at one in
           let few : how_many (is_under turn) s.volume.pending ≤ 1 = MaySettle.turns on.may turn in
-          let most = how_many-weaker (is_let_go turn s.volume) (is_under turn) s.volume.pending (λ e all. and_left (is_under turn e) (is_held e.1 && is_free s.volume e) all) in absurd (omega arith))
+          let most = how_many-weaker (is_let_go_under turn s.volume) (is_under turn) s.volume.pending (λ e all. and_left (is_under turn e) (is_held e.1 && is_free s.volume e) all) in absurd (omega arith))
       | inr other ↦ elim (cases_Bool (nat_lt turn entry.0)) [
         | inl less ↦ (let one = goes.taken turn in
             let both : (0 + 0) + let_go turn t.volume ≡ let_go turn s.volume = rw other at one in
             let none = next.least in
-            let ready = how_many-weaker (is_let_go turn s.volume) (λ e. is_ready s.volume e.1 && nat_lt e.0 entry.0) s.volume.pending (λ e all. of_let_go e turn less all) in absurd (omega arith))
+            let ready = how_many-weaker (is_let_go_under turn s.volume) (λ e. is_ready s.volume e.1 && nat_lt e.0 entry.0) s.volume.pending (λ e all. of_let_go e turn less all) in absurd (omega arith))
         | inr isnt ↦ (let above : entry.0 ≤ turn = ltb-false turn entry.0 isnt in let differs = eqb-false entry.0 turn other in le_differs entry.0 turn above differs)
       ]
     ]
@@ -461,7 +461,7 @@ GoesOn-takes v s t entry on next held steps taken goes = GoesOn-step v s t (entr
         le_differs : (a b : ℕ) → a ≤ b → (a ≡ b → ⊥) → a < b
         le_differs a b above differs = elim (cases_Bool (nat_lt a b)) [ inl less ↦ ltb-true a b less | inr isnt ↦ (let below : b ≤ a = ltb-false a b isnt in absurd (differs (omega arith))) ]
 
-        of_let_go : (e : ℕ × Pending) (turn : ℕ) → nat_lt turn entry.0 ≡ true → is_let_go turn s.volume e ≡ true → (is_ready s.volume e.1 && nat_lt e.0 entry.0) ≡ true
+        of_let_go : (e : ℕ × Pending) (turn : ℕ) → nat_lt turn entry.0 ≡ true → is_let_go_under turn s.volume e ≡ true → (is_ready s.volume e.1 && nat_lt e.0 entry.0) ≡ true
         of_let_go e turn less all =
             let under : e.0 ≡ turn = eqb-true e.0 turn (and_left (is_under turn e) (is_held e.1 && is_free s.volume e) all) in
             let both = and_right (is_under turn e) (is_held e.1 && is_free s.volume e) all in
@@ -538,7 +538,7 @@ taken-once v starved turn may =
     let goes = taken_up_all-goes v starved may in
     let all = GoesOn.taken goes.1 turn in
     let done = none-ready (taken_up_all v starved).volume (option_map-none (taken_up (taken_up_all v starved)) (next_ready (taken_up_all v starved).volume) goes.0) in
-    let none = how_many-weaker (is_let_go turn (taken_up_all v starved).volume) (λ e. is_ready (taken_up_all v starved).volume e.1) (taken_up_all v starved).volume.pending
+    let none = how_many-weaker (is_let_go_under turn (taken_up_all v starved).volume) (λ e. is_ready (taken_up_all v starved).volume e.1) (taken_up_all v starved).volume.pending
     (λ e is. is_then_ready e (and_right (is_under turn e) (is_held e.1 && is_free (taken_up_all v starved).volume e) is)) in
     omega arith
   where

@@ -3,7 +3,7 @@
 use Rattle.std.specs.Prelude.{◌≡◌, ℕ, true, false, List, [], ◌∷◌, Option, Some, None, length, map, option_map, codes, refl}
 use Rattle.fsa_types.specs.CaseTable.{ascii_pairs}
 use Rattle.fsa_types.specs.LittleEndian.{zeros}
-use Rattle.fsa_types.specs.Packing.{head, name_of, entry_bytes}
+use Rattle.fsa_types.specs.Packing.{head, name_field, entry_bytes}
 use Rattle.fsa_types.specs.declared.reply.Action.TheVariants.{Created, Opened as WasOpened}
 use Rattle.fsa_types.specs.declared.reply.Answer.{Answer}
 use Rattle.fsa_types.specs.declared.reply.Answer.TheVariants.{Ended, Pending}
@@ -34,7 +34,7 @@ use Rattle.fsa_model.specs.Write.{try_write, write_at, write_by, write_stream, w
 pub packed_two : packed_changes ((3, codes "f") ∷ (2, codes "abc") ∷ [])
     ≡ 16 ∷ 0 ∷ 0 ∷ 0 ∷ 3 ∷ 0 ∷ 0 ∷ 0 ∷ 2 ∷ 0 ∷ 0 ∷ 0 ∷ 102 ∷ 0 ∷ 0 ∷ 0
     ∷ 0 ∷ 0 ∷ 0 ∷ 0 ∷ 2 ∷ 0 ∷ 0 ∷ 0 ∷ 6 ∷ 0 ∷ 0 ∷ 0 ∷ 97 ∷ 0 ∷ 98 ∷ 0 ∷ 99 ∷ 0 ∷ []
-unfolding head name_of entry_bytes zeros
+unfolding head name_field entry_bytes zeros
 packed_two = refl
 
 pub packed_none : packed_changes [] ≡ []
@@ -107,7 +107,7 @@ pub room_just_enough_and_one_short :
     ∷ watches
     ∷ made (record { client = 0; number = 6; reply = record { status = Success; body = Packed Changes (added 107) } } ∷ [])
     ∷ [])
-unfolding try_create create_at create_walked create_named create_by_link create_found create_there create_in_file create_stream create_on_stream open_stream open_directory open_granted overwrite_existing open_existing clashed create_missing make_file make_directory stopped try_write write_at write_by write_stream write_at_place write_range write_unlocked write_grown write_bytes try_close close_at with_closed try_notify notify_at try_cancel head name_of entry_bytes zeros
+unfolding try_create create_at create_walked create_named create_by_link create_found create_there create_in_file create_stream create_on_stream open_stream open_directory open_granted overwrite_existing open_existing clashed create_missing make_file make_directory stopped try_write write_at write_by write_stream write_at_place write_range write_unlocked write_grown write_bytes try_close close_at with_closed try_notify notify_at try_cancel head name_field entry_bytes zeros
 room_just_enough_and_one_short = refl
 
 -- after a cancelled Notify the watch goes on, with the filter and the tree flag of the first
@@ -130,14 +130,14 @@ pub cancelled_keeps_its_watch :
     ∷ made []
     ∷ (Ended (says ((3, codes "f") ∷ (1, codes "g") ∷ [])), [])
     ∷ [])
-unfolding try_create create_at create_walked create_named create_by_link create_found create_there create_in_file create_stream create_on_stream open_stream open_directory open_granted overwrite_existing open_existing clashed create_missing make_file make_directory stopped try_write write_at write_by write_stream write_at_place write_range write_unlocked write_grown write_bytes try_close close_at with_closed try_notify notify_at try_cancel head name_of entry_bytes zeros
+unfolding try_create create_at create_walked create_named create_by_link create_found create_there create_in_file create_stream create_on_stream open_stream open_directory open_granted overwrite_existing open_existing clashed create_missing make_file make_directory stopped try_write write_at write_by write_stream write_at_place write_range write_unlocked write_grown write_bytes try_close close_at with_closed try_notify notify_at try_cancel head name_field entry_bytes zeros
 cancelled_keeps_its_watch = refl
 
 -- the close of its handle ends a Notify
 pub close_ends_notify :
     outs (asks 1 (opens (codes "\\") 0x1) [] ∷ asks 2 (request.Notify 1 0x1 false 14) [] ∷ asks 3 (request.Close 1) [] ∷ [])
     ≡ Some (opened ∷ watches ∷ done Success (ends 2 NotifyCleanup ∷ []) ∷ [])
-unfolding try_create create_at create_walked create_named create_by_link create_found create_there create_in_file create_stream create_on_stream open_stream open_directory open_granted overwrite_existing open_existing clashed create_missing make_file make_directory stopped try_write write_at write_by write_stream write_at_place write_range write_unlocked write_grown write_bytes try_close close_at with_closed try_notify notify_at try_cancel head name_of entry_bytes zeros
+unfolding try_create create_at create_walked create_named create_by_link create_found create_there create_in_file create_stream create_on_stream open_stream open_directory open_granted overwrite_existing open_existing clashed create_missing make_file make_directory stopped try_write write_at write_by write_stream write_at_place write_range write_unlocked write_grown write_bytes try_close close_at with_closed try_notify notify_at try_cancel head name_field entry_bytes zeros
 close_ends_notify = refl
 
 -- of two that are pending on a handle the earliest reports, and the other waits for the next change
@@ -150,7 +150,7 @@ pub earliest_reports :
     ∷ asks 5 (makes (codes "\\m")) []
     ∷ [])
     ≡ Some (opened ∷ watches ∷ watches ∷ made (told 2 ((1, codes "n") ∷ []) ∷ []) ∷ made (told 3 ((1, codes "m") ∷ []) ∷ []) ∷ [])
-unfolding try_create create_at create_walked create_named create_by_link create_found create_there create_in_file create_stream create_on_stream open_stream open_directory open_granted overwrite_existing open_existing clashed create_missing make_file make_directory stopped try_write write_at write_by write_stream write_at_place write_range write_unlocked write_grown write_bytes try_close close_at with_closed try_notify notify_at try_cancel head name_of entry_bytes zeros
+unfolding try_create create_at create_walked create_named create_by_link create_found create_there create_in_file create_stream create_on_stream open_stream open_directory open_granted overwrite_existing open_existing clashed create_missing make_file make_directory stopped try_write write_at write_by write_stream write_at_place write_range write_unlocked write_grown write_bytes try_close close_at with_closed try_notify notify_at try_cancel head name_field entry_bytes zeros
 earliest_reports = refl
 
 -- where the earliest finds no memory what is due stays due, and the other reports it in the same turn
@@ -162,7 +162,7 @@ pub starved_leaves_what_is_due :
     ∷ asks 4 (makes (codes "\\n")) (record { client = 0; number = 2 } ∷ [])
     ∷ [])
     ≡ Some (opened ∷ watches ∷ watches ∷ made (ends 2 NoMemory ∷ told 3 ((1, codes "n") ∷ []) ∷ []) ∷ [])
-unfolding try_create create_at create_walked create_named create_by_link create_found create_there create_in_file create_stream create_on_stream open_stream open_directory open_granted overwrite_existing open_existing clashed create_missing make_file make_directory stopped try_write write_at write_by write_stream write_at_place write_range write_unlocked write_grown write_bytes try_close close_at with_closed try_notify notify_at try_cancel head name_of entry_bytes zeros
+unfolding try_create create_at create_walked create_named create_by_link create_found create_there create_in_file create_stream create_on_stream open_stream open_directory open_granted overwrite_existing open_existing clashed create_missing make_file make_directory stopped try_write write_at write_by write_stream write_at_place write_range write_unlocked write_grown write_bytes try_close close_at with_closed try_notify notify_at try_cancel head name_field entry_bytes zeros
 starved_leaves_what_is_due = refl
 
 -- a report without bytes takes no memory: there is no turn in which it starves
@@ -172,7 +172,7 @@ pub overflow_never_starves :
     ∷ asks 2 (request.Notify 1 0x1 false 13) []
     ∷ asks 4 (makes (codes "\\n")) (record { client = 0; number = 2 } ∷ [])
     ∷ []) ≡ None
-unfolding try_create create_at create_walked create_named create_by_link create_found create_there create_in_file create_stream create_on_stream open_stream open_directory open_granted overwrite_existing open_existing clashed create_missing make_file make_directory stopped try_write write_at write_by write_stream write_at_place write_range write_unlocked write_grown write_bytes try_close close_at with_closed try_notify notify_at try_cancel head name_of entry_bytes zeros
+unfolding try_create create_at create_walked create_named create_by_link create_found create_there create_in_file create_stream create_on_stream open_stream open_directory open_granted overwrite_existing open_existing clashed create_missing make_file make_directory stopped try_write write_at write_by write_stream write_at_place write_range write_unlocked write_grown write_bytes try_close close_at with_closed try_notify notify_at try_cancel head name_field entry_bytes zeros
 overflow_never_starves = refl
 
 -- a change below a directory is due to a watch of the tree, with its path from there, and not to a flat one
@@ -186,7 +186,7 @@ pub tree_and_flat :
     ∷ asks 6 (makes (codes "\\t\\f")) []
     ∷ [])
     ≡ Some (made [] ∷ opened ∷ opened ∷ watches ∷ watches ∷ made (told 4 ((1, codes "t\\f") ∷ []) ∷ []) ∷ [])
-unfolding try_create create_at create_walked create_named create_by_link create_found create_there create_in_file create_stream create_on_stream open_stream open_directory open_granted overwrite_existing open_existing clashed create_missing make_file make_directory stopped try_write write_at write_by write_stream write_at_place write_range write_unlocked write_grown write_bytes try_close close_at with_closed try_notify notify_at try_cancel head name_of entry_bytes zeros
+unfolding try_create create_at create_walked create_named create_by_link create_found create_there create_in_file create_stream create_on_stream open_stream open_directory open_granted overwrite_existing open_existing clashed create_missing make_file make_directory stopped try_write write_at write_by write_stream write_at_place write_range write_unlocked write_grown write_bytes try_close close_at with_closed try_notify notify_at try_cancel head name_field entry_bytes zeros
 tree_and_flat = refl
 
 -- what is refused: a file, a handle without READ_DATA, and filters without a bit or with others
@@ -201,7 +201,7 @@ pub refusals :
     ∷ asks 7 (request.Notify 3 0x1001 true 100) []
     ∷ [])
     ≡ Some (made [] ∷ opened ∷ opened ∷ done InvalidParameter [] ∷ done AccessDenied [] ∷ done InvalidParameter [] ∷ done InvalidParameter [] ∷ [])
-unfolding try_create create_at create_walked create_named create_by_link create_found create_there create_in_file create_stream create_on_stream open_stream open_directory open_granted overwrite_existing open_existing clashed create_missing make_file make_directory stopped try_write write_at write_by write_stream write_at_place write_range write_unlocked write_grown write_bytes try_close close_at with_closed try_notify notify_at try_cancel head name_of entry_bytes zeros
+unfolding try_create create_at create_walked create_named create_by_link create_found create_there create_in_file create_stream create_on_stream open_stream open_directory open_granted overwrite_existing open_existing clashed create_missing make_file make_directory stopped try_write write_at write_by write_stream write_at_place write_range write_unlocked write_grown write_bytes try_close close_at with_closed try_notify notify_at try_cancel head name_field entry_bytes zeros
 refusals = refl
 
 -- ---- what is recorded of a history
@@ -232,7 +232,7 @@ pub notices_of_told_twice :
     ∷ (4, 2, Some (record { status = NotifyEnumDir; body = Nothing }))
     ∷ (8, 3, Some (says ((1, codes "k") ∷ [])))
     ∷ []
-unfolding try_create create_at create_walked create_named create_by_link create_found create_there create_in_file create_stream create_on_stream open_stream open_directory open_granted overwrite_existing open_existing clashed create_missing make_file make_directory stopped try_write write_at write_by write_stream write_at_place write_range write_unlocked write_grown write_bytes try_close close_at with_closed try_notify notify_at try_cancel head name_of entry_bytes zeros
+unfolding try_create create_at create_walked create_named create_by_link create_found create_there create_in_file create_stream create_on_stream open_stream open_directory open_granted overwrite_existing open_existing clashed create_missing make_file make_directory stopped try_write write_at write_by write_stream write_at_place write_range write_unlocked write_grown write_bytes try_close close_at with_closed try_notify notify_at try_cancel head name_field entry_bytes zeros
 notices_of_told_twice = refl
 
 -- what there is to say of the changes noted from each notice to the next
@@ -245,11 +245,11 @@ all_matching [] = []
 all_matching (notice ∷ more) = matching_since notice more
 
 pub noted_in_told_twice : all_matching (notices_of setup told_twice) ≡ ((1, codes "n") ∷ []) ∷ ((1, codes "m") ∷ []) ∷ ((1, codes "k") ∷ []) ∷ []
-unfolding try_create create_at create_walked create_named create_by_link create_found create_there create_in_file create_stream create_on_stream open_stream open_directory open_granted overwrite_existing open_existing clashed create_missing make_file make_directory stopped try_write write_at write_by write_stream write_at_place write_range write_unlocked write_grown write_bytes try_close close_at with_closed try_notify notify_at try_cancel head name_of entry_bytes zeros
+unfolding try_create create_at create_walked create_named create_by_link create_found create_there create_in_file create_stream create_on_stream open_stream open_directory open_granted overwrite_existing open_existing clashed create_missing make_file make_directory stopped try_write write_at write_by write_stream write_at_place write_range write_unlocked write_grown write_bytes try_close close_at with_closed try_notify notify_at try_cancel head name_field entry_bytes zeros
 noted_in_told_twice = refl
 
 -- the ends of the three calls to which it reported
 pub ends_in_told_twice :
     ends_in (notices_of setup told_twice) ≡ told 2 ((1, codes "n") ∷ []) ∷ ends 4 NotifyEnumDir ∷ told 8 ((1, codes "k") ∷ []) ∷ []
-unfolding try_create create_at create_walked create_named create_by_link create_found create_there create_in_file create_stream create_on_stream open_stream open_directory open_granted overwrite_existing open_existing clashed create_missing make_file make_directory stopped try_write write_at write_by write_stream write_at_place write_range write_unlocked write_grown write_bytes try_close close_at with_closed try_notify notify_at try_cancel head name_of entry_bytes zeros
+unfolding try_create create_at create_walked create_named create_by_link create_found create_there create_in_file create_stream create_on_stream open_stream open_directory open_granted overwrite_existing open_existing clashed create_missing make_file make_directory stopped try_write write_at write_by write_stream write_at_place write_range write_unlocked write_grown write_bytes try_close close_at with_closed try_notify notify_at try_cancel head name_field entry_bytes zeros
 ends_in_told_twice = refl

@@ -117,8 +117,8 @@ ace_of [] = Err BadSyntax
 ace_of (sign ∷ bytes) = if sign == 43 || sign == 45 then ace_with (sign == 43) bytes else Err BadSyntax
 
 -- the entry up to the next comma, and what follows it, from that comma on
-abbrev pub entry_of : List ℕ → List ℕ
-entry_of bytes = before_first (λ byte. byte == 44) bytes
+abbrev pub before_comma : List ℕ → List ℕ
+before_comma bytes = before_first (λ byte. byte == 44) bytes
 
 abbrev pub after_entry : List ℕ → List ℕ
 after_entry bytes = drop (position_or_len (λ byte. byte == 44) bytes) bytes
@@ -132,7 +132,7 @@ ace_onto ace (Err kind) = Err kind
 unfoldable pub aces_of : ℕ → List ℕ → Result (List Ace) Kind
 aces_of zero bytes = only_if (length bytes == 0) []
 aces_of (suc most) [] = Ok []
-aces_of (suc most) (comma ∷ bytes) = if comma == 44 then ace_of (entry_of bytes) >>= (λ ace. ace_onto ace (aces_of most (after_entry bytes))) else Err BadSyntax
+aces_of (suc most) (comma ∷ bytes) = if comma == 44 then ace_of (before_comma bytes) >>= (λ ace. ace_onto ace (aces_of most (after_entry bytes))) else Err BadSyntax
 
 -- the entries of an access list go up to here
 abbrev pub most_aces : ℕ

@@ -54,8 +54,8 @@ abbrev pub query_dir_text : ℕ → DirKind → List ℕ → Bool → ℕ → Li
 query_dir_text handle kind expression restart room = number_text handle ++ (dir_kind_text kind ++ (text_text expression ++ listing_end_text restart room))
 
 -- which listings a line can say
-abbrev pub is_query_dir : ℕ → List ℕ → ℕ → Bool
-is_query_dir handle expression room = nat_le handle most_id && list_all (λ unit. nat_le unit 65535) expression && nat_le room most_bytes
+abbrev pub is_query_dir_line : ℕ → List ℕ → ℕ → Bool
+is_query_dir_line handle expression room = nat_le handle most_id && list_all (λ unit. nat_le unit 65535) expression && nat_le room most_bytes
 
 -- handle, the changes to watch; `tree` to watch all that is below the directory, `flat` for what is in it; room
 unfoldable pub notify_fields : List ℕ → Result What Kind

@@ -34,5 +34,5 @@ abbrev pub unlock_text : ℕ → ℕ → ℕ → List ℕ
 unlock_text handle place count = number_text handle ++ (number_text place ++ number_text count)
 
 -- a range that a line can say, of a lock or an unlock: it may be empty, and may pass the last place
-abbrev pub is_range : ℕ → ℕ → ℕ → Bool
-is_range handle place count = nat_le handle most_id && nat_le place most_place && nat_le count most_place
+abbrev pub is_range_line : ℕ → ℕ → ℕ → Bool
+is_range_line handle place count = nat_le handle most_id && nat_le place most_place && nat_le count most_place

@@ -40,5 +40,5 @@ abbrev pub set_disposition_text : ℕ → Bool → List ℕ
 set_disposition_text handle delete = number_text handle ++ choice_text (codes "yes") (codes "no") delete
 
 -- which renames and links a line can say
-abbrev pub is_naming : ℕ → List ℕ → Bool
-is_naming handle path = nat_le handle most_id && list_all (λ unit. nat_le unit 65535) path
+abbrev pub is_naming_line : ℕ → List ℕ → Bool
+is_naming_line handle path = nat_le handle most_id && list_all (λ unit. nat_le unit 65535) path

@@ -100,10 +100,10 @@ lacks_delete asked = deletes_on_close asked && not (has_any (access_of asked) DE
 -- a path has a stream part, which may be `::$DATA`; the name of its stream, empty for the default stream
 -- and without a stream part; it names a stream that isn't the default stream
 abbrev pub has_stream_part : List ℕ → Bool
-has_stream_part units = is_some (path.stream_of units)
+has_stream_part units = is_some (path.stream_part units)
 
 abbrev pub stream_name : List ℕ → List ℕ
-stream_name units = unwrap_or (path.stream_of units) []
+stream_name units = unwrap_or (path.stream_part units) []
 
 abbrev pub names_stream : List ℕ → Bool
 names_stream units = not (length (stream_name units) == 0)

@@ -10,8 +10,8 @@ use Rattle.fsa_model.specs.Fault.{Kind, BadSyntax, ◌>>=◌, only_if}
 use Rattle.fsa_model.specs.Words.{most_id, same, field_at, number_at, ended}
 use Rattle.fsa_model.specs.FieldText.{number_text, level_text}
 
-abbrev pub level_of : List ℕ → Result Level Kind
-level_of word =
+abbrev pub level_of_word : List ℕ → Result Level Kind
+level_of_word word =
     if same word (codes "none") then Ok Nil
     else if same word (codes "r") then Ok R
     else if same word (codes "rh") then Ok RH
@@ -22,7 +22,7 @@ level_of word =
 unfoldable pub level_at : List ℕ → Result (Level × List ℕ) Kind
 level_at bytes = do
   word ← field_at bytes
-  level ← level_of word.0
+  level ← level_of_word word.0
   Ok (level, word.1)
 
 -- handle, and the level that is asked for, which isn't `none`

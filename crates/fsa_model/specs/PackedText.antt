@@ -5,7 +5,7 @@ use Rattle.std.specs.List.{flat_map}
 use Rattle.std.specs.Option.{option_map_or}
 use Rattle.fsa_types.specs.Masks.{FILE_ACTION_ADDED, FILE_ACTION_REMOVED, FILE_ACTION_MODIFIED, FILE_ACTION_RENAMED_OLD_NAME, FILE_ACTION_RENAMED_NEW_NAME, FILE_ACTION_ADDED_STREAM, FILE_ACTION_REMOVED_STREAM, FILE_ACTION_MODIFIED_STREAM}
 use Rattle.fsa_types.specs.PackedRows.{Numbers, NumbersFit, PackRow}
-use Rattle.fsa_types.specs.Packing.{Packed, head_size, before_name, after_name, name_of, entry_bytes, is_nothing, shown, size_of, rounded}
+use Rattle.fsa_types.specs.Packing.{Packed, head_size, before_name, after_name, name_field, entry_bytes, is_nothing, shown, size_of, rounded}
 use Rattle.fsa_types.specs.declared.reply.PackKind.{PackKind}
 use Rattle.fsa_types.specs.declared.reply.PackKind.TheVariants.{Names, Dir, Full, IdFull, Streams, Changes}
 use Rattle.fsa_model.specs.FieldText.{text_text, unit_text}
@@ -62,7 +62,7 @@ inner kind units = take (length units - (length (before_name kind) + length (aft
 
 -- the entry with these numbers and this name
 abbrev pub entry_at : PackKind → List ℕ → Packed
-entry_at kind bytes = record { numbers = numbers_at kind bytes; name = name_of kind (inner kind (units_in (field_of kind bytes))) }
+entry_at kind bytes = record { numbers = numbers_at kind bytes; name = name_field kind (inner kind (units_in (field_of kind bytes))) }
 
 -- what follows: nothing where there is no next entry
 abbrev pub rest_at : List ℕ → List ℕ
@@ -134,7 +134,7 @@ row_text kind row = shown_text kind row.numbers (before_name kind ++ row.name ++
 pub record IsPacked (kind : PackKind) (entry : Packed) (last : Bool) : Type 0 where
   pub numbers : NumbersFit entry.numbers
   pub only : shown kind entry.numbers ≡ entry.numbers
-  pub name : (units : List ℕ) × (entry.name ≡ name_of kind units)
+  pub name : (units : List ℕ) × (entry.name ≡ name_field kind units)
   pub len : length entry.name < 2 ^ 32
   pub next : last ≡ false → rounded kind (size_of kind entry) < 2 ^ 32
 

@@ -130,11 +130,11 @@ abbrev pub how_many_free : Volume → ℕ
 how_many_free v = how_many (is_free v) v.pending
 
 -- how many held calls are pending under this turn that no living blocker holds
-abbrev pub is_let_go : ℕ → Volume → ℕ × Pending → Bool
-is_let_go turn v entry = is_under turn entry && (is_held entry.1 && is_free v entry)
+abbrev pub is_let_go_under : ℕ → Volume → ℕ × Pending → Bool
+is_let_go_under turn v entry = is_under turn entry && (is_held entry.1 && is_free v entry)
 
 abbrev pub let_go : ℕ → Volume → ℕ
-let_go turn v = how_many (is_let_go turn v) v.pending
+let_go turn v = how_many (is_let_go_under turn v) v.pending
 
 -- how far a settlement that began with this volume has come
 pub record GoesOn (v : Volume) (s : Settling) : Type 0 where
@@ -186,7 +186,7 @@ asks_report _ = false
 
 -- the call is pending: it is held, and no living blocker holds it; or it is a Notify
 abbrev pub IsLetGo : Volume → ℕ → ℕ → Type 0
-IsLetGo v client number = ((turn : ℕ) × (1 ≤ how_many (λ e. is_call_of client number e && is_let_go turn v e) v.pending))
+IsLetGo v client number = ((turn : ℕ) × (1 ≤ how_many (λ e. is_call_of client number e && is_let_go_under turn v e) v.pending))
     ⊎ (1 ≤ how_many (λ e. is_call_of client number e && asks_report e.1.call.what) v.pending)
 
 -- so is each of these calls

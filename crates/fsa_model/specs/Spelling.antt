@@ -9,11 +9,11 @@ use Rattle.fsa_model.specs.Words.{most_id, most_mask, is_name}
 use Rattle.fsa_model.specs.FieldText.{number_text, mask_text}
 use Rattle.fsa_model.specs.OpenLines.{create_text, is_create}
 use Rattle.fsa_model.specs.ByteLines.{read_text, is_read, write_text, is_write, set_end_text, is_set_end}
-use Rattle.fsa_model.specs.LockLines.{lock_text, unlock_text, is_range}
+use Rattle.fsa_model.specs.LockLines.{lock_text, unlock_text, is_range_line}
 use Rattle.fsa_model.specs.OplockLines.{level_fields_text, is_oplock}
-use Rattle.fsa_model.specs.NameLines.{naming_text, set_disposition_text, is_naming}
+use Rattle.fsa_model.specs.NameLines.{naming_text, set_disposition_text, is_naming_line}
 use Rattle.fsa_model.specs.InformationLines.{query_info_text, is_query_info, set_basic_text, is_set_basic, set_security_text, is_set_security}
-use Rattle.fsa_model.specs.ListingLines.{query_dir_text, is_query_dir, notify_text, is_notify}
+use Rattle.fsa_model.specs.ListingLines.{query_dir_text, is_query_dir_line, notify_text, is_notify}
 use Rattle.fsa_model.specs.ControlLines.{set_reparse_text, is_set_reparse, get_reparse_text, is_get_reparse, delete_reparse_text, is_delete_reparse, set_quota_text, is_set_quota}
 use Rattle.fsa_model.specs.Lines.{Line, Version, DefaultTable, PairTable, Pair, ClientLine, RequestLine}
 use Rattle.fsa_model.specs.Verbs.{verb}
@@ -56,17 +56,17 @@ can_be_spelled (Ask (Read handle place count)) = is_read handle place count
 can_be_spelled (Ask (Write handle start bytes)) = is_write handle start bytes
 can_be_spelled (Ask (Flush handle)) = nat_le handle most_id
 can_be_spelled (Ask (SetEnd handle length)) = is_set_end handle length
-can_be_spelled (Ask (Lock handle place count exclusive wait)) = is_range handle place count
-can_be_spelled (Ask (Unlock handle place count)) = is_range handle place count
+can_be_spelled (Ask (Lock handle place count exclusive wait)) = is_range_line handle place count
+can_be_spelled (Ask (Unlock handle place count)) = is_range_line handle place count
 can_be_spelled (Ask (Oplock handle level)) = is_oplock handle level
 can_be_spelled (Ask (Ack handle level)) = nat_le handle most_id
 can_be_spelled (Ask (SetDisposition handle delete)) = nat_le handle most_id
-can_be_spelled (Ask (Rename handle path replace)) = is_naming handle path
-can_be_spelled (Ask (Link handle path replace)) = is_naming handle path
+can_be_spelled (Ask (Rename handle path replace)) = is_naming_line handle path
+can_be_spelled (Ask (Link handle path replace)) = is_naming_line handle path
 can_be_spelled (Ask (QueryInfo handle kind room)) = is_query_info handle room
 can_be_spelled (Ask (SetBasic handle creation access write change attributes)) = is_set_basic handle creation access write change attributes
 can_be_spelled (Ask (SetSecurity handle owner dacl)) = is_set_security handle owner dacl
-can_be_spelled (Ask (QueryDir handle kind expression restart room)) = is_query_dir handle expression room
+can_be_spelled (Ask (QueryDir handle kind expression restart room)) = is_query_dir_line handle expression room
 can_be_spelled (Ask (Notify handle filter tree room)) = is_notify handle filter room
 can_be_spelled (Ask (SetReparse handle buffer)) = is_set_reparse handle buffer
 can_be_spelled (Ask (GetReparse handle room)) = is_get_reparse handle room

@@ -40,7 +40,7 @@ use Rattle.text_out.specs.declared.write.TextFault.{TextFault}
 use Rattle.text_out.specs.declared.write.TextFault.TheVariants.{Failed, NoMemory}
 use Rattle.fsa_top.specs.Order.{AreNextPlaces, IsLeastCursor, IsWithinLimits}
 use Rattle.fsa_top.specs.Runs.{IsHistory, WritesPart, WritesText}
-use Rattle.fsa_top.specs.Progress.{IsNextAt, MadeTurn, MakesTurn, WroteTurns, Progress}
+use Rattle.fsa_top.specs.Progress.{IsNextAt, TurnWasMade, MakesTurn, WroteTurns, Progress}
 use Rattle.fsa_top.specs.declared.order.Order.{Order}
 use Rattle.fsa_top.proofs.OrderLaws.{length-all_calls}
 
@@ -87,7 +87,7 @@ record MakesNext (script : Script) (old : MachineView) (call : Call) (out : Turn
   turns : turn before.volume call out.starved ≡ Some turned
   out_is : turned.out ≡ out
 
-makes_next : (script : Script) (old new : MachineView) (call : Call) (out : TurnOut) → old.setup ≡ script.setup → MadeTurn old new call out → MakesNext script old call out
+makes_next : (script : Script) (old new : MachineView) (call : Call) (out : TurnOut) → old.setup ≡ script.setup → TurnWasMade old new call out → MakesNext script old call out
 makes_next script old new call out setup made =
     let runs : run script.setup (old.entries ++ record { call = call; starved = out.starved } ∷ []) ≡ Some made.gave.state
     = ap (λ (s : Setup). run s (old.entries ++ record { call = call; starved = out.starved } ∷ [])) (sym (made.setup ∙ setup)) ∙ ap (run new.setup) (sym made.entries) ∙ made.gave.runs in
@@ -105,14 +105,14 @@ next_is script history call before runs is = sym (ap (option_and_then (λ (r : R
 
 -- ---- one more turn
 
-pub scheduled-turn : (script : Script) (old new : MachineView) (call : Call) (out : TurnOut) → old.setup ≡ script.setup → Scheduled script old.entries → next script old.entries ≡ Some call → MadeTurn old new call out
+pub scheduled-turn : (script : Script) (old new : MachineView) (call : Call) (out : TurnOut) → old.setup ≡ script.setup → Scheduled script old.entries → next script old.entries ≡ Some call → TurnWasMade old new call out
     → Scheduled script new.entries
 scheduled-turn script old new call out setup scheduled is made =
     let turns : MakesNext script old call out = makes_next script old new call out setup made in
     subst (Scheduled script) (sym made.entries)
     (Scheduled-push script old.entries (record { call = call; starved = out.starved }) turns.before turns.turned scheduled turns.runs (next_is script old.entries call turns.before turns.runs is) turns.turns)
 
-shown-turn : (script : Script) (old new : MachineView) (call : Call) (out : TurnOut) → old.setup ≡ script.setup → MadeTurn old new call out
+shown-turn : (script : Script) (old new : MachineView) (call : Call) (out : TurnOut) → old.setup ≡ script.setup → TurnWasMade old new call out
     → shown_turns script new.entries ≡ shown_turns script old.entries ++ turn_text old.setup.clients call out
 shown-turn script old new call out setup made =
     let turns : MakesNext script old call out = makes_next script old new call out setup made in
@@ -121,7 +121,7 @@ shown-turn script old new call out setup made =
     ∙ ap (λ (o : TurnOut). shown_turns script old.entries ++ turn_text script.setup.clients call o) turns.out_is
     ∙ ap (λ (s : Setup). shown_turns script old.entries ++ turn_text s.clients call out) (sym setup)
 
-pub WroteTurns-turn : (script : Script) (old new : MachineView) (call : Call) (out : TurnOut) (first mid now : Written) (gathered gathered_now : List ℕ) → old.setup ≡ script.setup → next script old.entries ≡ Some call → MadeTurn old new call out
+pub WroteTurns-turn : (script : Script) (old new : MachineView) (call : Call) (out : TurnOut) (first mid now : Written) (gathered gathered_now : List ℕ) → old.setup ≡ script.setup → next script old.entries ≡ Some call → TurnWasMade old new call out
     → Gathers mid now gathered gathered_now (turn_text old.setup.clients call out) → WroteTurns script old.entries first mid gathered → WroteTurns script new.entries first now gathered_now
 WroteTurns-turn script old new call out first mid now gathered gathered_now setup is made wrote shows = record {
   scheduled = scheduled-turn script old new call out setup shows.scheduled is made;
@@ -129,7 +129,7 @@ WroteTurns-turn script old new call out first mid now gathered gathered_now setu
 }
 
 -- fewer calls are left
-pub left-turn : (script : Script) (old new : MachineView) (call : Call) (out : TurnOut) → old.setup ≡ script.setup → next script old.entries ≡ Some call → MadeTurn old new call out
+pub left-turn : (script : Script) (old new : MachineView) (call : Call) (out : TurnOut) → old.setup ≡ script.setup → next script old.entries ≡ Some call → TurnWasMade old new call out
     → how_many_left script new.entries < how_many_left script old.entries
 left-turn script old new call out setup is made =
     let turns : MakesNext script old call out = makes_next script old new call out setup made in
@@ -162,7 +162,7 @@ next-asked script seen order place call stands is at =
 
 -- after its turn
 pub Progress-turn : (script : Script) (old new : MachineView) (order later : Order) (place : ℕ) (call : Call) (out : TurnOut) → Progress script old order → next script old.entries ≡ Some call → slice_get (all_calls script) place ≡ Some call
-    → MadeTurn old new call out → later.following ≡ order.following → later.places.items ≡ slice_set order.places.items call.client (first_from call.client (place + 1) (all_calls script)) → Progress script new later
+    → TurnWasMade old new call out → later.following ≡ order.following → later.places.items ≡ slice_set order.places.items call.client (first_from call.client (place + 1) (all_calls script)) → Progress script new later
 Progress-turn script old new order later place call out stands is at made following places =
     let cursor : slice_index_or order.places.items call.client 0 ≡ place = at_cursor script old order place call stands is at in
     let goes : StandAt (all_calls script) (old.entries ++ record { call = call; starved = out.starved } ∷ []) (slice_set order.places.items call.client (first_from call.client (slice_index_or order.places.items call.client 0 + 1) (all_calls script)))
@@ -206,7 +206,7 @@ WroteTurns-begun script history written gathered none empty =
 -- ---- what was written so far
 
 -- a turn was made, and its lines were added so
-pub MakesTurn-made : (old new : MachineView) (call : Call) (out : TurnOut) (before now : Written) (gathered gathered_now : List ℕ) (result : Result (Unit {0}) TextFault) → MadeTurn old new call out
+pub MakesTurn-made : (old new : MachineView) (call : Call) (out : TurnOut) (before now : Written) (gathered gathered_now : List ℕ) (result : Result (Unit {0}) TextFault) → TurnWasMade old new call out
     → Adds before now gathered gathered_now (turn_text old.setup.clients call out) result → MakesTurn old new call before now gathered gathered_now result
 MakesTurn-made old new call out before now gathered gathered_now (Ok done) made wrote = (out, made, wrote)
 MakesTurn-made old new call out before now gathered gathered_now (Err Failed) made wrote = inl (out, made, wrote.0)
@@ -245,7 +245,7 @@ WroteTurns-part script history first mid now gathered is_read shows part =
     (AppendsPart-longer first now (shown_turns script history) (goes.1.shows.0 ++ last_line (length goes.0)) (Gathers-part first mid now [] gathered (shown_turns script history) shows.wrote part))
 
 -- so it is with a part of that and of the lines of the next turn
-WroteTurns-front : (script : Script) (old new : MachineView) (call : Call) (out : TurnOut) (first mid now : Written) (gathered : List ℕ) → IsReadScript script → old.setup ≡ script.setup → next script old.entries ≡ Some call → MadeTurn old new call out
+WroteTurns-front : (script : Script) (old new : MachineView) (call : Call) (out : TurnOut) (first mid now : Written) (gathered : List ℕ) → IsReadScript script → old.setup ≡ script.setup → next script old.entries ≡ Some call → TurnWasMade old new call out
     → AppendsPart mid now (gathered ++ turn_text old.setup.clients call out) → WroteTurns script old.entries first mid gathered → WritesPart script first now
 WroteTurns-front script old new call out first mid now gathered is_read setup is made front shows =
     let goes = Scheduled-goes_on script new.entries is_read (scheduled-turn script old new call out setup shows.scheduled is made) in

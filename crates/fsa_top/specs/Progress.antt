@@ -41,7 +41,7 @@ pub record WroteTurns (script : Script) (history : List HistoryEntry) (written w
   pub wrote : Gathers written written_now [] gathered (shown_turns script history)
 
 -- the machine made a turn of this call, which gave this out
-pub record MadeTurn (old new : MachineView) (call : Call) (out : TurnOut) : Type 0 where
+pub record TurnWasMade (old new : MachineView) (call : Call) (out : TurnOut) : Type 0 where
   pub setup : new.setup ≡ old.setup
   pub entries : new.entries ≡ old.entries ++ record { call = call; starved = out.starved } ∷ []
   pub gave : GaveOut new.setup new.entries out
@@ -51,7 +51,7 @@ pub record MadeTurn (old new : MachineView) (call : Call) (out : TurnOut) : Type
 -- written
 abbrev pub MakesTurn : MachineView → MachineView → Call → Written → Written → List ℕ → List ℕ → Result (Unit {0}) TextFault → Type 0
 MakesTurn old new call written written_now gathered gathered_now (Ok done) =
-    (out : TurnOut) × MadeTurn old new call out × Gathers written written_now gathered gathered_now (turn_text old.setup.clients call out)
+    (out : TurnOut) × TurnWasMade old new call out × Gathers written written_now gathered gathered_now (turn_text old.setup.clients call out)
 MakesTurn old new call written written_now gathered gathered_now (Err Failed) =
-    ((out : TurnOut) × MadeTurn old new call out × AppendsPart written written_now (gathered ++ turn_text old.setup.clients call out)) ⊎ AppendsPart written written_now gathered
+    ((out : TurnOut) × TurnWasMade old new call out × AppendsPart written written_now (gathered ++ turn_text old.setup.clients call out)) ⊎ AppendsPart written written_now gathered
 MakesTurn old new call written written_now gathered gathered_now (Err NoMemory) = Appends written written_now gathered

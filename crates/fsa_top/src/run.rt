@@ -13,7 +13,7 @@ ghost use Rattle.script_read.specs.ScriptView.{contents};
 ghost use Rattle.text_out.specs.Writes.{TellsFaults};
 ghost use Rattle.fsa_top.specs.Order.{IsWithinLimits};
 ghost use Rattle.fsa_top.specs.Runs.{WritesPart, WritesText};
-ghost use Rattle.fsa_top.specs.Progress.{IsNextAt, MadeTurn, MakesTurn, WroteTurns, Progress};
+ghost use Rattle.fsa_top.specs.Progress.{IsNextAt, TurnWasMade, MakesTurn, WroteTurns, Progress};
 
 use crate::order::Order;
 use fsa_machine::VolumeMachine;
@@ -28,7 +28,7 @@ fn turn_of(alloc: Global, machine: &mut VolumeMachine, call: &Call) -> Result<Ou
     requires asked { IsLineCall (length machine.old.setup.clients) call.now }
     requires number { call.now.number ≡ calls_of call.now.client (map (λ entry. entry.call) machine.old.entries) + 1 }
     requires few { length machine.old.entries < 1000000 }
-    ensures made { IfOk result (λ out. MadeTurn machine.old machine.new call.now (out_of out)) }
+    ensures made { IfOk result (λ out. TurnWasMade machine.old machine.new call.now (out_of out)) }
 {
     let call = call.copy(alloc)?;
     match machine.turn(alloc, call) {

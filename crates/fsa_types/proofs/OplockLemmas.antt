@@ -9,7 +9,7 @@ use Rattle.std.proofs.lemmas.List.Elements.{All-nil, All-push, All-cons, All-map
 use Rattle.std.proofs.lemmas.List.Kept.{AllPairs-filter}
 use Rattle.std.proofs.lemmas.List.Quantifiers.{all_pairs_push}
 use Rattle.fsa_types.specs.OplockGrants.{as_granted, as_answered}
-use Rattle.fsa_types.specs.OplockLists.{OplockState, begun, lowered, after_effect, effect_on, after_breaks, IsSoundOplock, AreOplocks, CanBegin, CanGoOn, CanHave, IsLater, IsCopy}
+use Rattle.fsa_types.specs.OplockLists.{OplockState, break_begun, lowered, after_effect, effect_on, after_breaks, IsSoundOplock, AreOplocks, CanBegin, CanGoOn, CanHave, IsLater, IsCopy}
 use Rattle.fsa_types.specs.Oplocks.{Oplock, Effect, Stays, Ends, Begins, Lowers, effect, has_read, has_write, has_handle, level_with, in_both, is_within, keep}
 use Rattle.fsa_types.specs.Sorting.{put_in_order, in_order}
 use Rattle.fsa_types.specs.declared.oplock.Class.{Class}
@@ -92,7 +92,7 @@ All-in_order P before (x ∷ xs) all =
 
 -- ---- one effect
 
-begun-handle : (handle : ℕ) (level : Level) (number : ℕ) (o : Oplock) → (begun handle level number o).handle ≡ o.handle
+begun-handle : (handle : ℕ) (level : Level) (number : ℕ) (o : Oplock) → (break_begun handle level number o).handle ≡ o.handle
 begun-handle handle level number o = elim (cases_Bool (o.handle == handle)) [ inl here ↦ rw here refl | inr other ↦ rw other refl ]
 
 lowered-handle : (handle : ℕ) (level : Level) (o : Oplock) → (lowered handle level o).handle ≡ o.handle
@@ -123,9 +123,9 @@ AreOplocks-filter p oplocks last are = record {
 }
 
 AreOplocks-begun : (handle : ℕ) (level : Level) (oplocks : List Oplock) (last : ℕ) → CanBegin level handle oplocks → AreOplocks oplocks last
-    → AreOplocks (map (begun handle level (last + 1)) oplocks) (last + 1)
+    → AreOplocks (map (break_begun handle level (last + 1)) oplocks) (last + 1)
 AreOplocks-begun handle level oplocks last can are = record {
-  each = All-map IsSoundOplock (begun handle level (last + 1)) oplocks (λ k d within. elim (cases_Bool ((get_or oplocks k d).handle == handle)) [
+  each = All-map IsSoundOplock (break_begun handle level (last + 1)) oplocks (λ k d within. elim (cases_Bool ((get_or oplocks k d).handle == handle)) [
     | inl here ↦ rw here (record {
       has_number = rw (ne_eqb (last + 1) 0 (λ e. absurd (omega arith))) refl;
       has_call = refl;
@@ -133,9 +133,9 @@ AreOplocks-begun handle level oplocks last can are = record {
     })
     | inr other ↦ rw other (are.each k d within)
   ]);
-  handles_differ = AllPairs-map (λ a b. (a.handle == b.handle) ≡ false) (begun handle level (last + 1)) oplocks
+  handles_differ = AllPairs-map (λ a b. (a.handle == b.handle) ≡ false) (break_begun handle level (last + 1)) oplocks
       (λ i j d below within. rw (begun-handle handle level (last + 1) (get_or oplocks i d), begun-handle handle level (last + 1) (get_or oplocks j d)) (are.handles_differ i j d below within));
-  numbers_differ = AllPairs-map (λ a b. (is_some a.target && a.number == b.number) ≡ false) (begun handle level (last + 1)) oplocks
+  numbers_differ = AllPairs-map (λ a b. (is_some a.target && a.number == b.number) ≡ false) (break_begun handle level (last + 1)) oplocks
       (λ i j d below within. elim (cases_Bool ((get_or oplocks i d).handle == handle)) [
         | inl first ↦ elim (cases_Bool ((get_or oplocks j d).handle == handle)) [
           | inl second ↦ absurd (both_ways _ (are.handles_differ i j d below within) (same_handle _ _ handle first second))
@@ -148,7 +148,7 @@ AreOplocks-begun handle level oplocks last can are = record {
           | inr neither ↦ rw (other, neither) (are.numbers_differ i j d below within)
         ]
       ]);
-  numbers_given = All-map (λ o. o.number ≤ last + 1) (begun handle level (last + 1)) oplocks (λ k d within. elim (cases_Bool ((get_or oplocks k d).handle == handle)) [
+  numbers_given = All-map (λ o. o.number ≤ last + 1) (break_begun handle level (last + 1)) oplocks (λ k d within. elim (cases_Bool ((get_or oplocks k d).handle == handle)) [
     | inl here ↦ rw here (omega arith)
     | inr other ↦ (let given = are.numbers_given k d within in rw other (omega arith))
   ]);
@@ -197,7 +197,7 @@ pub IsCopy-effect : (done : Effect) (handle : ℕ) (held : OplockState) (was : O
 IsCopy-effect Stays handle held was copy = copy
 IsCopy-effect Ends handle held was copy = All-filter (λ o. not (o.handle == handle)) (λ now. (now.handle == was.handle) ≡ true → IsLater was now) held.oplocks copy
 IsCopy-effect (Begins level) handle held was copy =
-    All-map (λ now. (now.handle == was.handle) ≡ true → IsLater was now) (begun handle level (held.last_break + 1)) held.oplocks
+    All-map (λ now. (now.handle == was.handle) ≡ true → IsLater was now) (break_begun handle level (held.last_break + 1)) held.oplocks
     (λ k d within. elim (cases_Bool ((get_or held.oplocks k d).handle == handle)) [
       | inl here ↦ rw here (λ same. record { level = IsLater.level (copy k d within same); target = λ had. refl })
       | inr other ↦ rw other (copy k d within)

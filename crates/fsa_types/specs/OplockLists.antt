@@ -20,19 +20,19 @@ abbrev pub without_oplock_of : ℕ → List Oplock → List Oplock
 without_oplock_of handle oplocks = filter (λ oplock. not (oplock.handle == handle)) oplocks
 
 -- an oplock once a break of this number to this level has begun, where it is this handle's
-abbrev pub begun : ℕ → Level → ℕ → Oplock → Oplock
-begun handle level number oplock = if oplock.handle == handle then record oplock { target = Some level; number = number; call = None } else oplock
+abbrev pub break_begun : ℕ → Level → ℕ → Oplock → Oplock
+break_begun handle level number oplock = if oplock.handle == handle then record oplock { target = Some level; number = number; call = None } else oplock
 
 -- an oplock once its break in progress goes on to this level, where it is this handle's
 abbrev pub lowered : ℕ → Level → Oplock → Oplock
 lowered handle level oplock = if oplock.handle == handle then record oplock { target = Some level } else oplock
 
 -- what the effect on the oplock of this handle leaves of the list, the next break having this number
-abbrev pub left_by : Effect → ℕ → ℕ → List Oplock → List Oplock
-left_by Stays handle number oplocks = oplocks
-left_by Ends handle number oplocks = without_oplock_of handle oplocks
-left_by (Begins level) handle number oplocks = map (begun handle level number) oplocks
-left_by (Lowers level) handle number oplocks = map (lowered handle level) oplocks
+abbrev pub left_by_effect : Effect → ℕ → ℕ → List Oplock → List Oplock
+left_by_effect Stays handle number oplocks = oplocks
+left_by_effect Ends handle number oplocks = without_oplock_of handle oplocks
+left_by_effect (Begins level) handle number oplocks = map (break_begun handle level number) oplocks
+left_by_effect (Lowers level) handle number oplocks = map (lowered handle level) oplocks
 
 -- the number of the last break that began, after the effect
 abbrev pub last_by : Effect → ℕ → ℕ
@@ -42,7 +42,7 @@ last_by _ last = last
 -- what the effect on the oplock of this handle leaves; each break that begins gets the next number
 abbrev pub after_effect : Effect → ℕ → OplockState → OplockState
 after_effect done handle held = record {
-  oplocks = left_by done handle (held.last_break + 1) held.oplocks;
+  oplocks = left_by_effect done handle (held.last_break + 1) held.oplocks;
   last_break = last_by done held.last_break;
 }
 

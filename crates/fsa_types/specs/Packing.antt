@@ -60,8 +60,8 @@ after_name Streams = 0x3A ∷ 0x24 ∷ 0x44 ∷ 0x41 ∷ 0x54 ∷ 0x41 ∷ []
 after_name _ = []
 
 -- the field of the name with these units
-unfoldable pub name_of : PackKind → List ℕ → List ℕ
-name_of kind units = utf16 (before_name kind) ++ utf16 units ++ utf16 (after_name kind)
+unfoldable pub name_field : PackKind → List ℕ → List ℕ
+name_field kind units = utf16 (before_name kind) ++ utf16 units ++ utf16 (after_name kind)
 
 -- the numbers that the layout has; the others are 0
 abbrev pub shown : PackKind → Numbers → Numbers
@@ -79,7 +79,7 @@ pub record Packed : Type 0 where
 
 -- the entry of a row
 abbrev pub packed : PackKind → PackRow → Packed
-packed kind row = record { numbers = shown kind row.numbers; name = name_of kind row.name }
+packed kind row = record { numbers = shown kind row.numbers; name = name_field kind row.name }
 
 -- the bytes of an entry without its padding
 abbrev pub size_of : PackKind → Packed → ℕ

@@ -21,8 +21,8 @@ abbrev pub is_colon : ℕ → Bool
 is_colon unit = unit == 58
 
 -- what stands between the `\` of a path; the last piece has the stream part with it
-abbrev pub pieces : List ℕ → List (List ℕ)
-pieces path = slice_split is_separator (drop 1 path)
+abbrev pub path_pieces : List ℕ → List (List ℕ)
+path_pieces path = slice_split is_separator (drop 1 path)
 
 -- ---- faults
 
@@ -76,18 +76,18 @@ path_fault path =
     if nat_lt 32760 (length path) then Some TooLong
     else if not (slice_index path 0 == 92) then Some Empty
     else if length path == 1 then None
-    else pieces_fault 1 (pieces path)
+    else pieces_fault 1 (path_pieces path)
 
 -- ---- what a path without a fault says
 
 -- its components: the pieces up to the `:`, which the last alone may have; the root has none
 abbrev pub components : List ℕ → List (List ℕ)
-components path = if length path == 1 then [] else map (before_first is_colon) (pieces path)
+components path = if length path == 1 then [] else map (before_first is_colon) (path_pieces path)
 
 -- its units from this component on, the stream part with them; none where there are no more
 abbrev pub rest_of : List ℕ → ℕ → List ℕ
-rest_of path i = join_with_byte 92 (drop i (pieces path))
+rest_of path i = join_with_byte 92 (drop i (path_pieces path))
 
 -- its stream part, what stands between its first `:` and the next; the default stream is empty
-abbrev pub stream_of : List ℕ → Option (List ℕ)
-stream_of path = slice_get (slice_split is_colon path) 1
+abbrev pub stream_part : List ℕ → Option (List ℕ)
+stream_part path = slice_get (slice_split is_colon path) 1

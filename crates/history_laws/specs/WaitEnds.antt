@@ -44,13 +44,13 @@ wait_may_end left cancelled InvalidHandle = left
 wait_may_end left cancelled Cancelled = cancelled
 wait_may_end left cancelled _ = false
 
-abbrev pub is_nothing : Body → Bool
-is_nothing Nothing = true
-is_nothing _ = false
+abbrev pub gives_nothing : Body → Bool
+gives_nothing Nothing = true
+gives_nothing _ = false
 
 -- such a status, and no body
 abbrev pub is_wait_end : Bool → Bool → Reply → Bool
-is_wait_end left cancelled reply = wait_may_end left cancelled reply.status && is_nothing reply.body
+is_wait_end left cancelled reply = wait_may_end left cancelled reply.status && gives_nothing reply.body
 
 -- some end of the client's call of this number is another
 abbrev pub ends_otherwise : (Reply → Bool) → ℕ → ℕ → Volume → Bool

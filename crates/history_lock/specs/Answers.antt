@@ -1,21 +1,21 @@
 -- What the answers of the lock's calls say, case by case.
-use Rattle.history_lock.specs.declared.answers.Turned.{Turned}
-use Rattle.history_lock.specs.declared.answers.Turned.TheVariants.{Did, Busy, Refused}
+use Rattle.history_lock.specs.declared.answers.TurnAnswer.{TurnAnswer}
+use Rattle.history_lock.specs.declared.answers.TurnAnswer.TheVariants.{Did, Busy, Refused}
 use Rattle.history_lock.specs.declared.answers.Looked.{Looked}
 use Rattle.history_lock.specs.declared.answers.Looked.TheVariants.{Saw, Busy as Unseen, NoMemory}
 
 module _ {O C W : Type 0} where
-  abbrev pub IfDid : Turned O C W → (O → Type 0) → Type 0
+  abbrev pub IfDid : TurnAnswer O C W → (O → Type 0) → Type 0
   IfDid (Did out) P = P out
   IfDid (Busy back) P = Unit {0}
   IfDid (Refused back why) P = Unit {0}
 
-  abbrev pub IfBusy : Turned O C W → (C → Type 0) → Type 0
+  abbrev pub IfBusy : TurnAnswer O C W → (C → Type 0) → Type 0
   IfBusy (Did out) P = Unit {0}
   IfBusy (Busy back) P = P back
   IfBusy (Refused back why) P = Unit {0}
 
-  abbrev pub IfRefused : Turned O C W → (C → W → Type 0) → Type 0
+  abbrev pub IfRefused : TurnAnswer O C W → (C → W → Type 0) → Type 0
   IfRefused (Did out) P = Unit {0}
   IfRefused (Busy back) P = Unit {0}
   IfRefused (Refused back why) P = P back why

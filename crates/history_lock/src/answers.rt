@@ -2,7 +2,7 @@
 
 /// What a turn that was tried answers.
 #[derive(Debug, PartialEq, Eq, Drop)]
-pub enum Turned<Out, Call, Why> {
+pub enum TurnAnswer<Out, Call, Why> {
     /// The turn was made, and this is its answer.
     Did(Out),
     /// Another pass holds the turn. The call comes back.

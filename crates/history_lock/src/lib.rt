@@ -6,9 +6,9 @@
 //! let (lock, mut passes) = TurnLock::start(alloc, machine, 2)?;  // a pass for each client, in order
 //!
 //! match lock.try_turn(alloc, &mut passes[0], call) {
-//!     Turned::Did(out) => ..            // the history that the pass has seen ends with this call's entry
-//!     Turned::Busy(call) => ..          // another pass holds the turn, and the call comes back
-//!     Turned::Refused(call, why) => ..  // the machine refused the call, and the history stays as it was
+//!     TurnAnswer::Did(out) => ..            // the history that the pass has seen ends with this call's entry
+//!     TurnAnswer::Busy(call) => ..          // another pass holds the turn, and the call comes back
+//!     TurnAnswer::Refused(call, why) => ..  // the machine refused the call, and the history stays as it was
 //! }
 //! let out = lock.turn(rt, alloc, &mut passes[1], call)?;         // the same, but it waits for the turn
 //! lock.wait_for_turn(rt);                                        // sleeps while the turn is held
@@ -75,7 +75,7 @@ mod start;
 mod tests;
 mod view;
 
-pub use answers::{Looked, Turned};
+pub use answers::{Looked, TurnAnswer};
 pub use lock::TurnLock;
 pub use machine::Machine;
 pub use pass::Pass;

@@ -1,7 +1,7 @@
 //! The lock, and the calls that take a turn, look at the history or count its entries.
 ghost use Rattle.std.specs.Prelude.{◌≡◌, ◌<◌, ◌≤◌, length, IfOk, IfErr};
 
-use crate::answers::{Looked, Turned};
+use crate::answers::{Looked, TurnAnswer};
 use crate::machine::Machine;
 use crate::moves::{COUNT, TURN, commit, load, release, take};
 use crate::pass::Pass;
@@ -49,7 +49,7 @@ impl<M: Machine> TurnLock<M> {
         alloc: Global,
         pass: &mut Pass<M>,
         call: M::Call,
-    ) -> Turned<M::Out, M::Call, M::Why>
+    ) -> TurnAnswer<M::Out, M::Call, M::Why>
         requires pass { IsPassOf M.base M.stands self.now pass.old }
         requires client { M.client_of call ≡ (known pass.old).own.client }
         requires may { M.may_turn (base_of M.base self.now) (known pass.old).own.mine call }
@@ -61,7 +61,7 @@ impl<M: Machine> TurnLock<M> {
     {
         let top = &self.table.shared;
         let Some(mut machine) = take(top, &mut pass.seat, pass.client) else {
-            return Turned::Busy(call);
+            return TurnAnswer::Busy(call);
         };
         match machine.turn(alloc, call) {
             Ok(out) => {
@@ -69,13 +69,13 @@ impl<M: Machine> TurnLock<M> {
                 self.wake_next();
                 self.wake_readers();
                 pass.made += 1;
-                Turned::Did(out)
+                TurnAnswer::Did(out)
             }
             Err((back, why)) => {
                 load(top, &mut pass.seat);
                 release(top, &mut pass.seat, machine);
                 self.wake_next();
-                Turned::Refused(back, why)
+                TurnAnswer::Refused(back, why)
             }
         }
     }
@@ -100,9 +100,9 @@ impl<M: Machine> TurnLock<M> {
         let mut call = call;
         for _ in rt.forever() {
             match self.try_turn(alloc, pass, call) {
-                Turned::Did(out) => return Ok(out),
-                Turned::Refused(back, why) => return Err((back, why)),
-                Turned::Busy(back) => call = back,
+                TurnAnswer::Did(out) => return Ok(out),
+                TurnAnswer::Refused(back, why) => return Err((back, why)),
+                TurnAnswer::Busy(back) => call = back,
             }
             self.wait_for_turn(rt);
         }

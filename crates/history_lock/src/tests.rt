@@ -6,7 +6,7 @@ ghost use Rattle.history_lock.specs.Added.{IsWithin};
 
 mod adder;
 
-use crate::answers::{Looked, Turned};
+use crate::answers::{Looked, TurnAnswer};
 use crate::lock::TurnLock;
 use crate::pass::Pass;
 use adder::{Added, Adder, Why};
@@ -57,7 +57,7 @@ fn closed(
 }
 
 // Tries to add the client's next number.
-fn add(alloc: Global, lock: &TurnLock<Adder>, pass: &mut Pass<Adder>) -> Turned<usize, Added, Why>
+fn add(alloc: Global, lock: &TurnLock<Adder>, pass: &mut Pass<Adder>) -> TurnAnswer<usize, Added, Why>
     requires { IsPassOf (λ adder. adder.limit) IsWithin lock.now pass.old }
     ensures pass { IsPassOf (λ adder. adder.limit) IsWithin lock.now pass.new }
     ensures client { (known pass.new).own.client ≡ (known pass.old).own.client }
@@ -139,20 +139,20 @@ fn on_threads<R: Threads + Wait + Sync>(
 fn one_thread_with_three_passes(rt: HostRuntime) -> Result<(), Fail> {
     let alloc: Global = rt.alloc();
     let (lock, mut first, mut second, mut third) = started(alloc, 4).ok_or("memory")?;
-    assert_eq!(rt; add(alloc, &lock, &mut first), Turned::Did(1));
-    assert_eq!(rt; add(alloc, &lock, &mut second), Turned::Did(2));
-    assert_eq!(rt; add(alloc, &lock, &mut first), Turned::Did(3));
+    assert_eq!(rt; add(alloc, &lock, &mut first), TurnAnswer::Did(1));
+    assert_eq!(rt; add(alloc, &lock, &mut second), TurnAnswer::Did(2));
+    assert_eq!(rt; add(alloc, &lock, &mut first), TurnAnswer::Did(3));
     assert_eq!(rt; lock.front(&mut third), 3);
     assert_eq!(rt; lock.wait_for_more(&rt, &mut third, 2), 3);
     assert_eq!(rt; lock.try_look(alloc, &mut third, &0), Looked::Saw(2));
-    assert_eq!(rt; add(alloc, &lock, &mut third), Turned::Did(4));
+    assert_eq!(rt; add(alloc, &lock, &mut third), TurnAnswer::Did(4));
     let fifth = Added {
         client: 1,
         number: 2,
     };
     assert_eq!(rt;
         add(alloc, &lock, &mut second),
-        Turned::Refused(fifth, Why::Full)
+        TurnAnswer::Refused(fifth, Why::Full)
     );
     assert_eq!(rt;
         (second.client(), second.made(), lock.front(&mut second)),

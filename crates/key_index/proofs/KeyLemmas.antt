@@ -10,7 +10,7 @@ use Rattle.std.proofs.lemmas.List.Elements.{filter-append}
 use Rattle.std.proofs.lemmas.List.Folds.{find_at}
 use Rattle.std.proofs.lemmas.List.Sums.{position_or_len_is}
 use Rattle.std.proofs.lemmas.List.Quantifiers.{position-Some}
-use Rattle.key_index.specs.Index.{entries_of, has_key, is_after, is_entry, IsSameByKey}
+use Rattle.key_index.specs.Index.{entries_under, has_key, has_greater_key, is_entry, IsSameByKey}
 
 -- ---- the first that passes, and its place
 
@@ -106,7 +106,7 @@ end-near xs n j key rising bound within behind near = (
 
 -- those that begin behind the lower keys, and end before the greater ones
 pub part-here : (xs : List (ℕ × ℕ)) (i j key : ℕ) → IsPartitionPoint (λ e. e.0 < key) (λ e. key ≤ e.0) xs i → IsPartitionPoint (λ e. e.0 ≤ key) (λ e. key < e.0) (drop i xs) j
-    → take j (drop i xs) ≡ entries_of xs key
+    → take j (drop i xs) ≡ entries_under xs key
 part-here [] zero zero key low high = refl
 part-here [] zero (suc j) key low high = refl
 part-here [] (suc i) zero key low high = refl
@@ -181,7 +181,7 @@ part-others (x ∷ xs) (suc i) j key low high =
     (part-others xs i j key (λ k d from within. low.0 (suc k) d (omega arith) (omega arith), λ k d from within. low.1 (suc k) d (omega arith) (omega arith)) high))
 
 -- the first of a key stands where the lower ones end, if there is one
-pub first-here : (xs : List (ℕ × ℕ)) (i key : ℕ) (e : ℕ × ℕ) → IsPartitionPoint (λ e. e.0 < key) (λ e. key ≤ e.0) xs i → slice_get xs i ≡ Some e → e.0 ≡ key → slice_get (entries_of xs key) 0 ≡ Some e
+pub first-here : (xs : List (ℕ × ℕ)) (i key : ℕ) (e : ℕ × ℕ) → IsPartitionPoint (λ e. e.0 < key) (λ e. key ≤ e.0) xs i → slice_get xs i ≡ Some e → e.0 ≡ key → slice_get (entries_under xs key) 0 ≡ Some e
 first-here [] zero key e low there is = cc
 first-here [] (suc i) key e low there is = cc
 first-here (x ∷ xs) zero key e low there is =
@@ -194,9 +194,9 @@ first-here (x ∷ xs) (suc i) key e low there is =
     rw other (first-here xs i key e (λ k d from within. low.0 (suc k) d (omega arith) (omega arith), λ k d from within. low.1 (suc k) d (omega arith) (omega arith)) there is)
 
 pub first-past : (xs : List (ℕ × ℕ)) (i key : ℕ) → IsNonDecreasingBy (λ e. e.0) xs → IsPartitionPoint (λ e. e.0 < key) (λ e. key ≤ e.0) xs i → (i < length xs → (d : ℕ × ℕ) → ((get_or xs i d).0 ≡ key → ⊥))
-    → slice_get (entries_of xs key) 0 ≡ None
+    → slice_get (entries_under xs key) 0 ≡ None
 first-past xs i key rising low past =
-    let none : entries_of xs key ≡ [] = filter-none (has_key key) xs (λ k d within. ne_eqb _ key (λ same. elim (cases_lt k i) [
+    let none : entries_under xs key ≡ [] = filter-none (has_key key) xs (λ k d within. ne_eqb _ key (λ same. elim (cases_lt k i) [
       | inl less ↦ absurd (omega (arith, same, low.0 k d (omega arith) less))
       | inr more ↦ (
           let step : (get_or xs i d).0 ≤ (get_or xs k d).0 = rising i k d more within in
@@ -206,12 +206,12 @@ first-past xs i key rising low past =
     rw none refl
 
 -- the first of a greater key stands where those up to this one end
-pub after-here : (xs : List (ℕ × ℕ)) (i key : ℕ) → i ≤ length xs → IsPartitionPoint (λ e. e.0 ≤ key) (λ e. key < e.0) xs i → slice_get xs i ≡ find (is_after key) xs
+pub after-here : (xs : List (ℕ × ℕ)) (i key : ℕ) → i ≤ length xs → IsPartitionPoint (λ e. e.0 ≤ key) (λ e. key < e.0) xs i → slice_get xs i ≡ find (has_greater_key key) xs
 after-here xs i key bound high =
-    let place : position_or_len (is_after key) xs ≡ i = position_or_len_is (is_after key) xs i (0, 0) bound
+    let place : position_or_len (has_greater_key key) xs ≡ i = position_or_len_is (has_greater_key key) xs i (0, 0) bound
     (λ k below. le-ltb key (get_or xs k (0, 0)).0 (high.0 k (0, 0) (omega arith) below))
     (λ within. lt-ltb key (get_or xs i (0, 0)).0 (high.1 i (0, 0) (omega arith) within)) in
-    ap (slice_get xs) (sym place) ∙ sym (find_at (is_after key) xs)
+    ap (slice_get xs) (sym place) ∙ sym (find_at (has_greater_key key) xs)
 
 -- ---- one more
 

@@ -11,7 +11,7 @@ use Rattle.std.proofs.lemmas.List.Sums.{position_or_len_is}
 use Rattle.std.proofs.lemmas.List.Sorted.{IsNonDecreasingBy-drop, IsNonDecreasingBy-push}
 use Rattle.std.proofs.lemmas.Bool.{and_from, and_right, cases_Bool, cases_lt, eqb-true, lt-ltb, ne_eqb}
 use Rattle.fsa_types.specs.Ranges.{without_first}
-use Rattle.key_index.specs.Index.{AreNumbersRising, IsSameByKey, entries_of, has_key, is_entry}
+use Rattle.key_index.specs.Index.{AreNumbersRising, IsSameByKey, entries_under, has_key, is_entry}
 use Rattle.key_index.proofs.KeyLemmas.{position-none, remove-position, without_first-none}
 use Rattle.key_index.proofs.RowLaws.{filter-swap, key_of, without_first-kept, without_first-other}
 
@@ -43,23 +43,23 @@ all-cons : {X : Type 0} (P : X → Type 0) (x : X) (xs : List X) → P x → All
 all-cons P x xs here rest zero d within = here
 all-cons P x xs here rest (suc k) d within = rest k d (omega arith)
 
-pub keys-same : (xs : List (ℕ × ℕ)) (key : ℕ) → All (λ e. e.0 ≡ key) (entries_of xs key)
+pub keys-same : (xs : List (ℕ × ℕ)) (key : ℕ) → All (λ e. e.0 ≡ key) (entries_under xs key)
 keys-same [] key = λ k d within. absurd (omega arith)
 keys-same (x ∷ xs) key = elim (cases_Bool (x.0 == key)) [
-  | inl here ↦ rw here (all-cons (λ (e : ℕ × ℕ). e.0 ≡ key) x (entries_of xs key) (eqb-true x.0 key here) (keys-same xs key))
+  | inl here ↦ rw here (all-cons (λ (e : ℕ × ℕ). e.0 ≡ key) x (entries_under xs key) (eqb-true x.0 key here) (keys-same xs key))
   | inr apart ↦ rw apart (keys-same xs key)
 ]
 
 -- ---- one more, and one less
 
 pub numbers-added : (old new : List (ℕ × ℕ)) (key number : ℕ) → IsSameByKey new (old ++ (key, number) ∷ []) → AreNumbersRising old
-    → ((d : ℕ × ℕ) → 0 < length (entries_of old key) → (get_or (entries_of old key) (length (entries_of old key) - 1) d).1 ≤ number) → AreNumbersRising new
+    → ((d : ℕ × ℕ) → 0 < length (entries_under old key) → (get_or (entries_under old key) (length (entries_under old key) - 1) d).1 ≤ number) → AreNumbersRising new
 numbers-added old new key number same rising behind k =
     let e : ℕ × ℕ = (key, number) in
-    let split : entries_of new k ≡ entries_of old k ++ filter (has_key k) (e ∷ []) = same k ∙ filter-append (has_key k) old (e ∷ []) in
+    let split : entries_under new k ≡ entries_under old k ++ filter (has_key k) (e ∷ []) = same k ∙ filter-append (has_key k) old (e ∷ []) in
     elim (cases_Bool (key == k)) [
-      | inl here ↦ (let is : key ≡ k = eqb-true key k here in rw (split, here) (IsNonDecreasingBy-push (λ (x : ℕ × ℕ). x.1) (entries_of old k) e (rising k) (rw is at behind)))
-      | inr apart ↦ rw (split, apart, append-nil (entries_of old k)) (rising k)
+      | inl here ↦ (let is : key ≡ k = eqb-true key k here in rw (split, here) (IsNonDecreasingBy-push (λ (x : ℕ × ℕ). x.1) (entries_under old k) e (rising k) (rw is at behind)))
+      | inr apart ↦ rw (split, apart, append-nil (entries_under old k)) (rising k)
     ]
 
 all-removed : {X : Type 0} (P : X → Type 0) (xs : List X) (i : ℕ) → i < length xs → All P xs → All P (remove xs i)
@@ -94,7 +94,7 @@ pub numbers-removed : (xs : List (ℕ × ℕ)) (key number : ℕ) → AreNumbers
 numbers-removed xs key number rising k = elim (cases_Bool (key == k)) [
   | inl here ↦ (
       let also : (e : ℕ × ℕ) → is_entry key number e ≡ true → has_key k e ≡ true = λ e is. eq-eqb e.0 k (key_of key number e is ∙ eqb-true key k here) in
-      rw (without_first-kept (is_entry key number) (has_key k) also xs) (without-rising (is_entry key number) (entries_of xs k) (rising k)))
+      rw (without_first-kept (is_entry key number) (has_key k) also xs) (without-rising (is_entry key number) (entries_under xs k) (rising k)))
   | inr apart ↦ (
       let never : (e : ℕ × ℕ) → is_entry key number e ≡ true → has_key k e ≡ false
       = λ e is. ne_eqb e.0 k (λ equal. let same : (key == k) ≡ true = eq-eqb key k (sym (key_of key number e is) ∙ equal) in cc) in
@@ -103,4 +103,4 @@ numbers-removed xs key number rising k = elim (cases_Bool (key == k)) [
 
 pub numbers-cleared : (xs : List (ℕ × ℕ)) (key : ℕ) → AreNumbersRising xs → AreNumbersRising (filter (λ e. not (has_key key e)) xs)
 numbers-cleared xs key rising k =
-    rw (filter-swap (has_key k) (λ e. not (has_key key e)) xs) (IsNonDecreasingBy-filter (λ (e : ℕ × ℕ). e.1) (λ e. not (has_key key e)) (entries_of xs k) (rising k))
+    rw (filter-swap (has_key k) (λ e. not (has_key key e)) xs) (IsNonDecreasingBy-filter (λ (e : ℕ × ℕ). e.1) (λ e. not (has_key key e)) (entries_under xs k) (rising k))

@@ -8,8 +8,8 @@ use Rattle.std.proofs.lemmas.List.Elements.{All-filter, All-map, filter-append}
 use Rattle.fsa_types.specs.Ranges.{without_first}
 use Rattle.fsa_types.specs.Rows.{IsNumbered, lives, row_of, with_row_changed, without_row}
 use Rattle.fsa_types.proofs.RowLemmas.{AreRising, AreRising-first, AreRising-rest, row_of-at, without_row-above}
-use Rattle.key_index.specs.Index.{IsSameByKey, entries_of, has_key, is_entry}
-use Rattle.key_index.specs.RowsByKey.{IsIndexOf, pairs, row_passes, rows_at, rows_with}
+use Rattle.key_index.specs.Index.{IsSameByKey, entries_under, has_key, is_entry}
+use Rattle.key_index.specs.RowsByKey.{IsIndexOf, pairs, row_passes, rows_of_entries, rows_with}
 
 -- ---- one test after another
 
@@ -110,7 +110,7 @@ module _ {R : Type 0} (key : R → ℕ) where
   pairs-push [] x = refl
   pairs-push (y ∷ rows) x = ap (λ (rest : List (ℕ × ℕ)). (key y.1, y.0) ∷ rest) (pairs-push rows x)
 
-  pairs-with : (rows : List (ℕ × R)) (k : ℕ) → entries_of (pairs key rows) k ≡ pairs key (rows_with key rows k)
+  pairs-with : (rows : List (ℕ × R)) (k : ℕ) → entries_under (pairs key rows) k ≡ pairs key (rows_with key rows k)
   pairs-with [] k = refl
   pairs-with (x ∷ rows) k = elim (cases_Bool (key x.1 == k)) [
     | inl here ↦ rw here (ap (λ (rest : List (ℕ × ℕ)). (key x.1, x.0) ∷ rest) (pairs-with rows k))
@@ -144,16 +144,16 @@ module _ {R : Type 0} (key : R → ℕ) where
   index-added rows old new id row index same k =
       let e : ℕ × ℕ = (key row, id) in
       same k ∙ filter-append (has_key k) old (e ∷ []) ∙ ap (λ (front : List (ℕ × ℕ)). front ++ filter (has_key k) (e ∷ [])) (index k)
-      ∙ sym (filter-append (has_key k) (pairs key rows) (e ∷ [])) ∙ ap (λ (all : List (ℕ × ℕ)). entries_of all k) (sym (pairs-push rows (id, row)))
+      ∙ sym (filter-append (has_key k) (pairs key rows) (e ∷ [])) ∙ ap (λ (all : List (ℕ × ℕ)). entries_under all k) (sym (pairs-push rows (id, row)))
 
   pub index-removed : (rows : List (ℕ × R)) (last : ℕ) (entries : List (ℕ × ℕ)) (id : ℕ) (row : R) → IsNumbered rows last → IsIndexOf key rows entries → row_of rows id ≡ Some row
       → IsIndexOf key (without_row rows id) (without_first (is_entry (key row) id) entries)
   index-removed rows last entries id row numbered index found k =
-      same-without entries (pairs key rows) (key row) id index k ∙ ap (λ (all : List (ℕ × ℕ)). entries_of all k) (pairs-without rows id row numbered.rising found)
+      same-without entries (pairs key rows) (key row) id index k ∙ ap (λ (all : List (ℕ × ℕ)). entries_under all k) (pairs-without rows id row numbered.rising found)
 
   pub index-changed : (change : R → R) (rows : List (ℕ × R)) (entries : List (ℕ × ℕ)) (id : ℕ) → ((row : R) → key (change row) ≡ key row) → IsIndexOf key rows entries
       → IsIndexOf key (with_row_changed change rows id) entries
-  index-changed change rows entries id same index k = index k ∙ ap (λ (all : List (ℕ × ℕ)). entries_of all k) (sym (pairs-changed change rows id same))
+  index-changed change rows entries id same index k = index k ∙ ap (λ (all : List (ℕ × ℕ)). entries_under all k) (sym (pairs-changed change rows id same))
 
   pairs-cleared : (rows : List (ℕ × R)) (k : ℕ) → filter (λ e. not (has_key k e)) (pairs key rows) ≡ pairs key (filter (λ row. not (key row.1 == k)) rows)
   pairs-cleared [] k = refl
@@ -165,11 +165,11 @@ module _ {R : Type 0} (key : R → ℕ) where
   pub index-cleared : (rows : List (ℕ × R)) (entries : List (ℕ × ℕ)) (k : ℕ) → IsIndexOf key rows entries → IsIndexOf key (filter (λ row. not (key row.1 == k)) rows) (filter (λ e. not (has_key k e)) entries)
   index-cleared rows entries k index other =
       filter-swap (has_key other) (λ e. not (has_key k e)) entries ∙ ap (filter (λ e. not (has_key k e))) (index other)
-      ∙ sym (filter-swap (has_key other) (λ e. not (has_key k e)) (pairs key rows)) ∙ ap (λ (all : List (ℕ × ℕ)). entries_of all other) (pairs-cleared rows k)
+      ∙ sym (filter-swap (has_key other) (λ e. not (has_key k e)) (pairs key rows)) ∙ ap (λ (all : List (ℕ × ℕ)). entries_under all other) (pairs-cleared rows k)
 
   -- ---- what a key's entries tell
 
-  pub index-entries : (rows : List (ℕ × R)) (entries : List (ℕ × ℕ)) (k : ℕ) → IsIndexOf key rows entries → entries_of entries k ≡ pairs key (rows_with key rows k)
+  pub index-entries : (rows : List (ℕ × R)) (entries : List (ℕ × ℕ)) (k : ℕ) → IsIndexOf key rows entries → entries_under entries k ≡ pairs key (rows_with key rows k)
   index-entries rows entries k index = index k ∙ pairs-with rows k
 
   lives-at : (rows : List (ℕ × R)) (i : ℕ) (d : ℕ × R) → i < length rows → lives rows (get_or rows i d).0 ≡ true
@@ -177,7 +177,7 @@ module _ {R : Type 0} (key : R → ℕ) where
   lives-at (x ∷ rows) zero d within = let here : (x.0 == x.0) ≡ true = eq-eqb x.0 x.0 refl in rw here refl
   lives-at (x ∷ rows) (suc i) d within = or_right (x.0 == (get_or rows i d).0) (lives rows (get_or rows i d).0) (lives-at rows i d (omega arith))
 
-  pub index-live : (rows : List (ℕ × R)) (entries : List (ℕ × ℕ)) (k : ℕ) → IsIndexOf key rows entries → All (λ entry. lives rows entry.1 ≡ true) (entries_of entries k)
+  pub index-live : (rows : List (ℕ × R)) (entries : List (ℕ × ℕ)) (k : ℕ) → IsIndexOf key rows entries → All (λ entry. lives rows entry.1 ≡ true) (entries_under entries k)
   index-live rows entries k index =
       rw (index-entries rows entries k index) (All-map (λ (entry : ℕ × ℕ). lives rows entry.1 ≡ true) (λ (row : ℕ × R). (key row.1, row.0)) (rows_with key rows k)
       (All-filter (λ row. key row.1 == k) (λ row. lives rows row.0 ≡ true) rows (λ i d within. lives-at rows i d within)))
@@ -187,18 +187,18 @@ module _ {R : Type 0} (key : R → ℕ) where
   first-number (x ∷ some) = refl
 
   pub index-first : (rows : List (ℕ × R)) (entries : List (ℕ × ℕ)) (k : ℕ) → IsIndexOf key rows entries
-      → option_map (λ (row : ℕ × R). row.0) (find (λ row. key row.1 == k) rows) ≡ option_map (λ (entry : ℕ × ℕ). entry.1) (slice_get (entries_of entries k) 0)
+      → option_map (λ (row : ℕ × R). row.0) (find (λ row. key row.1 == k) rows) ≡ option_map (λ (entry : ℕ × ℕ). entry.1) (slice_get (entries_under entries k) 0)
   index-first rows entries k index =
       ap (option_map (λ (row : ℕ × R). row.0)) (find-first (λ row. key row.1 == k) rows) ∙ first-number (rows_with key rows k)
       ∙ ap (λ (some : List (ℕ × ℕ)). option_map (λ (entry : ℕ × ℕ). entry.1) (slice_get some 0)) (sym (index-entries rows entries k index))
 
-  pub index-length : (rows : List (ℕ × R)) (entries : List (ℕ × ℕ)) (k : ℕ) → IsIndexOf key rows entries → length (filter (λ row. key row.1 == k) rows) ≡ length (entries_of entries k)
+  pub index-length : (rows : List (ℕ × R)) (entries : List (ℕ × ℕ)) (k : ℕ) → IsIndexOf key rows entries → length (filter (λ row. key row.1 == k) rows) ≡ length (entries_under entries k)
   index-length rows entries k index = sym (length-map (rows_with key rows k) (λ (row : ℕ × R). (key row.1, row.0))) ∙ ap length (sym (index-entries rows entries k index))
 
   -- ---- rows that are looked up
 
   module _ (rows : List (ℕ × R)) where
-    at-pairs : (some : List (ℕ × R)) → All (λ row. row_of rows row.0 ≡ Some row.1) some → rows_at rows (pairs key some) ≡ some
+    at-pairs : (some : List (ℕ × R)) → All (λ row. row_of rows row.0 ≡ Some row.1) some → rows_of_entries rows (pairs key some) ≡ some
     at-pairs [] there = refl
     at-pairs (x ∷ some) there =
         let here : row_of rows x.0 ≡ Some x.1 = there 0 x (omega arith) in
@@ -236,26 +236,26 @@ module _ {R : Type 0} (key : R → ℕ) where
   there : (rows : List (ℕ × R)) (last : ℕ) (k : ℕ) → IsNumbered rows last → All (λ row. row_of rows row.0 ≡ Some row.1) (rows_with key rows k)
   there rows last k numbered = All-filter (λ row. key row.1 == k) (λ row. row_of rows row.0 ≡ Some row.1) rows (λ i d within. row_of-at rows i d (get_or rows i d).0 numbered.rising within refl)
 
-  pub index-rows : (rows : List (ℕ × R)) (last : ℕ) (entries : List (ℕ × ℕ)) (k : ℕ) → IsNumbered rows last → IsIndexOf key rows entries → rows_at rows (entries_of entries k) ≡ rows_with key rows k
-  index-rows rows last entries k numbered index = ap (rows_at rows) (index-entries rows entries k index) ∙ at-pairs rows (rows_with key rows k) (there rows last k numbered)
+  pub index-rows : (rows : List (ℕ × R)) (last : ℕ) (entries : List (ℕ × ℕ)) (k : ℕ) → IsNumbered rows last → IsIndexOf key rows entries → rows_of_entries rows (entries_under entries k) ≡ rows_with key rows k
+  index-rows rows last entries k numbered index = ap (rows_of_entries rows) (index-entries rows entries k index) ∙ at-pairs rows (rows_with key rows k) (there rows last k numbered)
 
   pub index-listed : (rows : List (ℕ × R)) (last : ℕ) (entries : List (ℕ × ℕ)) (k : ℕ) (test : ℕ × R → Bool) → IsNumbered rows last → IsIndexOf key rows entries
-      → filter (λ row. key row.1 == k && test row) rows ≡ filter test (rows_at rows (entries_of entries k))
+      → filter (λ row. key row.1 == k && test row) rows ≡ filter test (rows_of_entries rows (entries_under entries k))
   index-listed rows last entries k test numbered index = filter-both (λ row. key row.1 == k) test rows ∙ ap (filter test) (sym (index-rows rows last entries k numbered index))
 
   pub index-found : (rows : List (ℕ × R)) (last : ℕ) (entries : List (ℕ × ℕ)) (k : ℕ) (test : ℕ × R → Bool) → IsNumbered rows last → IsIndexOf key rows entries
-      → option_map (λ (row : ℕ × R). row.0) (find (λ row. key row.1 == k && test row) rows) ≡ option_map (λ (entry : ℕ × ℕ). entry.1) (find (row_passes rows test) (entries_of entries k))
+      → option_map (λ (row : ℕ × R). row.0) (find (λ row. key row.1 == k && test row) rows) ≡ option_map (λ (entry : ℕ × ℕ). entry.1) (find (row_passes rows test) (entries_under entries k))
   index-found rows last entries k test numbered index =
       ap (option_map (λ (row : ℕ × R). row.0)) (find-both (λ row. key row.1 == k) test rows) ∙ find-pairs rows test (rows_with key rows k) (there rows last k numbered)
       ∙ ap (λ (some : List (ℕ × ℕ)). option_map (λ (entry : ℕ × ℕ). entry.1) (find (row_passes rows test) some)) (sym (index-entries rows entries k index))
 
   pub index-any : (rows : List (ℕ × R)) (last : ℕ) (entries : List (ℕ × ℕ)) (k : ℕ) (test : ℕ × R → Bool) → IsNumbered rows last → IsIndexOf key rows entries
-      → list_any (λ row. key row.1 == k && test row) rows ≡ list_any (row_passes rows test) (entries_of entries k)
+      → list_any (λ row. key row.1 == k && test row) rows ≡ list_any (row_passes rows test) (entries_under entries k)
   index-any rows last entries k test numbered index =
       any-both (λ row. key row.1 == k) test rows ∙ any-pairs rows test (rows_with key rows k) (there rows last k numbered) ∙ ap (list_any (row_passes rows test)) (sym (index-entries rows entries k index))
 
   pub index-counted : (rows : List (ℕ × R)) (last : ℕ) (entries : List (ℕ × ℕ)) (k : ℕ) (test : ℕ × R → Bool) → IsNumbered rows last → IsIndexOf key rows entries
-      → length (filter (λ row. key row.1 == k && test row) rows) ≡ length (filter (row_passes rows test) (entries_of entries k))
+      → length (filter (λ row. key row.1 == k && test row) rows) ≡ length (filter (row_passes rows test) (entries_under entries k))
   index-counted rows last entries k test numbered index =
       ap length (filter-both (λ row. key row.1 == k) test rows) ∙ count-pairs rows test (rows_with key rows k) (there rows last k numbered)
       ∙ ap (λ (some : List (ℕ × ℕ)). length (filter (row_passes rows test) some)) (sym (index-entries rows entries k index))

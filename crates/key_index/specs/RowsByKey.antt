@@ -17,8 +17,8 @@ abbrev pub rows_with : {R : Type 0} → (R → ℕ) → List (ℕ × R) → ℕ 
 rows_with key rows k = filter (λ row. key row.1 == k) rows
 
 -- the rows of the entries' numbers, each looked up
-abbrev pub rows_at : {R : Type 0} → List (ℕ × R) → List (ℕ × ℕ) → List (ℕ × R)
-rows_at {R} rows entries = filter_map (λ (entry : ℕ × ℕ). option_map (λ (row : R). (entry.1, row)) (row_of rows entry.1)) entries
+abbrev pub rows_of_entries : {R : Type 0} → List (ℕ × R) → List (ℕ × ℕ) → List (ℕ × R)
+rows_of_entries {R} rows entries = filter_map (λ (entry : ℕ × ℕ). option_map (λ (row : R). (entry.1, row)) (row_of rows entry.1)) entries
 
 -- a test of the row of an entry's number; it fails where there is no such row
 abbrev pub row_passes : {R : Type 0} → List (ℕ × R) → (ℕ × R → Bool) → ℕ × ℕ → Bool

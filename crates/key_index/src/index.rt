@@ -2,7 +2,7 @@
 
 ghost use Rattle.std.specs.Prelude.{◌≡◌, ◌≤◌, ◌+◌, ◌++◌, ◌∷◌, [], not, OnOk, filter, find, option_map, slice_get};
 ghost use Rattle.std.specs.List.Sorted.{IsNonDecreasingBy};
-ghost use Rattle.key_index.specs.Index.{IsSameByKey, entries_of, has_key, is_after, is_entry};
+ghost use Rattle.key_index.specs.Index.{IsSameByKey, entries_under, has_key, has_greater_key, is_entry};
 ghost use Rattle.fsa_types.specs.Ranges.{without_first};
 
 use crate::search::{end_of, first_number, part_at, part_of, place_of, stays_rising};
@@ -55,21 +55,21 @@ impl KeyIndex {
 
     /// The entries of a key, each the key and a number, in the order in which they were added.
     pub fn of(&self, key: u64) -> &[(u64, u64)]
-        ensures { result.now ≡ entries_of self.now.entries key }
+        ensures { result.now ≡ entries_under self.now.entries key }
     {
         part_of(self.entries.as_slice(), key)
     }
 
     /// The number of the first entry of a key; `None` exactly where the key has none.
     pub fn first(&self, key: u64) -> Option<u64>
-        ensures { result ≡ option_map (λ entry. entry.1) (slice_get (entries_of self.now.entries key) 0) }
+        ensures { result ≡ option_map (λ entry. entry.1) (slice_get (entries_under self.now.entries key) 0) }
     {
         first_number(self.entries.as_slice(), key)
     }
 
     /// The first entry of a greater key; `None` exactly where no key is greater. This key need not be there.
     pub fn after(&self, key: u64) -> Option<(u64, u64)>
-        ensures entry { result ≡ find (is_after key) self.now.entries }
+        ensures entry { result ≡ find (has_greater_key key) self.now.entries }
         ensures rising { IsNonDecreasingBy (λ e. e.0) self.now.entries }
     {
         let entries = self.entries.as_slice();

@@ -4,8 +4,8 @@ ghost use Rattle.std.specs.Prelude.{ℕ, ◌≡◌, Bool, true, List, ◌∷◌,
 ghost use Rattle.std.specs.List.{list_any};
 ghost use Rattle.fsa_types.specs.Ranges.{without_first};
 ghost use Rattle.fsa_types.specs.Rows.{IsNumbered, lives, row_of, with_row_changed, without_row};
-ghost use Rattle.key_index.specs.Index.{IsSameByKey, entries_of, has_key, is_entry};
-ghost use Rattle.key_index.specs.RowsByKey.{IsIndexOf, pairs, row_passes, rows_at, rows_with};
+ghost use Rattle.key_index.specs.Index.{IsSameByKey, entries_under, has_key, is_entry};
+ghost use Rattle.key_index.specs.RowsByKey.{IsIndexOf, pairs, row_passes, rows_of_entries, rows_with};
 
 /// What an index tells of the rows of a table whose numbers it has under their keys. It is kept where a row
 /// comes, where one or all of a key go, and where one changes but for its key. The entries of a key are those of

@@ -2,7 +2,7 @@
 
 ghost use Rattle.std.specs.Prelude.{ℕ, ◌≡◌, ◌≤◌, ◌<◌, ◌+◌, ◌-◌, ◌++◌, true, false, not, All, drop, filter, length, option_map, position, slice_get, slice_index_or, take};
 ghost use Rattle.std.specs.List.Sorted.{IsNonDecreasingBy, IsPartitionPoint};
-ghost use Rattle.key_index.specs.Index.{AreNumbersRising, entries_of, has_key, is_entry};
+ghost use Rattle.key_index.specs.Index.{AreNumbersRising, entries_under, has_key, is_entry};
 
 /// Where the entries of lower keys end.
 pub(crate) fn begin_of(entries: &[(u64, u64)], key: u64) -> usize
@@ -123,7 +123,7 @@ fn is_up_to_at(entries: &[(u64, u64)], place: usize, key: u64) -> bool
 pub(crate) fn part_at(entries: &[(u64, u64)], key: u64) -> (usize, &[(u64, u64)])
     requires rising { IsNonDecreasingBy (λ e. e.0) entries.now }
     ensures bound { result.0 + length result.1.now ≤ length entries.now }
-    ensures part { result.1.now ≡ entries_of entries.now key }
+    ensures part { result.1.now ≡ entries_under entries.now key }
     ensures places { (number : ℕ) → option_map (λ place. result.0 + place) (position (is_entry key number) result.1.now) ≡ position (is_entry key number) entries.now }
     ensures end { IsPartitionPoint (λ e. e.0 ≤ key) (λ e. key < e.0) entries.now (result.0 + length result.1.now) }
     ensures others { take result.0 entries.now ++ drop (result.0 + length result.1.now) entries.now ≡ filter (λ e. not (has_key key e)) entries.now }
@@ -137,7 +137,7 @@ pub(crate) fn part_at(entries: &[(u64, u64)], key: u64) -> (usize, &[(u64, u64)]
 /// The entries of a key.
 pub(crate) fn part_of(entries: &[(u64, u64)], key: u64) -> &[(u64, u64)]
     requires rising { IsNonDecreasingBy (λ e. e.0) entries.now }
-    ensures { result.now ≡ entries_of entries.now key }
+    ensures { result.now ≡ entries_under entries.now key }
 {
     let (_, part) = part_at(entries, key);
     part
@@ -146,7 +146,7 @@ pub(crate) fn part_of(entries: &[(u64, u64)], key: u64) -> &[(u64, u64)]
 /// The number of the first entry of a key.
 pub(crate) fn first_number(entries: &[(u64, u64)], key: u64) -> Option<u64>
     requires rising { IsNonDecreasingBy (λ e. e.0) entries.now }
-    ensures { result ≡ option_map (λ e. e.1) (slice_get (entries_of entries.now key) 0) }
+    ensures { result ≡ option_map (λ e. e.1) (slice_get (entries_under entries.now key) 0) }
 {
     match entries.get(begin_of(entries, key)) {
         None => None,

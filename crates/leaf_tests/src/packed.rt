@@ -3,7 +3,7 @@
 
 use fsa_types::{DirKind, Name, NoMemory};
 use pack_info::{
-    DirRow, StreamRow, pack_basic, pack_entries, pack_internal, pack_reparse, pack_standard,
+    DirRow, StreamInfoRow, pack_basic, pack_entries, pack_internal, pack_reparse, pack_standard,
     pack_streams, pack_tag, read_reparse,
 };
 use std::alloc::Global;
@@ -122,9 +122,9 @@ fn an_entry_is_given_whole_or_not(rt: HostRuntime) -> Result<(), Fail> {
     Ok(())
 }
 
-fn stream(alloc: Global, length: u64, room: u64, units: &[u16]) -> Result<StreamRow, NoMemory> {
+fn stream(alloc: Global, length: u64, room: u64, units: &[u16]) -> Result<StreamInfoRow, NoMemory> {
     let name = Name::copy_of(alloc, units)?;
-    Ok(StreamRow { length, room, name })
+    Ok(StreamInfoRow { length, room, name })
 }
 
 #[test]

@@ -14,7 +14,7 @@ use Rattle.fsa_types.specs.CaseTable.{up, upcased}
 use Rattle.fsa_model.specs.Volume.{Link}
 use Rattle.link_index.specs.Keyed.{AreInKeyOrder, cmp_keys}
 use Rattle.link_index.specs.Beginnings.{begins_with, cmp_beginning, name_key}
-use Rattle.link_index.specs.Directory.{link_at, links_at}
+use Rattle.link_index.specs.Directory.{link_numbered, links_at}
 use Rattle.link_index.proofs.ChildLemmas.{filter-between, links-each, numbers-between}
 use Rattle.link_index.proofs.NameLemmas.{Links}
 
@@ -95,32 +95,32 @@ lt-fails Greater is = refl
 module _ (table : List (ℕ × ℕ)) (rows : Links) (numbers units : List ℕ) where
   -- how the units compare with the name of a number
   abbrev at_number : ℕ → Ordering
-  at_number id = cmp_beginning table units (link_at rows id).1.name
+  at_number id = cmp_beginning table units (link_numbered rows id).1.name
 
   module _ (ordered : AreInKeyOrder (name_key table) (links_at rows numbers)) where
     -- of two of them the beginnings rise
     starts-rise : (i j d : ℕ) → i < j → j < length numbers
-        → is_gt (cmp_keys (take (length units) (upcased table (link_at rows (get_or numbers i d)).1.name)) (take (length units) (upcased table (link_at rows (get_or numbers j d)).1.name))) ≡ false
+        → is_gt (cmp_keys (take (length units) (upcased table (link_numbered rows (get_or numbers i d)).1.name)) (take (length units) (upcased table (link_numbered rows (get_or numbers j d)).1.name))) ≡ false
     starts-rise i j d before within =
-        let e : ℕ × Link = link_at rows d in
-        let inside : j < length (links_at rows numbers) = rw (length-map numbers (link_at rows)) within in
+        let e : ℕ × Link = link_numbered rows d in
+        let inside : j < length (links_at rows numbers) = rw (length-map numbers (link_numbered rows)) within in
         let less : cmp_keys (name_key table (get_or (links_at rows numbers) i e)) (name_key table (get_or (links_at rows numbers) j e)) ≡ Less = ordered i j e before inside in
-        let one : get_or (links_at rows numbers) i e ≡ link_at rows (get_or numbers i d) = get_or-map (link_at rows) numbers i d e (omega arith) in
-        let two : get_or (links_at rows numbers) j e ≡ link_at rows (get_or numbers j d) = get_or-map (link_at rows) numbers j d e within in
-        take-rises (length units) (upcased table (link_at rows (get_or numbers i d)).1.name) (upcased table (link_at rows (get_or numbers j d)).1.name) (rw (one, two) at less)
+        let one : get_or (links_at rows numbers) i e ≡ link_numbered rows (get_or numbers i d) = get_or-map (link_numbered rows) numbers i d e (omega arith) in
+        let two : get_or (links_at rows numbers) j e ≡ link_numbered rows (get_or numbers j d) = get_or-map (link_numbered rows) numbers j d e within in
+        take-rises (length units) (upcased table (link_numbered rows (get_or numbers i d)).1.name) (upcased table (link_numbered rows (get_or numbers j d)).1.name) (rw (one, two) at less)
 
     pub begin-parted : IsPartitionedBy (λ id. is_gt (at_number id)) numbers
     begin-parted i j d order within more = elim (cases_eq i j) [
       | inl same ↦ rw same more
-      | inr other ↦ ap is_gt (beginning-is table units (link_at rows (get_or numbers i d)).1.name)
-          ∙ gt-before (upcased table units) _ _ (starts-rise i j d (omega arith) within) (sym (ap is_gt (beginning-is table units (link_at rows (get_or numbers j d)).1.name)) ∙ more)
+      | inr other ↦ ap is_gt (beginning-is table units (link_numbered rows (get_or numbers i d)).1.name)
+          ∙ gt-before (upcased table units) _ _ (starts-rise i j d (omega arith) within) (sym (ap is_gt (beginning-is table units (link_numbered rows (get_or numbers j d)).1.name)) ∙ more)
     ]
 
     pub end-parted : IsPartitionedBy (λ id. is_ge (at_number id)) numbers
     end-parted i j d order within more = elim (cases_eq i j) [
       | inl same ↦ rw same more
-      | inr other ↦ ap is_ge (beginning-is table units (link_at rows (get_or numbers i d)).1.name)
-          ∙ ge-before (upcased table units) _ _ (starts-rise i j d (omega arith) within) (sym (ap is_ge (beginning-is table units (link_at rows (get_or numbers j d)).1.name)) ∙ more)
+      | inr other ↦ ap is_ge (beginning-is table units (link_numbered rows (get_or numbers i d)).1.name)
+          ∙ ge-before (upcased table units) _ _ (starts-rise i j d (omega arith) within) (sym (ap is_ge (beginning-is table units (link_numbered rows (get_or numbers j d)).1.name)) ∙ more)
     ]
 
   -- those between the two places begin so, and no others
@@ -129,14 +129,14 @@ module _ (table : List (ℕ × ℕ)) (rows : Links) (numbers units : List ℕ) w
       → IsPartitionPoint (λ id. is_ge (at_number id) ≡ true) (λ id. is_ge (at_number id) ≡ false) numbers j
       → take (j - i) (drop i numbers) ≡ map (λ (e : ℕ × Link). e.0) (filter (λ (e : ℕ × Link). begins_with table units e.1.name) (links_at rows numbers))
   beginning-between b i j low order from inside bound begin end =
-      let long : length (links_at rows numbers) ≡ length numbers = length-map numbers (link_at rows) in
+      let long : length (links_at rows numbers) ≡ length numbers = length-map numbers (link_numbered rows) in
       let Passes : Bool → ℕ × Link → Type 0 = λ w e. begins_with table units e.1.name ≡ w in
       let before : AllWithin (Passes false) (links_at rows numbers) 0 i
-      = links-each rows numbers (Passes false) 0 i (omega arith) (λ k d start below. begins-is table units (link_at rows (get_or numbers k d)).1.name ∙ gt-fails (at_number (get_or numbers k d)) (begin.0 k d start (omega arith))) in
+      = links-each rows numbers (Passes false) 0 i (omega arith) (λ k d start below. begins-is table units (link_numbered rows (get_or numbers k d)).1.name ∙ gt-fails (at_number (get_or numbers k d)) (begin.0 k d start (omega arith))) in
       let between : AllWithin (Passes true) (links_at rows numbers) i j
       = links-each rows numbers (Passes true) i j bound (λ k d start below. let at : i ≡ b = from (omega arith) in
-      begins-is table units (link_at rows (get_or numbers k d)).1.name ∙ ge-passes (at_number (get_or numbers k d)) (begin.1 k d (omega arith) (omega arith)) (end.0 k d (omega arith) below)) in
+      begins-is table units (link_numbered rows (get_or numbers k d)).1.name ∙ ge-passes (at_number (get_or numbers k d)) (begin.1 k d (omega arith) (omega arith)) (end.0 k d (omega arith) below)) in
       let behind : AllWithin (Passes false) (links_at rows numbers) j (length (links_at rows numbers))
-      = rw long (links-each rows numbers (Passes false) j (length numbers) (omega arith) (λ k d start below. begins-is table units (link_at rows (get_or numbers k d)).1.name ∙ lt-fails (at_number (get_or numbers k d)) (end.1 k d start below))) in
+      = rw long (links-each rows numbers (Passes false) j (length numbers) (omega arith) (λ k d start below. begins-is table units (link_numbered rows (get_or numbers k d)).1.name ∙ lt-fails (at_number (get_or numbers k d)) (end.1 k d start below))) in
       sym (numbers-between rows numbers i (j - i))
       ∙ ap (map (λ (e : ℕ × Link). e.0)) (sym (filter-between (λ (e : ℕ × Link). begins_with table units e.1.name) (links_at rows numbers) i j order (omega arith) before between behind))

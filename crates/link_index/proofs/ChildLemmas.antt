@@ -8,7 +8,7 @@ use Rattle.std.proofs.lemmas.List.{drop-map, get_or-map, length-map, take-map}
 use Rattle.fsa_types.specs.Sorting.{in_order, put_in_order}
 use Rattle.fsa_model.specs.Volume.{Link}
 use Rattle.volume_rows.specs.Children.{is_child_after, is_name_after}
-use Rattle.link_index.specs.Directory.{IsBegin, link_at, links_at}
+use Rattle.link_index.specs.Directory.{IsBegin, link_numbered, links_at}
 use Rattle.link_index.proofs.NameLemmas.{Links, numbers-at}
 
 -- ---- those that pass a test, where they stand together
@@ -64,14 +64,14 @@ numbers-between rows numbers i n =
     ∙ ap (λ (ids : List ℕ). take n (drop i ids)) (numbers-at rows numbers)
 
 -- what is told of the link of each number is told of each link
-pub links-each : (rows : Links) (numbers : List ℕ) (P : ℕ × Link → Type 0) (low high : ℕ) → high ≤ length numbers → AllWithin (λ id. P (link_at rows id)) numbers low high → AllWithin P (links_at rows numbers) low high
-links-each rows numbers P low high bound all k d from below = subst P (sym (get_or-map (link_at rows) numbers k 0 d (omega arith))) (all k 0 from below)
+pub links-each : (rows : Links) (numbers : List ℕ) (P : ℕ × Link → Type 0) (low high : ℕ) → high ≤ length numbers → AllWithin (λ id. P (link_numbered rows id)) numbers low high → AllWithin P (links_at rows numbers) low high
+links-each rows numbers P low high bound all k d from below = subst P (sym (get_or-map (link_numbered rows) numbers k 0 d (omega arith))) (all k 0 from below)
 
 -- those behind a name are the numbers from the place on where they begin
 pub numbers-behind : (table : List (ℕ × ℕ)) (rows : Links) (numbers : List ℕ) (after : Option (List ℕ)) (i : ℕ) → i ≤ length numbers → IsBegin table (links_at rows numbers) after i
     → drop i numbers ≡ map (λ (e : ℕ × Link). e.0) (filter (λ (e : ℕ × Link). is_name_after table after e.1.name) (links_at rows numbers))
 numbers-behind table rows numbers after i bound begin =
-    let long : length (links_at rows numbers) ≡ length numbers = length-map numbers (link_at rows) in
+    let long : length (links_at rows numbers) ≡ length numbers = length-map numbers (link_numbered rows) in
     ap (drop i) (sym (numbers-at rows numbers))
     ∙ drop-map (λ (e : ℕ × Link). e.0) i (links_at rows numbers)
     ∙ ap (map (λ (e : ℕ × Link). e.0)) (sym (filter-behind (λ (e : ℕ × Link). is_name_after table after e.1.name) (links_at rows numbers) i (omega arith) begin.before begin.behind))

@@ -15,9 +15,9 @@ use Rattle.fsa_types.specs.CaseTable.{up, upcased}
 use Rattle.fsa_model.specs.Volume.{Link}
 use Rattle.link_index.specs.Keyed.{AreInKeyOrder, IsKeyPlace, cmp_keys}
 use Rattle.link_index.proofs.KeyLaws.{less-back}
-use Rattle.link_index.specs.Heads.{digit, head_of, is_exact, link_head, packed, unit_at}
+use Rattle.link_index.specs.Heads.{head_digit, head_of, is_exact, link_head, units_packed, unit_at}
 use Rattle.link_index.specs.Beginnings.{name_key}
-use Rattle.link_index.specs.Directory.{link_at, links_at}
+use Rattle.link_index.specs.Directory.{link_numbered, links_at}
 use Rattle.link_index.proofs.NameLemmas.{Links}
 
 -- ---- units
@@ -43,7 +43,7 @@ first-unit (suc k) (x ∷ xs) (y ∷ ys) same less =
 
 -- ---- heads
 
-pub digit-most : (exact : Bool) (unit : ℕ) → digit exact unit ≤ 255
+pub digit-most : (exact : Bool) (unit : ℕ) → head_digit exact unit ≤ 255
 digit-most true unit = omega arith
 digit-most false unit = omega arith
 
@@ -65,32 +65,32 @@ unfolding wide
 wide-last = refl
 
 module _ (units : List ℕ) where
-  packed-wide : (k : ℕ) → packed units k < wide k
-  unfolding packed wide
+  packed-wide : (k : ℕ) → units_packed units k < wide k
+  unfolding units_packed wide
   packed-wide zero = omega arith
   packed-wide (suc k) =
-      let less : packed units k < wide k = packed-wide k in
-      let most : digit (is_exact units k) (unit_at units k) ≤ 255 = digit-most (is_exact units k) (unit_at units k) in
+      let less : units_packed units k < wide k = packed-wide k in
+      let most : head_digit (is_exact units k) (unit_at units k) ≤ 255 = digit-most (is_exact units k) (unit_at units k) in
       omega arith
 
-  pub packed-fits : (k : ℕ) → k < 16 → packed units k < 1329227995784915872903807060280344576
+  pub packed-fits : (k : ℕ) → k < 16 → units_packed units k < 1329227995784915872903807060280344576
   packed-fits k within =
-      let less : packed units k < wide k = packed-wide k in
+      let less : units_packed units k < wide k = packed-wide k in
       let most : wide k ≤ wide 15 = wide-rises k 15 (omega arith) in
       let last : wide 15 ≡ 1329227995784915872903807060280344576 = wide-last in
       omega arith
 
-  pub packed-first : packed units 0 ≡ 0
-  unfolding packed
+  pub packed-first : units_packed units 0 ≡ 0
+  unfolding units_packed
   packed-first = refl
 
   pub exact-first : is_exact units 0 ≡ true
   unfolding is_exact
   exact-first = refl
 
-  pub packed-next : (k : ℕ) → packed units (k + 1) ≡ packed units k * 256 + digit (is_exact units k) (unit_at units k)
-  unfolding packed
-  packed-next k = ap (packed units) (add-one k)
+  pub packed-next : (k : ℕ) → units_packed units (k + 1) ≡ units_packed units k * 256 + head_digit (is_exact units k) (unit_at units k)
+  unfolding units_packed
+  packed-next k = ap (units_packed units) (add-one k)
 
   pub exact-next : (k : ℕ) → is_exact units (k + 1) ≡ (is_exact units k && nat_lt (unit_at units k) 255)
   unfolding is_exact
@@ -112,7 +112,7 @@ module _ (xs ys : List ℕ) where
     | inr more ↦ (let at : j ≡ k = omega arith in rw at here)
   ]
 
-  alike-next : (k : ℕ) → Alike k → digit (is_exact xs k) (unit_at xs k) ≡ digit (is_exact ys k) (unit_at ys k) → Alike (suc k)
+  alike-next : (k : ℕ) → Alike k → head_digit (is_exact xs k) (unit_at xs k) ≡ head_digit (is_exact ys k) (unit_at ys k) → Alike (suc k)
   unfolding is_exact
   alike-next k alike digits = elim (cases_Bool (is_exact xs k)) [
     | inr inexact ↦ (let also : is_exact ys k ≡ false = sym alike.exact ∙ inexact in
@@ -129,15 +129,15 @@ module _ (xs ys : List ℕ) where
         ])
   ]
 
-  alike-heads : (k : ℕ) → packed xs k ≡ packed ys k → Alike k
-  unfolding packed
+  alike-heads : (k : ℕ) → units_packed xs k ≡ units_packed ys k → Alike k
+  unfolding units_packed
   alike-heads zero same = alike-first
   alike-heads (suc k) same =
-      let one : digit (is_exact xs k) (unit_at xs k) ≤ 255 = digit-most (is_exact xs k) (unit_at xs k) in
-      let two : digit (is_exact ys k) (unit_at ys k) ≤ 255 = digit-most (is_exact ys k) (unit_at ys k) in
+      let one : head_digit (is_exact xs k) (unit_at xs k) ≤ 255 = digit-most (is_exact xs k) (unit_at xs k) in
+      let two : head_digit (is_exact ys k) (unit_at ys k) ≤ 255 = digit-most (is_exact ys k) (unit_at ys k) in
       alike-next k (alike-heads k (omega (arith, same, one, two))) (omega (arith, same, one, two))
 
-  less-digit : (k : ℕ) → Alike k → digit (is_exact xs k) (unit_at xs k) < digit (is_exact ys k) (unit_at ys k) → cmp_keys xs ys ≡ Less
+  less-digit : (k : ℕ) → Alike k → head_digit (is_exact xs k) (unit_at xs k) < head_digit (is_exact ys k) (unit_at ys k) → cmp_keys xs ys ≡ Less
   less-digit k alike less = elim (cases_Bool (is_exact xs k)) [
     | inr inexact ↦ (let also : is_exact ys k ≡ false = sym alike.exact ∙ inexact in
         let none : 0 < 0 = rw (inexact, also) at less in absurd (omega arith))
@@ -148,14 +148,14 @@ module _ (xs ys : List ℕ) where
   ]
 
   -- the units of the lesser head are less
-  less-heads : (k : ℕ) → packed xs k < packed ys k → cmp_keys xs ys ≡ Less
-  unfolding packed
+  less-heads : (k : ℕ) → units_packed xs k < units_packed ys k → cmp_keys xs ys ≡ Less
+  unfolding units_packed
   less-heads zero less = absurd (omega arith)
-  less-heads (suc k) less = elim (cases_lt (packed xs k) (packed ys k)) [
+  less-heads (suc k) less = elim (cases_lt (units_packed xs k) (units_packed ys k)) [
     | inl before ↦ less-heads k before
     | inr later ↦ (
-        let one : digit (is_exact xs k) (unit_at xs k) ≤ 255 = digit-most (is_exact xs k) (unit_at xs k) in
-        let two : digit (is_exact ys k) (unit_at ys k) ≤ 255 = digit-most (is_exact ys k) (unit_at ys k) in
+        let one : head_digit (is_exact xs k) (unit_at xs k) ≤ 255 = digit-most (is_exact xs k) (unit_at xs k) in
+        let two : head_digit (is_exact ys k) (unit_at ys k) ≤ 255 = digit-most (is_exact ys k) (unit_at ys k) in
         less-digit k (alike-heads k (omega (arith, less, later, one, two))) (omega (arith, less, later, one, two)))
   ]
 
@@ -206,4 +206,4 @@ module _ (table : List (ℕ × ℕ)) (items : Links) (ordered : AreInKeyOrder (n
         )
 
 pub heads-many : (table : List (ℕ × ℕ)) (rows : Links) (numbers heads : List ℕ) → heads ≡ map (link_head table) (links_at rows numbers) → length heads ≡ length numbers
-heads-many table rows numbers heads are = ap length are ∙ length-map (links_at rows numbers) (link_head table) ∙ length-map numbers (link_at rows)
+heads-many table rows numbers heads are = ap length are ∙ length-map (links_at rows numbers) (link_head table) ∙ length-map numbers (link_numbered rows)

@@ -20,7 +20,7 @@ use Rattle.fsa_model.proofs.RowLaws.{find-same, row_of-here}
 use Rattle.link_index.specs.Keyed.{AreInKeyOrder, IsKeyPlace, cmp_keys, is_key_before}
 use Rattle.link_index.proofs.KeyLaws.{found-here, found-none, greater-back, place-searched, put-ordered, with-here, without-here, without-none}
 use Rattle.link_index.specs.Beginnings.{name_key}
-use Rattle.link_index.specs.Directory.{AreInNameOrder, IsBegin, IsNamePut, IsNameTaken, Listing, link_at, links_at}
+use Rattle.link_index.specs.Directory.{AreInNameOrder, IsBegin, IsNamePut, IsNameTaken, DirectoryView, link_numbered, links_at}
 use Rattle.link_index.specs.Heads.{link_head}
 
 abbrev pub Links : Type 0
@@ -52,48 +52,48 @@ numbers-at rows (id ∷ numbers) = ap (λ (rest : List ℕ). id ∷ rest) (numbe
 -- those that are kept of the links of numbers are the links of their numbers
 pub at-kept : (rows : Links) (keep : ℕ × Link → Bool) (numbers : List ℕ) → links_at rows (map (λ (e : ℕ × Link). e.0) (filter keep (links_at rows numbers))) ≡ filter keep (links_at rows numbers)
 at-kept rows keep [] = refl
-at-kept rows keep (id ∷ numbers) = elim (cases_Bool (keep (link_at rows id))) [
-  | inl stays ↦ rw stays (ap (λ (rest : Links). link_at rows id ∷ rest) (at-kept rows keep numbers))
+at-kept rows keep (id ∷ numbers) = elim (cases_Bool (keep (link_numbered rows id))) [
+  | inl stays ↦ rw stays (ap (λ (rest : Links). link_numbered rows id ∷ rest) (at-kept rows keep numbers))
   | inr goes ↦ rw goes (at-kept rows keep numbers)
 ]
 
 -- ---- the search among numbers is one among their links
 
 module _ (table : List (ℕ × ℕ)) (rows : Links) (numbers : List ℕ) (wanted : List ℕ) where
-  at_place : (P : Ordering → Type 0) (k : ℕ) (e : ℕ × Link) → k < length numbers → P (cmp_keys (name_key table (link_at rows (get_or numbers k 0))) wanted) → P (cmp_keys (name_key table (get_or (links_at rows numbers) k e)) wanted)
-  at_place P k e within here = subst (λ x. P (cmp_keys (name_key table x) wanted)) (sym (get_or-map (link_at rows) numbers k 0 e within)) here
+  at_place : (P : Ordering → Type 0) (k : ℕ) (e : ℕ × Link) → k < length numbers → P (cmp_keys (name_key table (link_numbered rows (get_or numbers k 0))) wanted) → P (cmp_keys (name_key table (get_or (links_at rows numbers) k e)) wanted)
+  at_place P k e within here = subst (λ x. P (cmp_keys (name_key table x) wanted)) (sym (get_or-map (link_numbered rows) numbers k 0 e within)) here
 
   rises_at : (j k d : ℕ) → j ≤ k → k < length numbers → IsNonDecreasingBy (λ e. ordering_index (cmp_keys (name_key table e) wanted)) (links_at rows numbers)
-      → ordering_index (cmp_keys (name_key table (link_at rows (get_or numbers j d))) wanted) ≤ ordering_index (cmp_keys (name_key table (link_at rows (get_or numbers k d))) wanted)
+      → ordering_index (cmp_keys (name_key table (link_numbered rows (get_or numbers j d))) wanted) ≤ ordering_index (cmp_keys (name_key table (link_numbered rows (get_or numbers k d))) wanted)
   rises_at j k d le inside rise =
-      let more = rise j k (link_at rows d) le (rw (length-map numbers (link_at rows)) inside) in
-      let at_j = get_or-map (link_at rows) numbers j d (link_at rows d) (omega arith) in
-      let at_k = get_or-map (link_at rows) numbers k d (link_at rows d) inside in
-      subst (λ x. ordering_index (cmp_keys (name_key table x) wanted) ≤ ordering_index (cmp_keys (name_key table (link_at rows (get_or numbers k d))) wanted)) at_j
-      (subst (λ y. ordering_index (cmp_keys (name_key table (get_or (links_at rows numbers) j (link_at rows d))) wanted) ≤ ordering_index (cmp_keys (name_key table y) wanted)) at_k more)
+      let more = rise j k (link_numbered rows d) le (rw (length-map numbers (link_numbered rows)) inside) in
+      let at_j = get_or-map (link_numbered rows) numbers j d (link_numbered rows d) (omega arith) in
+      let at_k = get_or-map (link_numbered rows) numbers k d (link_numbered rows d) inside in
+      subst (λ x. ordering_index (cmp_keys (name_key table x) wanted) ≤ ordering_index (cmp_keys (name_key table (link_numbered rows (get_or numbers k d))) wanted)) at_j
+      (subst (λ y. ordering_index (cmp_keys (name_key table (get_or (links_at rows numbers) j (link_numbered rows d))) wanted) ≤ ordering_index (cmp_keys (name_key table y) wanted)) at_k more)
 
-  links-searched : (r : Result ℕ ℕ) → IsSearchInRange r (length numbers) → IsBinarySearchResult (λ id. cmp_keys (name_key table (link_at rows id)) wanted) numbers r
+  links-searched : (r : Result ℕ ℕ) → IsSearchInRange r (length numbers) → IsBinarySearchResult (λ id. cmp_keys (name_key table (link_numbered rows id)) wanted) numbers r
       → IsBinarySearchResult (λ e. cmp_keys (name_key table e) wanted) (links_at rows numbers) r
   links-searched (Ok i) within equal = λ e. at_place (λ o. o ≡ Equal) i e within (equal 0)
   links-searched (Err i) within parted = λ rise.
       let parts = parted (λ j k d le inside. rises_at j k d le inside rise) in (
         λ k e from below. at_place (λ o. o ≡ Less) k e (omega arith) (parts.0 k 0 from below),
-        λ k e from inside. (let short : k < length numbers = rw (length-map numbers (link_at rows)) at inside in at_place (λ o. o ≡ Greater) k e short (parts.1 k 0 from short)),
+        λ k e from inside. (let short : k < length numbers = rw (length-map numbers (link_numbered rows)) at inside in at_place (λ o. o ≡ Greater) k e short (parts.1 k 0 from short)),
       )
 
-  pub place-of : AreInKeyOrder (name_key table) (links_at rows numbers) → (r : Result ℕ ℕ) → IsSearchInRange r (length numbers) → IsBinarySearchResult (λ id. cmp_keys (name_key table (link_at rows id)) wanted) numbers r
+  pub place-of : AreInKeyOrder (name_key table) (links_at rows numbers) → (r : Result ℕ ℕ) → IsSearchInRange r (length numbers) → IsBinarySearchResult (λ id. cmp_keys (name_key table (link_numbered rows id)) wanted) numbers r
       → IsKeyPlace (name_key table) (links_at rows numbers) wanted r
   place-of ordered r within searched =
-      place-searched (name_key table) (links_at rows numbers) wanted ordered r (rw (length-map numbers (link_at rows)) within) (links-searched r within searched)
+      place-searched (name_key table) (links_at rows numbers) wanted ordered r (rw (length-map numbers (link_numbered rows)) within) (links-searched r within searched)
 
 -- ---- a name that is found, or not
 
-number-of : (rows : Links) (o : Option ℕ) → o ≡ option_map (λ (e : ℕ × Link). e.0) (option_map (link_at rows) o)
+number-of : (rows : Links) (o : Option ℕ) → o ≡ option_map (λ (e : ℕ × Link). e.0) (option_map (link_numbered rows) o)
 number-of rows None = refl
 number-of rows (Some id) = refl
 
 pub number-at : (rows : Links) (numbers : List ℕ) (i : ℕ) → slice_get numbers i ≡ option_map (λ (e : ℕ × Link). e.0) (slice_get (links_at rows numbers) i)
-number-at rows numbers i = number-of rows (slice_get numbers i) ∙ ap (option_map (λ (e : ℕ × Link). e.0)) (sym (slice_get-map (link_at rows) numbers i))
+number-at rows numbers i = number-of rows (slice_get numbers i) ∙ ap (option_map (λ (e : ℕ × Link). e.0)) (sym (slice_get-map (link_numbered rows) numbers i))
 
 module _ (table : List (ℕ × ℕ)) (rows : Links) (numbers name : List ℕ) where
   named-found : find (λ e. is_eq (cmp_keys (name_key table e) (upcased table name))) (links_at rows numbers) ≡ find (λ e. same_name table e.1.name name) (links_at rows numbers)
@@ -180,19 +180,19 @@ module _ (table : List (ℕ × ℕ)) (items : Links) (name : List ℕ) (i : ℕ)
 
 -- the links of numbers with one more are the links of these numbers with one more
 at-put : (rows : Links) (id : ℕ) (before : ℕ × Link → ℕ × Link → Bool) (numbers : List ℕ)
-    → links_at rows (map (λ (e : ℕ × Link). e.0) (put_in_order before (link_at rows id) (links_at rows numbers))) ≡ put_in_order before (link_at rows id) (links_at rows numbers)
+    → links_at rows (map (λ (e : ℕ × Link). e.0) (put_in_order before (link_numbered rows id) (links_at rows numbers))) ≡ put_in_order before (link_numbered rows id) (links_at rows numbers)
 at-put rows id before [] = refl
-at-put rows id before (n ∷ numbers) = elim (cases_Bool (before (link_at rows id) (link_at rows n))) [
-  | inl less ↦ rw less (ap (λ (rest : List ℕ). link_at rows id ∷ link_at rows n ∷ links_at rows rest) (numbers-at rows numbers))
-  | inr more ↦ rw more (ap (λ (rest : Links). link_at rows n ∷ rest) (at-put rows id before numbers))
+at-put rows id before (n ∷ numbers) = elim (cases_Bool (before (link_numbered rows id) (link_numbered rows n))) [
+  | inl less ↦ rw less (ap (λ (rest : List ℕ). link_numbered rows id ∷ link_numbered rows n ∷ links_at rows rest) (numbers-at rows numbers))
+  | inr more ↦ rw more (ap (λ (rest : Links). link_numbered rows n ∷ rest) (at-put rows id before numbers))
 ]
 
-module _ (table : List (ℕ × ℕ)) (rows : Links) (name : List ℕ) (old new : Listing) (order : AreInNameOrder table rows old) where
+module _ (table : List (ℕ × ℕ)) (rows : Links) (name : List ℕ) (old new : DirectoryView) (order : AreInNameOrder table rows old) where
   -- .. once one is put in, in a table that has it under its name
   pub put-stays : (newer : Links) (id : ℕ) → All (λ e. same_name table e.1.name name ≡ false) (links_at rows old.numbers) → IsNamePut table rows id name old new → links_at newer old.numbers ≡ links_at rows old.numbers
-      → (link_at newer id).1.name ≡ name → AreInNameOrder table newer new
+      → (link_numbered newer id).1.name ≡ name → AreInNameOrder table newer new
   put-stays newer id apart put same named =
-      let x : ℕ × Link = link_at newer id in
+      let x : ℕ × Link = link_numbered newer id in
       let before : ℕ × Link → ℕ × Link → Bool = is_key_before (name_key table) in
       let is : put_in_order before (id, record { parent = x.1.parent; name = name; file = x.1.file; deleted = x.1.deleted }) (links_at rows old.numbers) ≡ put_in_order before x (links_at newer old.numbers)
       = ap (λ (n : List ℕ). put_in_order before (id, record { parent = x.1.parent; name = n; file = x.1.file; deleted = x.1.deleted }) (links_at rows old.numbers)) (sym named) ∙ ap (put_in_order before x) (sym same) in

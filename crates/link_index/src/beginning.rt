@@ -5,7 +5,7 @@ ghost use Rattle.std.specs.List.Sorted.{IsPartitionPoint};
 ghost use Rattle.std.specs.Ordering.{is_ge, is_gt};
 ghost use Rattle.link_index.specs.Keyed.{AreInKeyOrder};
 ghost use Rattle.link_index.specs.Beginnings.{begins_with, cmp_beginning, name_key};
-ghost use Rattle.link_index.specs.Directory.{link_at, links_at};
+ghost use Rattle.link_index.specs.Directory.{link_numbered, links_at};
 
 use fsa_types::UpcaseTable;
 use object_tables::Table;
@@ -32,7 +32,7 @@ pub(crate) fn beginning_with<'a>(
 fn begin_of(numbers: &[u64], links: &Table<LinkRow>, table: &UpcaseTable, units: &[u16]) -> usize
     requires { AreInKeyOrder (name_key table.now) (links_at links.now.rows numbers.now) }
     ensures bound { result ≤ length numbers.now }
-    ensures point { IsPartitionPoint (λ id. is_gt (cmp_beginning table.now units.now (link_at links.now.rows id).1.name) ≡ true) (λ id. is_gt (cmp_beginning table.now units.now (link_at links.now.rows id).1.name) ≡ false) numbers.now result }
+    ensures point { IsPartitionPoint (λ id. is_gt (cmp_beginning table.now units.now (link_numbered links.now.rows id).1.name) ≡ true) (λ id. is_gt (cmp_beginning table.now units.now (link_numbered links.now.rows id).1.name) ≡ false) numbers.now result }
 {
     numbers.partition_point(|id| cmp_number(links, table, *id, units).is_gt())
 }
@@ -41,14 +41,14 @@ fn begin_of(numbers: &[u64], links: &Table<LinkRow>, table: &UpcaseTable, units:
 fn end_of(numbers: &[u64], links: &Table<LinkRow>, table: &UpcaseTable, units: &[u16]) -> usize
     requires { AreInKeyOrder (name_key table.now) (links_at links.now.rows numbers.now) }
     ensures bound { result ≤ length numbers.now }
-    ensures point { IsPartitionPoint (λ id. is_ge (cmp_beginning table.now units.now (link_at links.now.rows id).1.name) ≡ true) (λ id. is_ge (cmp_beginning table.now units.now (link_at links.now.rows id).1.name) ≡ false) numbers.now result }
+    ensures point { IsPartitionPoint (λ id. is_ge (cmp_beginning table.now units.now (link_numbered links.now.rows id).1.name) ≡ true) (λ id. is_ge (cmp_beginning table.now units.now (link_numbered links.now.rows id).1.name) ≡ false) numbers.now result }
 {
     numbers.partition_point(|id| cmp_number(links, table, *id, units).is_ge())
 }
 
 // How units compare with the beginning of the name of a number's link.
 fn cmp_number(links: &Table<LinkRow>, table: &UpcaseTable, id: u64, units: &[u16]) -> Ordering
-    ensures { result ≡ cmp_beginning table.now units.now (link_at links.now.rows id).1.name }
+    ensures { result ≡ cmp_beginning table.now units.now (link_numbered links.now.rows id).1.name }
 {
     match links.get(id) {
         None => cmp_beginning(table, units, &[]),

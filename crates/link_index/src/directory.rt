@@ -10,7 +10,7 @@ ghost use Rattle.link_index.specs.Keyed.{AreInKeyOrder, IsKeyPlace};
 ghost use Rattle.volume_rows.specs.Children.{is_name_after};
 ghost use Rattle.link_index.specs.Beginnings.{begins_with, name_key};
 ghost use Rattle.link_index.specs.Heads.{head_of, link_head};
-ghost use Rattle.link_index.specs.Directory.{AreInNameOrder, IsBegin, IsNamePut, IsNameTaken, KeepsNames, link_at, links_at};
+ghost use Rattle.link_index.specs.Directory.{AreInNameOrder, IsBegin, IsNamePut, IsNameTaken, KeepsNames, link_numbered, links_at};
 
 use crate::beginning::beginning_with;
 use crate::head::head_of;
@@ -33,9 +33,9 @@ pub struct Directory {
 
 impl Model for Directory {
     ghost use Rattle.std.specs.Prelude.{min};
-    ghost use Rattle.link_index.specs.Directory.{Listing};
+    ghost use Rattle.link_index.specs.Directory.{DirectoryView};
 
-    ghost Value = { Listing };
+    ghost Value = { DirectoryView };
 
     ghost view = { λ n. record { numbers = n.numbers.items; heads = n.heads.items; room = min n.numbers.room n.heads.room } };
 }
@@ -128,7 +128,7 @@ impl Directory {
         ensures put { IsNamePut table.now links.now.rows id units.now self.old self.new }
 
         // The links are in order, in a table that has those that were there and this one under its name.
-        ensures still_ordered { (rows : List (ℕ × Link)) → links_at rows self.old.numbers ≡ links_at links.now.rows self.old.numbers → (link_at rows id).1.name ≡ units.now → AreInNameOrder table.now rows self.new }
+        ensures still_ordered { (rows : List (ℕ × Link)) → links_at rows self.old.numbers ≡ links_at links.now.rows self.old.numbers → (link_numbered rows id).1.name ≡ units.now → AreInNameOrder table.now rows self.new }
     {
         let place = place_for(
             self.heads.as_slice(),
@@ -236,7 +236,7 @@ fn place_for(
 
 // The order of the name of a number's link and another one.
 fn cmp_number(links: &Table<LinkRow>, table: &UpcaseTable, id: u64, units: &[u16]) -> Ordering
-    ensures { result ≡ cmp_name table.now (link_at links.now.rows id).1.name units.now }
+    ensures { result ≡ cmp_name table.now (link_numbered links.now.rows id).1.name units.now }
 {
     match links.get(id) {
         None => table.cmp_name(&[], units),

@@ -2,7 +2,7 @@
 
 ghost use Rattle.std.specs.Prelude.{◌≡◌, ◌&&◌, nat_lt, slice_get};
 ghost use Rattle.fsa_types.specs.CaseTable.{upcased};
-ghost use Rattle.link_index.specs.Heads.{digit, head_of, unit_at};
+ghost use Rattle.link_index.specs.Heads.{head_digit, head_of, unit_at};
 
 use fsa_types::UpcaseTable;
 
@@ -18,7 +18,7 @@ pub(crate) fn head_of(table: &UpcaseTable, units: &[u16]) -> u128
     let mut exact = true;
     for place in 0..UNITS {
         let unit = unit_at(table, units, place);
-        head = head * 256 + digit(exact, unit) as u128;
+        head = head * 256 + head_digit(exact, unit) as u128;
         exact = stays_exact(exact, unit);
     }
     head
@@ -52,8 +52,8 @@ fn stays_exact(exact: bool, unit: u16) -> bool
 }
 
 // A unit in 8 bits, where all before it are told in full.
-fn digit(exact: bool, unit: u16) -> u16
-    ensures { result ≡ digit exact unit }
+fn head_digit(exact: bool, unit: u16) -> u16
+    ensures { result ≡ head_digit exact unit }
 {
     if exact { unit.min(255) } else { 0 }
 }

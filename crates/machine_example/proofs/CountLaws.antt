@@ -6,7 +6,7 @@ use Rattle.fsa_types.specs.declared.request.Call.{Call}
 use Rattle.fsa_model.specs.History.{HistoryEntry}
 use Rattle.fsa_model.specs.Schedule.{calls_of}
 use Rattle.fsa_model.proofs.ScheduleLaws.{calls_of-push}
-use Rattle.fsa_machine.specs.MachineView.{calls_in}
+use Rattle.fsa_machine.specs.MachineView.{calls_of_entries}
 use Rattle.fsa_model.proofs.SettleLaws.{some_equal}
 
 -- the call at this place, and those behind it
@@ -27,9 +27,9 @@ counts-on client calls i count counted call at is counts =
 
 -- a turn more of the client is a call more
 pub one_more : (client made : ℕ) (entries later : List HistoryEntry) (entry : HistoryEntry) → later ≡ entries ++ entry ∷ [] → entry.call.client ≡ client
-    → calls_of client (calls_in entries) ≡ made → calls_of client (calls_in later) ≡ made + 1
+    → calls_of client (calls_of_entries entries) ≡ made → calls_of client (calls_of_entries later) ≡ made + 1
 one_more client made entries later entry is own before =
-    ap (λ (all : List HistoryEntry). calls_of client (calls_in all)) is
+    ap (λ (all : List HistoryEntry). calls_of client (calls_of_entries all)) is
     ∙ ap (calls_of client) (map-append (λ (e : HistoryEntry). e.call) entries (entry ∷ []))
-    ∙ calls_of-push client (calls_in entries) entry.call
+    ∙ calls_of-push client (calls_of_entries entries) entry.call
     ∙ (let same : (entry.call.client == client) ≡ true = eq-eqb entry.call.client client own in rw same (omega (arith, before)))

@@ -9,7 +9,7 @@ use Rattle.fsa_types.specs.declared.request.What.{What}
 use Rattle.fsa_model.specs.History.{HistoryEntry}
 use Rattle.fsa_model.specs.LineCalls.{ticks_fit}
 use Rattle.fsa_model.specs.Schedule.{calls_of}
-use Rattle.fsa_machine.specs.MachineView.{calls_in}
+use Rattle.fsa_machine.specs.MachineView.{calls_of_entries}
 
 -- within the bounds of requests
 pub record CanBeMade (what : What) : Type 0 where
@@ -18,7 +18,7 @@ pub record CanBeMade (what : What) : Type 0 where
 
 -- the client's next call after these turns
 abbrev pub next_call : List HistoryEntry → ℕ → What → Call
-next_call entries client what = record { client = client; number = calls_of client (calls_in entries) + 1; what = what }
+next_call entries client what = record { client = client; number = calls_of client (calls_of_entries entries) + 1; what = what }
 
 -- the turn was refused since the history is full
 abbrev pub is_full : Result Out Why → Bool

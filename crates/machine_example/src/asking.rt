@@ -3,7 +3,7 @@
 ghost use Rattle.std.specs.Prelude.{◌≡◌, ◌<◌, ◌≤◌, ◌+◌, ◌-◌, ◌^◌, ◌==◌, ◌++◌, ◌∷◌, [], cond, IfOk, OnErr, length, nat_le};
 ghost use Rattle.fsa_model.specs.Outcome.{out_of};
 ghost use Rattle.fsa_model.specs.Schedule.{calls_of};
-ghost use Rattle.fsa_machine.specs.MachineView.{GaveOut, calls_in};
+ghost use Rattle.fsa_machine.specs.MachineView.{GaveOut, calls_of_entries};
 ghost use Rattle.fsa_machine.specs.Serves.{most_entries};
 ghost use Rattle.machine_example.specs.Asks.{CanBeMade, is_full, next_call};
 
@@ -27,7 +27,7 @@ fn with_call(count: u32, call: &Call, client: u32) -> u32
 /// The number of the client's next call: one more than it has made. It goes over the history.
 pub fn next_number(machine: &VolumeMachine, client: u32) -> u32
     requires few { length machine.now.entries < 2 ^ 32 - 1 }
-    ensures { result ≡ calls_of client (calls_in machine.now.entries) + 1 }
+    ensures { result ≡ calls_of client (calls_of_entries machine.now.entries) + 1 }
 {
     let mut count = 0;
     for i in 0..machine.len() {

@@ -2,7 +2,7 @@
 
 ghost use Rattle.std.specs.Prelude.{◌≡◌, ◌<◌, ◌+◌, ◌-◌, ◌^◌, [], OnOk, length};
 ghost use Rattle.fsa_model.specs.Schedule.{calls_of};
-ghost use Rattle.fsa_machine.specs.MachineView.{calls_in};
+ghost use Rattle.fsa_machine.specs.MachineView.{calls_of_entries};
 
 use fsa_machine::VolumeMachine;
 use fsa_types::{Call, What, Why};
@@ -12,11 +12,11 @@ use std::alloc::Global;
 #[tactic(auto, using(crate::proofs::CountLaws::one_more))]
 fn tick_once(alloc: Global, machine: &mut VolumeMachine, client: u32, made: u32) -> Result<(), Why>
     requires client { client < length machine.old.setup.clients }
-    requires made { calls_of client (calls_in machine.old.entries) ≡ made }
+    requires made { calls_of client (calls_of_entries machine.old.entries) ≡ made }
     requires few { made < 2 ^ 32 - 1 }
     ensures setup { machine.new.setup ≡ machine.old.setup }
     ensures turns { OnOk result (length machine.new.entries ≡ length machine.old.entries + 1) }
-    ensures calls { OnOk result (calls_of client (calls_in machine.new.entries) ≡ made + 1) }
+    ensures calls { OnOk result (calls_of client (calls_of_entries machine.new.entries) ≡ made + 1) }
 {
     let call = Call {
         client,
@@ -42,7 +42,7 @@ pub fn tick_times(
     requires none { machine.old.entries ≡ [] }
     ensures setup { machine.new.setup ≡ machine.old.setup }
     ensures turns { OnOk result (length machine.new.entries ≡ times) }
-    ensures calls { OnOk result (calls_of client (calls_in machine.new.entries) ≡ times) }
+    ensures calls { OnOk result (calls_of client (calls_of_entries machine.new.entries) ≡ times) }
 {
     for made in 0..times {
         tick_once(alloc, machine, client, made)?;

@@ -7,7 +7,7 @@ use Rattle.std.proofs.lemmas.Bool.{cases_lt, and_parts, and_from, eqb-true, cond
 use Rattle.std.proofs.lemmas.List.{length-map}
 use Rattle.fsa_types.specs.CaseTable.{up, upcased, same_name}
 use Rattle.fsa_types.specs.Match.{Sign, Star, QuestionMark, DosStar, DosQm, DosDot, Literal, sign_of, is_dot, is_last_dot, star_matches, first_matches, matches}
-use Rattle.name_match.specs.Plan.{is_literal, is_literal_sign, ends_in}
+use Rattle.name_match.specs.Plan.{is_literal, is_literal_sign, has_ending}
 use Rattle.name_match.specs.Serves.{plan_before_literals, plan_of}
 use Rattle.name_match.specs.declared.plan.Plan.{Plan}
 use Rattle.name_match.specs.declared.plan.Plan.TheVariants.{Every, Literal as ByLiteral, Suffix, Ends}
@@ -100,7 +100,7 @@ module _ (table : List (ℕ × ℕ)) (literal : List ℕ) (rest : List ℕ → B
             rw (more, here) (star_matches-long others long))
       ]
 
-  star_matches-literal : (name : List ℕ) → star_matches rest name ≡ ends_in table literal name
+  star_matches-literal : (name : List ℕ) → star_matches rest name ≡ has_ending table literal name
   star_matches-literal name =
       elim (cases_lt (length name) (length literal)) [
         | inl short ↦ rw (lt-leb (length literal) (length name) short) (star_matches-short name short)
@@ -112,7 +112,7 @@ abbrev pub IsStarAndLiterals : List ℕ → Type 0
 IsStarAndLiterals [] = ⊥
 IsStarAndLiterals (unit ∷ units) = (unit ≡ 42) × (list_all is_literal units ≡ true)
 
-pub matches-suffix : (table : List (ℕ × ℕ)) (units name : List ℕ) → IsStarAndLiterals units → matches table units name ≡ ends_in table (drop 1 units) name
+pub matches-suffix : (table : List (ℕ × ℕ)) (units name : List ℕ) → IsStarAndLiterals units → matches table units name ≡ has_ending table (drop 1 units) name
 matches-suffix table [] name star = absurd star
 matches-suffix table (unit ∷ units) name star =
     rw star.0 (star_matches-literal table units (matches table units) (λ rest. matches-literal table units rest star.1) name)

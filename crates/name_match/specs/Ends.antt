@@ -16,7 +16,7 @@ pub record IsDead (table : List (ℕ × ℕ)) (expression name : List ℕ) : Typ
   pub cells : (k : ℕ) → k ≤ length expression → matches table (drop k expression) name ≡ false
 
 -- the row begins with these units, upcased
-pub record AreUpcased (table : List (ℕ × ℕ)) (units row : List ℕ) : Type 0 where
+pub record BeginsUpcased (table : List (ℕ × ℕ)) (units row : List ℕ) : Type 0 where
   pub cells : (k : ℕ) → k < length units → slice_index row k ≡ up table (slice_index units k)
 
 -- an expression by its first unit, against the empty name

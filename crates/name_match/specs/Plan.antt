@@ -12,6 +12,6 @@ abbrev pub is_literal : ℕ → Bool
 is_literal unit = is_literal_sign (sign_of unit)
 
 -- a name ends in these units
-abbrev pub ends_in : List (ℕ × ℕ) → List ℕ → List ℕ → Bool
-ends_in table literal name =
+abbrev pub has_ending : List (ℕ × ℕ) → List ℕ → List ℕ → Bool
+has_ending table literal name =
     nat_le (length literal) (length name) && same_name table literal (drop (length name - length literal) name)

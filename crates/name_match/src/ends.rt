@@ -7,7 +7,7 @@ ghost use Rattle.std.specs.Prelude.{◌≡◌, ◌==◌, ◌≤◌, ◌<◌, [],
 ghost use Rattle.std.specs.List.{list_any};
 ghost use Rattle.fsa_types.specs.CaseTable.{up};
 ghost use Rattle.fsa_types.specs.Match.{matches, sign_of, is_dot, is_last_dot};
-ghost use Rattle.name_match.specs.Ends.{AreEnds, AreUpcased, IsDead, cell, cell_of_empty};
+ghost use Rattle.name_match.specs.Ends.{AreEnds, BeginsUpcased, IsDead, cell, cell_of_empty};
 
 use crate::signs::{DOS_DOT, DOS_QM, DOS_STAR, DOT, QUESTION_MARK, STAR};
 use fsa_types::UpcaseTable;
@@ -62,7 +62,7 @@ pub(crate) fn matches_by_ends(table: &UpcaseTable, expression: &[u16], name: &[u
 // Puts the units, upcased, at the front of a row.
 fn upcase(upcased: &mut [u16; 255], table: &UpcaseTable, units: &[u16])
     requires { length units.now ≤ 255 }
-    ensures { AreUpcased table.now units.now upcased.new }
+    ensures { BeginsUpcased table.now units.now upcased.new }
 {
     for (place, unit) in units.iter().enumerate() {
         upcased[place] = table.up(*unit);
@@ -91,7 +91,7 @@ fn read_unit(
     dot_follows: bool,
 ) -> bool
     requires short { length expression.now ≤ 255 }
-    requires upcased { AreUpcased table.now expression.now upcased.now }
+    requires upcased { BeginsUpcased table.now expression.now upcased.now }
     requires unit { 0 < length name.now }
     requires dot { dot_follows ≡ list_any is_dot (drop 1 name.now) }
     requires row { AreEnds table.now expression.now (drop 1 name.now) row.old }

@@ -7,7 +7,7 @@ ghost use Rattle.fsa_types.specs.Match.{is_bad_expression_unit, is_refused, matc
 ghost use Rattle.name_match.specs.Plan.{is_literal};
 
 use crate::ends::matches_by_ends;
-use crate::plan::{Plan, ends_in, literal_count};
+use crate::plan::{Plan, has_ending, literal_count};
 use crate::signs::is_bad;
 use fsa_types::{NoMemory, TryCopy, UpcaseTable};
 use std::alloc::{AllocError, Global};
@@ -75,7 +75,7 @@ impl Expression {
         match self.plan {
             Plan::Every => true,
             Plan::Literal => table.same_name(&self.units, units),
-            Plan::Suffix => ends_in(table, &self.units[1..], units),
+            Plan::Suffix => has_ending(table, &self.units[1..], units),
             Plan::Ends => matches_by_ends(table, &self.units, units),
         }
     }

@@ -2,7 +2,7 @@
 
 ghost use Rattle.std.specs.Prelude.{◌≡◌, ◌≤◌, length};
 ghost use Rattle.std.specs.List.{list_all, prefix_len};
-ghost use Rattle.name_match.specs.Plan.{is_literal, ends_in};
+ghost use Rattle.name_match.specs.Plan.{is_literal, has_ending};
 
 use crate::signs::{STAR, is_literal};
 use fsa_types::UpcaseTable;
@@ -69,8 +69,8 @@ pub(crate) fn literal_count(units: &[u16]) -> usize
 }
 
 // Whether a name ends in these units.
-pub(crate) fn ends_in(table: &UpcaseTable, literal: &[u16], name: &[u16]) -> bool
-    ensures { result ≡ ends_in table.now literal.now name.now }
+pub(crate) fn has_ending(table: &UpcaseTable, literal: &[u16], name: &[u16]) -> bool
+    ensures { result ≡ has_ending table.now literal.now name.now }
 {
     match name.len().checked_sub(literal.len()) {
         Some(start) => table.same_name(literal, &name[start..]),

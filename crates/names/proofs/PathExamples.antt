@@ -2,7 +2,7 @@
 use Rattle.std.proofs.Common.{◌≡◌, [], ◌∷◌, ◌++◌, Some, None, refl, replicate, map}
 use Rattle.std.specs.Prelude.{ℕ, List, codes, filter}
 use Rattle.std.specs.List.{concat, enumerate_from}
-use Rattle.fsa_types.specs.Paths.{Empty, TooLong, BadUnit, BadStream, is_bad_unit, component_fault, path_fault, components, rest_of, stream_of}
+use Rattle.fsa_types.specs.Paths.{Empty, TooLong, BadUnit, BadStream, is_bad_unit, component_fault, path_fault, components, rest_of, stream_part}
 
 -- the root, and what is no path
 root : path_fault (codes "\\") ≡ None
@@ -121,7 +121,7 @@ one_colon = refl
 two_colons : path_fault (codes "\\a::") ≡ Some BadStream
 two_colons = refl
 
-default_stream : stream_of (codes "\\a::$DATA") ≡ Some []
+default_stream : stream_part (codes "\\a::$DATA") ≡ Some []
 default_stream = refl
 
 default_stream-sound : path_fault (codes "\\a::$DATA") ≡ None
@@ -136,7 +136,7 @@ other_type = refl
 other_type-of_default : path_fault (codes "\\a::x") ≡ Some BadStream
 other_type-of_default = refl
 
-type_alone : stream_of (codes "\\a:$DATA") ≡ Some (codes "$DATA")
+type_alone : stream_part (codes "\\a:$DATA") ≡ Some (codes "$DATA")
 type_alone = refl
 
 four_parts : path_fault (codes "\\a:b:$DATA:") ≡ Some BadStream
@@ -161,10 +161,10 @@ too_long_stream = refl
 two_components : components (codes "\\a\\b:s:$DATA") ≡ codes "a" ∷ codes "b" ∷ []
 two_components = refl
 
-its_stream : stream_of (codes "\\a\\b:s:$DATA") ≡ Some (codes "s")
+its_stream : stream_part (codes "\\a\\b:s:$DATA") ≡ Some (codes "s")
 its_stream = refl
 
-no_stream : stream_of (codes "\\a\\b") ≡ None
+no_stream : stream_part (codes "\\a\\b") ≡ None
 no_stream = refl
 
 rest_from_first : rest_of (codes "\\a\\b\\c:s") 0 ≡ codes "a\\b\\c:s"

@@ -4,7 +4,7 @@ ghost use Rattle.std.specs.Prelude.{◌≡◌, ◌+◌, ◌<◌, ◌≤◌, ◌^
 ghost use Rattle.std.specs.Iterator.{YieldsFirstBy, item_count};
 ghost use Rattle.std.specs.List.{slice_split};
 ghost use Rattle.std.specs.Option.{option_map};
-ghost use Rattle.fsa_types.specs.Paths.{is_separator, pieces, pieces_fault, last_fault, path_fault, components, rest_of, stream_of};
+ghost use Rattle.fsa_types.specs.Paths.{is_separator, path_pieces, pieces_fault, last_fault, path_fault, components, rest_of, stream_part};
 ghost use Rattle.names.specs.NameFault.{FindsFault};
 
 use crate::component::check_component;
@@ -87,7 +87,7 @@ impl<'a> PathParts<'a> {
     /// The name of the stream: `None` where the path has no stream part, and empty for the default
     /// stream. It takes time linear in the path's units.
     pub fn stream(&self) -> Option<&'a [u16]>
-        ensures { option_map (λ stream. stream.now) result ≡ stream_of self.now }
+        ensures { option_map (λ stream. stream.now) result ≡ stream_part self.now }
     {
         match split_once(self.units, COLON) {
             Some((_, part)) => Some(before(part, COLON)),
@@ -98,7 +98,7 @@ impl<'a> PathParts<'a> {
     // The pieces from this one on.
     fn tail(&self, i: usize) -> &'a [u16]
         requires { i < length (components self.now) }
-        ensures { slice_split is_separator result.now ≡ drop i (pieces self.now) }
+        ensures { slice_split is_separator result.now ≡ drop i (path_pieces self.now) }
     {
         tail_of(&self.units[1..], i)
     }

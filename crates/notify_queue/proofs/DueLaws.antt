@@ -14,9 +14,9 @@ use Rattle.fsa_model.specs.Watching.{is_seen_from, packed_changes}
 use Rattle.fsa_model.proofs.RowLaws.{any-map}
 use Rattle.pack_info.proofs.NumberLaws.{length-name_of}
 use Rattle.pack_info.proofs.PackLaws.{size-one, size-more}
-use Rattle.notify_queue.specs.Due.{asks_for, told, due_of, due_among, is_seen_among, written_for, rounded, rows_of, size_due, size_of, size_from}
-use Rattle.notify_queue.specs.Log.{relative, change_of, changes_of, units_in}
-use Rattle.notify_queue.specs.declared.part.Entry.{Entry}
+use Rattle.notify_queue.specs.Due.{asks_for, told_from_change, due_of, due_among, is_seen_among, written_for, rounded_to_4, rows_of, size_due, change_size, size_from}
+use Rattle.notify_queue.specs.Log.{relative, change_of, changes_of, units_of_paths}
+use Rattle.notify_queue.specs.declared.part.LogEntry.{LogEntry}
 use Rattle.notify_queue.specs.declared.watch.Watch.{Watch}
 
 -- ---- ancestors
@@ -35,42 +35,42 @@ name-written path dir (ancestor ∷ seen) = elim (cases_Bool (ancestor.0 == dir)
   | inr isnt ↦ rw isnt (name-written path dir seen)
 ]
 
-pub asks-parts : (watch : Watch) (units : List ℕ) (dirs : List (ℕ × ℕ)) (entry : Entry)
+pub asks-parts : (watch : Watch) (units : List ℕ) (dirs : List (ℕ × ℕ)) (entry : LogEntry)
     → asks_for watch units dirs entry ≡ (is_seen_among watch.dir watch.tree (take entry.dirs (drop entry.first_dir dirs)) && has_any entry.bits watch.filter)
 asks-parts watch units dirs entry =
     ap (λ (seen : Bool). seen && has_any entry.bits watch.filter)
     (seen-among (take entry.units (drop entry.first_unit units)) watch.dir watch.tree (take entry.dirs (drop entry.first_dir dirs)))
 
 -- a watch whose filter has no bit of the change doesn't ask for it; else what counts is where it was made
-pub asks-never : (watch : Watch) (units : List ℕ) (dirs : List (ℕ × ℕ)) (entry : Entry) → has_any entry.bits watch.filter ≡ false → false ≡ asks_for watch units dirs entry
+pub asks-never : (watch : Watch) (units : List ℕ) (dirs : List (ℕ × ℕ)) (entry : LogEntry) → has_any entry.bits watch.filter ≡ false → false ≡ asks_for watch units dirs entry
 asks-never watch units dirs entry no_bit =
     rw (asks-parts watch units dirs entry, no_bit) (elim (cases_Bool (is_seen_among watch.dir watch.tree (take entry.dirs (drop entry.first_dir dirs)))) [ inl seen ↦ rw seen refl | inr other ↦ rw other refl ])
 
-pub asks-seen : (watch : Watch) (units : List ℕ) (dirs : List (ℕ × ℕ)) (entry : Entry) → has_any entry.bits watch.filter ≡ true
+pub asks-seen : (watch : Watch) (units : List ℕ) (dirs : List (ℕ × ℕ)) (entry : LogEntry) → has_any entry.bits watch.filter ≡ true
     → is_seen_among watch.dir watch.tree (take entry.dirs (drop entry.first_dir dirs)) ≡ asks_for watch units dirs entry
 asks-seen watch units dirs entry some_bit =
     rw (asks-parts watch units dirs entry, some_bit) (elim (cases_Bool (is_seen_among watch.dir watch.tree (take entry.dirs (drop entry.first_dir dirs)))) [ inl seen ↦ rw seen refl | inr other ↦ rw other refl ])
 
 -- the path of an entry relative to the directory, from its last unit to its first
-abbrev pub path_of : Watch → List ℕ → List (ℕ × ℕ) → Entry → List ℕ
+abbrev pub path_of : Watch → List ℕ → List (ℕ × ℕ) → LogEntry → List ℕ
 path_of watch units dirs entry = take (written_for watch.dir (take entry.dirs (drop entry.first_dir dirs))) (take entry.units (drop entry.first_unit units))
 
-pub path-written : (watch : Watch) (units : List ℕ) (dirs : List (ℕ × ℕ)) (entry : Entry) (path : List ℕ) (written : ℕ) → written ≡ written_for watch.dir (take entry.dirs (drop entry.first_dir dirs))
+pub path-written : (watch : Watch) (units : List ℕ) (dirs : List (ℕ × ℕ)) (entry : LogEntry) (path : List ℕ) (written : ℕ) → written ≡ written_for watch.dir (take entry.dirs (drop entry.first_dir dirs))
     → path ≡ take written (take entry.units (drop entry.first_unit units)) → path ≡ path_of watch units dirs entry
 path-written watch units dirs entry path written reached is = is ∙ ap (λ (n : ℕ). take n (take entry.units (drop entry.first_unit units))) reached
 
-told-name : (watch : Watch) (units : List ℕ) (dirs : List (ℕ × ℕ)) (entry : Entry) (path : List ℕ) → path ≡ path_of watch units dirs entry → (told watch units dirs entry).1 ≡ reverse path
+told-name : (watch : Watch) (units : List ℕ) (dirs : List (ℕ × ℕ)) (entry : LogEntry) (path : List ℕ) → path ≡ path_of watch units dirs entry → (told_from_change watch units dirs entry).1 ≡ reverse path
 told-name watch units dirs entry path is =
     name-written (take entry.units (drop entry.first_unit units)) watch.dir (take entry.dirs (drop entry.first_dir dirs)) ∙ ap (λ (name : List ℕ). reverse name) (sym is)
 
-pub size-told : (size : ℕ) (watch : Watch) (units : List ℕ) (dirs : List (ℕ × ℕ)) (entry : Entry) (path : List ℕ) → asks_for watch units dirs entry ≡ true → path ≡ path_of watch units dirs entry
-    → (size + 3) / 4 * 4 + 12 + 2 * length path ≡ cond (asks_for watch units dirs entry) (rounded size + size_of (told watch units dirs entry)) size
+pub size-told : (size : ℕ) (watch : Watch) (units : List ℕ) (dirs : List (ℕ × ℕ)) (entry : LogEntry) (path : List ℕ) → asks_for watch units dirs entry ≡ true → path ≡ path_of watch units dirs entry
+    → (size + 3) / 4 * 4 + 12 + 2 * length path ≡ cond (asks_for watch units dirs entry) (rounded_to_4 size + change_size (told_from_change watch units dirs entry)) size
 size-told size watch units dirs entry path asked is =
-    let long : length (told watch units dirs entry).1 ≡ length path = ap (λ (name : List ℕ). length name) (told-name watch units dirs entry path is) ∙ length-reverse path in
+    let long : length (told_from_change watch units dirs entry).1 ≡ length path = ap (λ (name : List ℕ). length name) (told-name watch units dirs entry path is) ∙ length-reverse path in
     rw asked (omega (arith, long))
 
-pub row-told : (watch : Watch) (units : List ℕ) (dirs : List (ℕ × ℕ)) (entry : Entry) (path : List ℕ) → asks_for watch units dirs entry ≡ true → path ≡ path_of watch units dirs entry
-    → rows_of (cond (asks_for watch units dirs entry) (told watch units dirs entry ∷ []) []) ≡ change_row entry.action (reverse path) ∷ []
+pub row-told : (watch : Watch) (units : List ℕ) (dirs : List (ℕ × ℕ)) (entry : LogEntry) (path : List ℕ) → asks_for watch units dirs entry ≡ true → path ≡ path_of watch units dirs entry
+    → rows_of (cond (asks_for watch units dirs entry) (told_from_change watch units dirs entry ∷ []) []) ≡ change_row entry.action (reverse path) ∷ []
 row-told watch units dirs entry path asked is = rw asked (ap (λ (name : List ℕ). change_row entry.action name ∷ []) (told-name watch units dirs entry path is))
 
 -- ---- ancestors that are looked for
@@ -86,7 +86,7 @@ among-written dir (ancestor ∷ seen) found is = elim (cases_Bool (ancestor.0 ==
 
 -- ---- whether something is due
 
-pub some-due : (watch : Watch) (units : List ℕ) (dirs : List (ℕ × ℕ)) (entries : List Entry)
+pub some-due : (watch : Watch) (units : List ℕ) (dirs : List (ℕ × ℕ)) (entries : List LogEntry)
     → list_any (asks_for watch units dirs) entries ≡ is_some (size_due (due_among watch units dirs entries))
 some-due watch units dirs [] = refl
 some-due watch units dirs (entry ∷ entries) = elim (cases_Bool (asks_for watch units dirs entry)) [
@@ -94,7 +94,7 @@ some-due watch units dirs (entry ∷ entries) = elim (cases_Bool (asks_for watch
   | inr isnt ↦ rw isnt (some-due watch units dirs entries)
 ]
 
-pub asks-more : (watch : Watch) (units : List ℕ) (dirs : List (ℕ × ℕ)) (entry : Entry) (more : List Entry) → asks_for watch units dirs entry ≡ false
+pub asks-more : (watch : Watch) (units : List ℕ) (dirs : List (ℕ × ℕ)) (entry : LogEntry) (more : List LogEntry) → asks_for watch units dirs entry ≡ false
     → list_any (asks_for watch units dirs) more ≡ list_any (asks_for watch units dirs) (entry ∷ more)
 asks-more watch units dirs entry more isnt = rw isnt refl
 
@@ -104,19 +104,19 @@ asks-more watch units dirs entry more isnt = rw isnt refl
 pub size_from-least : (size : ℕ) (due : List (ℕ × List ℕ)) → size ≤ size_from size due
 size_from-least size [] = omega arith
 size_from-least size (change ∷ changes) =
-    let rest = size_from-least (rounded size + size_of change) changes in
+    let rest = size_from-least (rounded_to_4 size + change_size change) changes in
     omega (arith, rest)
 
 pub fits-not : (room size : ℕ) (due : List (ℕ × List ℕ)) → room < size → nat_le (size_from size due) room ≡ false
 fits-not room size due above = let least = size_from-least size due in lt-leb (size_from size due) room (omega arith)
 
-entry-size : (change : ℕ × List ℕ) → size_of_entry Changes (packed Changes (change_row change.0 change.1)) ≡ size_of change
+entry-size : (change : ℕ × List ℕ) → size_of_entry Changes (packed Changes (change_row change.0 change.1)) ≡ change_size change
 entry-size change = omega (arith, length-name_of Changes change.1)
 
-size_from-more : (size : ℕ) (change : ℕ × List ℕ) (changes : List (ℕ × List ℕ)) → size_from size (change ∷ changes) ≡ rounded size + length (packed_changes (change ∷ changes))
+size_from-more : (size : ℕ) (change : ℕ × List ℕ) (changes : List (ℕ × List ℕ)) → size_from size (change ∷ changes) ≡ rounded_to_4 size + length (packed_changes (change ∷ changes))
 size_from-more size change [] = omega (arith, entry-size change, size-one Changes (packed Changes (change_row change.0 change.1)))
 size_from-more size change (next ∷ changes) =
-    let behind = size_from-more (rounded size + size_of change) next changes in
+    let behind = size_from-more (rounded_to_4 size + change_size change) next changes in
     let both = size-more Changes (packed Changes (change_row change.0 change.1)) (packed Changes (change_row next.0 next.1)) (map (packed Changes) (rows_of changes)) in
     omega (arith, behind, both, entry-size change)
 
@@ -126,7 +126,7 @@ size_from-is (change ∷ changes) = omega (arith, size_from-more 0 change change
 
 positive : (size : ℕ) (change : ℕ × List ℕ) (changes : List (ℕ × List ℕ)) → 0 < size_from size (change ∷ changes)
 positive size change [] = omega arith
-positive size change (next ∷ changes) = positive (rounded size + size_of change) next changes
+positive size change (next ∷ changes) = positive (rounded_to_4 size + change_size change) next changes
 
 pub size_due-is : (due : List (ℕ × List ℕ)) → size_due due ≡ cond (length (packed_changes due) == 0) None (Some (length (packed_changes due)))
 size_due-is [] = refl
@@ -138,15 +138,15 @@ size_due-is (change ∷ changes) =
 
 -- ---- entry by entry
 
-pub size-step : (watch : Watch) (units : List ℕ) (dirs : List (ℕ × ℕ)) (entry : Entry) (more : List Entry) (size : ℕ)
-    → size_from (cond (asks_for watch units dirs entry) (rounded size + size_of (told watch units dirs entry)) size) (due_among watch units dirs more) ≡ size_from size (due_among watch units dirs (entry ∷ more))
+pub size-step : (watch : Watch) (units : List ℕ) (dirs : List (ℕ × ℕ)) (entry : LogEntry) (more : List LogEntry) (size : ℕ)
+    → size_from (cond (asks_for watch units dirs entry) (rounded_to_4 size + change_size (told_from_change watch units dirs entry)) size) (due_among watch units dirs more) ≡ size_from size (due_among watch units dirs (entry ∷ more))
 size-step watch units dirs entry more size = elim (cases_Bool (asks_for watch units dirs entry)) [
   | inl is ↦ rw is refl
   | inr isnt ↦ rw isnt refl
 ]
 
-pub rows-step : (watch : Watch) (units : List ℕ) (dirs : List (ℕ × ℕ)) (entry : Entry) (more : List Entry)
-    → rows_of (cond (asks_for watch units dirs entry) (told watch units dirs entry ∷ []) []) ++ rows_of (due_among watch units dirs more) ≡ rows_of (due_among watch units dirs (entry ∷ more))
+pub rows-step : (watch : Watch) (units : List ℕ) (dirs : List (ℕ × ℕ)) (entry : LogEntry) (more : List LogEntry)
+    → rows_of (cond (asks_for watch units dirs entry) (told_from_change watch units dirs entry ∷ []) []) ++ rows_of (due_among watch units dirs more) ≡ rows_of (due_among watch units dirs (entry ∷ more))
 rows-step watch units dirs entry more = elim (cases_Bool (asks_for watch units dirs entry)) [
   | inl is ↦ rw is refl
   | inr isnt ↦ rw isnt refl
@@ -154,21 +154,21 @@ rows-step watch units dirs entry more = elim (cases_Bool (asks_for watch units d
 
 -- ---- the whole
 
-filter-changes : (watch : Watch) (units : List ℕ) (dirs : List (ℕ × ℕ)) (entries : List Entry) → due_among watch units dirs entries ≡ due_of (changes_of units dirs entries) (record watch { from = 0 })
+filter-changes : (watch : Watch) (units : List ℕ) (dirs : List (ℕ × ℕ)) (entries : List LogEntry) → due_among watch units dirs entries ≡ due_of (changes_of units dirs entries) (record watch { from = 0 })
 filter-changes watch units dirs [] = refl
 filter-changes watch units dirs (entry ∷ entries) = elim (cases_Bool (asks_for watch units dirs entry)) [
-  | inl is ↦ rw is (ap (λ (due : List (ℕ × List ℕ)). told watch units dirs entry ∷ due) (filter-changes watch units dirs entries))
+  | inl is ↦ rw is (ap (λ (due : List (ℕ × List ℕ)). told_from_change watch units dirs entry ∷ due) (filter-changes watch units dirs entries))
   | inr isnt ↦ rw isnt (filter-changes watch units dirs entries)
 ]
 
-due_among-is : (watch : Watch) (units : List ℕ) (dirs : List (ℕ × ℕ)) (entries : List Entry) → due_among watch units dirs (drop watch.from entries) ≡ due_of (changes_of units dirs entries) watch
+due_among-is : (watch : Watch) (units : List ℕ) (dirs : List (ℕ × ℕ)) (entries : List LogEntry) → due_among watch units dirs (drop watch.from entries) ≡ due_of (changes_of units dirs entries) watch
 due_among-is watch units dirs entries = filter-changes watch units dirs (drop watch.from entries) ∙ ap (λ (changes : List Change). due_of changes (record watch { from = 0 })) (sym (drop-map (change_of units dirs) watch.from entries))
 
-pub due-is : (changes : List Change) (watch : Watch) (units : List ℕ) (dirs : List (ℕ × ℕ)) (entries due : List Entry) → changes ≡ changes_of units dirs entries → due ≡ drop watch.from entries
+pub due-is : (changes : List Change) (watch : Watch) (units : List ℕ) (dirs : List (ℕ × ℕ)) (entries due : List LogEntry) → changes ≡ changes_of units dirs entries → due ≡ drop watch.from entries
     → due_among watch units dirs due ≡ due_of changes watch
 due-is changes watch units dirs entries due noted from = rw (noted, from) (due_among-is watch units dirs entries)
 
-pub units_in-drop : (n : ℕ) (entries : List Entry) → units_in (drop n entries) ≤ units_in entries
+pub units_in-drop : (n : ℕ) (entries : List LogEntry) → units_of_paths (drop n entries) ≤ units_of_paths entries
 units_in-drop zero entries = omega arith
 units_in-drop (suc n) [] = omega arith
 units_in-drop (suc n) (entry ∷ entries) = omega (arith, units_in-drop n entries)

@@ -3,8 +3,8 @@ use Rattle.std.proofs.Common.{◌≡◌, ℕ, suc, ◌+◌, ◌-◌, ◌≤◌, 
 use Rattle.std.specs.Prelude.{map, reverse, All}
 use Rattle.std.proofs.lemmas.List.{take-append-le, drop-append-le, drop_all}
 use Rattle.std.proofs.lemmas.List.Elements.{All-nil, All-push}
-use Rattle.notify_queue.specs.Log.{relative, change_of, changes_of, units_in, AreLaid, IsLog}
-use Rattle.notify_queue.specs.declared.part.Entry.{Entry}
+use Rattle.notify_queue.specs.Log.{relative, change_of, changes_of, units_of_paths, AreLaid, IsLog}
+use Rattle.notify_queue.specs.declared.part.LogEntry.{LogEntry}
 
 pub map-same : {X Y : Type 0} (f g : X → Y) (xs : List X) → All (λ x. f x ≡ g x) xs → map f xs ≡ map g xs
 map-same f g [] same = refl
@@ -15,7 +15,7 @@ pub part-append : {X : Type 0} (xs more : List X) (first n : ℕ) → first + n 
 part-append {X} xs more first n within =
     rw (drop-append-le first xs more (omega arith)) (take-append-le n (drop first xs) more (omega (arith, length-drop {A = X})))
 
-pub changes_of-units : (units more : List ℕ) (dirs : List (ℕ × ℕ)) (entries : List Entry) (first_unit first_dir : ℕ) → IsLog units dirs entries first_unit first_dir
+pub changes_of-units : (units more : List ℕ) (dirs : List (ℕ × ℕ)) (entries : List LogEntry) (first_unit first_dir : ℕ) → IsLog units dirs entries first_unit first_dir
     → changes_of (units ++ more) dirs entries ≡ changes_of units dirs entries
 changes_of-units units more dirs entries first_unit first_dir log =
     map-same (change_of (units ++ more) dirs) (change_of units dirs) entries (λ k d within.
@@ -28,7 +28,7 @@ changes_of-units units more dirs entries first_unit first_dir log =
     })
     (part-append units more (get_or entries k d).first_unit (get_or entries k d).units (omega arith)))
 
-pub changes_of-dirs : (units : List ℕ) (dirs more : List (ℕ × ℕ)) (entries : List Entry) (first_unit first_dir : ℕ) → IsLog units dirs entries first_unit first_dir
+pub changes_of-dirs : (units : List ℕ) (dirs more : List (ℕ × ℕ)) (entries : List LogEntry) (first_unit first_dir : ℕ) → IsLog units dirs entries first_unit first_dir
     → changes_of units (dirs ++ more) entries ≡ changes_of units dirs entries
 changes_of-dirs units dirs more entries first_unit first_dir log =
     map-same (change_of units (dirs ++ more)) (change_of units dirs) entries (λ k d within.
@@ -41,7 +41,7 @@ changes_of-dirs units dirs more entries first_unit first_dir log =
     })
     (part-append dirs more (get_or entries k d).first_dir (get_or entries k d).dirs (omega arith)))
 
-pub seen-units : (units more : List ℕ) (dirs : List (ℕ × ℕ)) (entries : List Entry) (first_unit first_dir : ℕ) → IsLog units dirs entries first_unit first_dir
+pub seen-units : (units more : List ℕ) (dirs : List (ℕ × ℕ)) (entries : List LogEntry) (first_unit first_dir : ℕ) → IsLog units dirs entries first_unit first_dir
     → map (relative (drop first_unit (units ++ more))) (drop first_dir dirs) ≡ map (relative (drop first_unit units)) (drop first_dir dirs)
 seen-units units more dirs entries first_unit first_dir log =
     map-same (relative (drop first_unit (units ++ more))) (relative (drop first_unit units)) (drop first_dir dirs) (λ k d within.
@@ -50,12 +50,12 @@ seen-units units more dirs entries first_unit first_dir log =
     rw (drop-append-le first_unit units more start)
     (ap (λ (name : List ℕ). ((get_or (drop first_dir dirs) k d).0, reverse name)) (take-append-le (get_or (drop first_dir dirs) k d).1 (drop first_unit units) more lies)))
 
-pub units_in-push : (entries : List Entry) (entry : Entry) → units_in (entries ++ entry ∷ []) ≡ units_in entries + entry.units
+pub units_in-push : (entries : List LogEntry) (entry : LogEntry) → units_of_paths (entries ++ entry ∷ []) ≡ units_of_paths entries + entry.units
 units_in-push [] entry = omega arith
 units_in-push (first ∷ entries) entry = omega (arith, units_in-push entries entry)
 
 -- the change begun as an entry
-abbrev pub ended : (units : List ℕ) (dirs : List (ℕ × ℕ)) (first_unit first_dir action bits : ℕ) → Entry
+abbrev pub ended : (units : List ℕ) (dirs : List (ℕ × ℕ)) (first_unit first_dir action bits : ℕ) → LogEntry
 ended units dirs first_unit first_dir action bits = record {
   action = action;
   bits = bits;
@@ -66,7 +66,7 @@ ended units dirs first_unit first_dir action bits = record {
 }
 
 -- one more is laid behind the others
-laid-push : (unit dir : ℕ) (entries : List Entry) (first_unit first_dir next_unit next_dir : ℕ) (entry : Entry) → AreLaid unit dir entries first_unit first_dir
+laid-push : (unit dir : ℕ) (entries : List LogEntry) (first_unit first_dir next_unit next_dir : ℕ) (entry : LogEntry) → AreLaid unit dir entries first_unit first_dir
     → entry.first_unit ≡ first_unit → entry.first_dir ≡ first_dir → first_unit + entry.units ≡ next_unit → first_dir + entry.dirs ≡ next_dir
     → AreLaid unit dir (entries ++ entry ∷ []) next_unit next_dir
 laid-push unit dir [] first_unit first_dir next_unit next_dir entry laid units dirs next_units next_dirs =
@@ -75,7 +75,7 @@ laid-push unit dir (e ∷ entries) first_unit first_dir next_unit next_dir entry
     (laid.0, laid.1, laid-push (unit + e.units) (dir + e.dirs) entries first_unit first_dir next_unit next_dir entry laid.2 units dirs next_units next_dirs)
 
 -- it is noted, and another begins
-pub IsLog-finish : (units : List ℕ) (dirs : List (ℕ × ℕ)) (entries : List Entry) (first_unit first_dir action bits : ℕ) → IsLog units dirs entries first_unit first_dir
+pub IsLog-finish : (units : List ℕ) (dirs : List (ℕ × ℕ)) (entries : List LogEntry) (first_unit first_dir action bits : ℕ) → IsLog units dirs entries first_unit first_dir
     → IsLog units dirs (entries ++ ended units dirs first_unit first_dir action bits ∷ []) (length units) (length dirs)
 IsLog-finish units dirs entries first_unit first_dir action bits log =
     let start = log.unit_lies in

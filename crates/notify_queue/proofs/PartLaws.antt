@@ -8,8 +8,8 @@ use Rattle.std.proofs.lemmas.List.Elements.{All-cons, All-nil}
 use Rattle.fsa_model.specs.Volume.{Change}
 use Rattle.fsa_model.specs.Watching.{is_asked_by, packed_changes, told_from}
 use Rattle.notify_queue.specs.Due.{asks_for_last, due_of, row_of_watch, size_due}
-use Rattle.notify_queue.specs.Log.{AreLaid, Holds, IsLog, IsTrimmed, Log, Part, change_of, changes_before, changes_of, moved, start_of, units_in}
-use Rattle.notify_queue.specs.declared.part.Entry.{Entry}
+use Rattle.notify_queue.specs.Log.{AreLaid, Holds, IsLog, IsTrimmed, Log, LogPartView, change_of, changes_before, changes_of, moved, start_of, units_of_paths}
+use Rattle.notify_queue.specs.declared.part.LogEntry.{LogEntry}
 use Rattle.notify_queue.specs.declared.watch.Watch.{Watch}
 use Rattle.notify_queue.proofs.DueLaws.{size_due-is}
 use Rattle.notify_queue.proofs.LogLemmas.{map-same}
@@ -51,7 +51,7 @@ take-length (suc count) (x ∷ xs) within = ap suc (take-length count xs (omega 
 
 -- ---- what is due, and the last change, by what is held
 
-pub due-held : (log : Log) (gone : ℕ) (part : Part) (watch : Watch) → Holds log gone part → log.base ≤ watch.from → due_of part.changes (record watch { from = watch.from - gone }) ≡ due_of log.changes watch
+pub due-held : (log : Log) (gone : ℕ) (part : LogPartView) (watch : Watch) → Holds log gone part → log.base ≤ watch.from → due_of part.changes (record watch { from = watch.from - gone }) ≡ due_of log.changes watch
 due-held log gone part watch holds kept =
     let from = holds.from in
     let counted = holds.counted in
@@ -59,7 +59,7 @@ due-held log gone part watch holds kept =
     = ap (drop watch.from) holds.changes ∙ drop-beyond holds.before part.changes watch.from (omega arith) ∙ ap (λ (n : ℕ). drop (watch.from - n) part.changes) counted in
     ap (λ (changes : List Change). map (told_from watch.dir) (filter (is_asked_by (row_of_watch watch) watch.dir) changes)) (sym same)
 
-pub last-held : (log : Log) (gone : ℕ) (part : Part) (watch : Watch) → Holds log gone part → log.base < length log.changes → asks_for_last watch part.changes ≡ asks_for_last watch log.changes
+pub last-held : (log : Log) (gone : ℕ) (part : LogPartView) (watch : Watch) → Holds log gone part → log.base < length log.changes → asks_for_last watch part.changes ≡ asks_for_last watch log.changes
 last-held log gone part watch holds kept =
     let from = holds.from in
     let counted = holds.counted in
@@ -71,7 +71,7 @@ last-held log gone part watch holds kept =
 
 -- ---- what was noted before
 
-pub before-more : (past : List (Part × ℕ)) (part : Part) (count : ℕ) → changes_before (past ++ (part, count) ∷ []) ≡ changes_before past ++ take count part.changes
+pub before-more : (past : List (LogPartView × ℕ)) (part : LogPartView) (count : ℕ) → changes_before (past ++ (part, count) ∷ []) ≡ changes_before past ++ take count part.changes
 before-more [] part count = append-none (take count part.changes)
   where
     append-none : {X : Type 0} (xs : List X) → xs ++ [] ≡ xs
@@ -85,7 +85,7 @@ before-more (first ∷ past) part count =
     append-apart [] ys zs = refl
     append-apart (x ∷ xs) ys zs = ap (λ (rest : List _). x ∷ rest) (append-apart xs ys zs)
 
-pub all-same : (past : List (Part × ℕ)) (part : Part) (count : ℕ) → changes_before (past ++ (part, count) ∷ []) ++ drop count part.changes ≡ changes_before past ++ part.changes
+pub all-same : (past : List (LogPartView × ℕ)) (part : LogPartView) (count : ℕ) → changes_before (past ++ (part, count) ∷ []) ++ drop count part.changes ≡ changes_before past ++ part.changes
 all-same past part count =
     ap (λ (before : List Change). before ++ drop count part.changes) (before-more past part count)
     ∙ append-apart (changes_before past) (take count part.changes) (drop count part.changes)
@@ -97,13 +97,13 @@ all-same past part count =
 
 -- ---- the entries that are left
 
-laid-end : (unit dir : ℕ) (entries : List Entry) (first_unit first_dir : ℕ) → AreLaid unit dir entries first_unit first_dir → (unit ≤ first_unit) × (dir ≤ first_dir)
+laid-end : (unit dir : ℕ) (entries : List LogEntry) (first_unit first_dir : ℕ) → AreLaid unit dir entries first_unit first_dir → (unit ≤ first_unit) × (dir ≤ first_dir)
 laid-end unit dir [] first_unit first_dir laid = (omega (arith, laid.0), omega (arith, laid.1))
 laid-end unit dir (entry ∷ entries) first_unit first_dir laid =
     let rest = laid-end (unit + entry.units) (dir + entry.dirs) entries first_unit first_dir laid.2 in
     (omega (arith, rest.0), omega (arith, rest.1))
 
-pub laid-start : (unit dir : ℕ) (entries : List Entry) (first_unit first_dir place : ℕ) → AreLaid unit dir entries first_unit first_dir
+pub laid-start : (unit dir : ℕ) (entries : List LogEntry) (first_unit first_dir place : ℕ) → AreLaid unit dir entries first_unit first_dir
     → AreLaid (start_of entries place first_unit first_dir).0 (start_of entries place first_unit first_dir).1 (drop place entries) first_unit first_dir
 laid-start unit dir [] first_unit first_dir zero laid = (refl, refl)
 laid-start unit dir [] first_unit first_dir (suc place) laid = (refl, refl)
@@ -112,7 +112,7 @@ laid-start unit dir (entry ∷ entries) first_unit first_dir zero laid =
 laid-start unit dir (entry ∷ entries) first_unit first_dir (suc place) laid = laid-start (unit + entry.units) (dir + entry.dirs) entries first_unit first_dir place laid.2
 
 -- each lies behind where the first begins, and they come to what is between
-laid-lie : (unit dir : ℕ) (entries : List Entry) (first_unit first_dir : ℕ) → AreLaid unit dir entries first_unit first_dir
+laid-lie : (unit dir : ℕ) (entries : List LogEntry) (first_unit first_dir : ℕ) → AreLaid unit dir entries first_unit first_dir
     → All (λ entry. (unit ≤ entry.first_unit) × (dir ≤ entry.first_dir) × (entry.first_unit + entry.units ≤ first_unit) × (entry.first_dir + entry.dirs ≤ first_dir)) entries
 laid-lie unit dir [] first_unit first_dir laid = All-nil _
 laid-lie unit dir (entry ∷ entries) first_unit first_dir laid =
@@ -122,11 +122,11 @@ laid-lie unit dir (entry ∷ entries) first_unit first_dir laid =
     (omega (arith, laid.0), omega (arith, laid.1), omega (arith, laid.0, ends.0), omega (arith, laid.1, ends.1))
     (λ k d within. let lies = rest k d within in (omega (arith, lies.0), omega (arith, lies.1), lies.2, lies.3))
 
-laid-units : (unit dir : ℕ) (entries : List Entry) (first_unit first_dir : ℕ) → AreLaid unit dir entries first_unit first_dir → unit + units_in entries ≡ first_unit
+laid-units : (unit dir : ℕ) (entries : List LogEntry) (first_unit first_dir : ℕ) → AreLaid unit dir entries first_unit first_dir → unit + units_of_paths entries ≡ first_unit
 laid-units unit dir [] first_unit first_dir laid = omega (arith, laid.0)
 laid-units unit dir (entry ∷ entries) first_unit first_dir laid = omega (arith, laid-units (unit + entry.units) (dir + entry.dirs) entries first_unit first_dir laid.2)
 
-laid-moved : (unit dir from_unit from_dir : ℕ) (entries : List Entry) (first_unit first_dir : ℕ) → unit ≤ from_unit → dir ≤ from_dir → AreLaid from_unit from_dir entries first_unit first_dir
+laid-moved : (unit dir from_unit from_dir : ℕ) (entries : List LogEntry) (first_unit first_dir : ℕ) → unit ≤ from_unit → dir ≤ from_dir → AreLaid from_unit from_dir entries first_unit first_dir
     → AreLaid (from_unit - unit) (from_dir - dir) (map (moved unit dir) entries) (first_unit - unit) (first_dir - dir)
 laid-moved unit dir from_unit from_dir [] first_unit first_dir units dirs laid = (ap (λ (n : ℕ). n - unit) laid.0, ap (λ (n : ℕ). n - dir) laid.1)
 laid-moved unit dir from_unit from_dir (entry ∷ entries) first_unit first_dir units dirs laid =
@@ -141,7 +141,7 @@ part-moved {X} gone first n xs below =
     let place : gone + (first - gone) ≡ first = omega arith in
     ap (λ (rest : List X). take n rest) (rw place at (drop-twice gone (first - gone) xs))
 
-change-moved : (units : List ℕ) (dirs : List (ℕ × ℕ)) (unit dir : ℕ) (entry : Entry) → unit ≤ entry.first_unit → dir ≤ entry.first_dir
+change-moved : (units : List ℕ) (dirs : List (ℕ × ℕ)) (unit dir : ℕ) (entry : LogEntry) → unit ≤ entry.first_unit → dir ≤ entry.first_dir
     → change_of (drop unit units) (drop dir dirs) (moved unit dir entry) ≡ change_of units dirs entry
 change-moved units dirs unit dir entry below above =
     rw (part-moved unit entry.first_unit entry.units units below, part-moved dir entry.first_dir entry.dirs dirs above) refl
@@ -150,7 +150,7 @@ map-twice : {X Y Z : Type 0} (f : Y → Z) (g : X → Y) (xs : List X) → map f
 map-twice f g [] = refl
 map-twice f g (x ∷ xs) = ap (λ (rest : List _). f (g x) ∷ rest) (map-twice f g xs)
 
-pub changes-left : (units : List ℕ) (dirs : List (ℕ × ℕ)) (entries : List Entry) (first_unit first_dir count : ℕ) → IsLog units dirs entries first_unit first_dir
+pub changes-left : (units : List ℕ) (dirs : List (ℕ × ℕ)) (entries : List LogEntry) (first_unit first_dir count : ℕ) → IsLog units dirs entries first_unit first_dir
     → changes_of (drop (start_of entries count first_unit first_dir).0 units) (drop (start_of entries count first_unit first_dir).1 dirs)
     (map (moved (start_of entries count first_unit first_dir).0 (start_of entries count first_unit first_dir).1) (drop count entries))
     ≡ drop count (changes_of units dirs entries)
@@ -166,12 +166,12 @@ changes-left units dirs entries first_unit first_dir count log =
 pub begun-left : {X : Type 0} (gone first : ℕ) (xs : List X) → gone ≤ first → drop (first - gone) (drop gone xs) ≡ drop first xs
 begun-left {X} gone first xs below = let place : gone + (first - gone) ≡ first = omega arith in rw place at (drop-twice gone (first - gone) xs)
 
-pub start-within : (units : List ℕ) (dirs : List (ℕ × ℕ)) (entries : List Entry) (first_unit first_dir count : ℕ) → IsLog units dirs entries first_unit first_dir
+pub start-within : (units : List ℕ) (dirs : List (ℕ × ℕ)) (entries : List LogEntry) (first_unit first_dir count : ℕ) → IsLog units dirs entries first_unit first_dir
     → ((start_of entries count first_unit first_dir).0 ≤ first_unit) × ((start_of entries count first_unit first_dir).1 ≤ first_dir)
 start-within units dirs entries first_unit first_dir count log =
     laid-end (start_of entries count first_unit first_dir).0 (start_of entries count first_unit first_dir).1 (drop count entries) first_unit first_dir (laid-start 0 0 entries first_unit first_dir count log.laid)
 
-pub IsLog-left : (units : List ℕ) (dirs : List (ℕ × ℕ)) (entries : List Entry) (first_unit first_dir count : ℕ) → IsLog units dirs entries first_unit first_dir
+pub IsLog-left : (units : List ℕ) (dirs : List (ℕ × ℕ)) (entries : List LogEntry) (first_unit first_dir count : ℕ) → IsLog units dirs entries first_unit first_dir
     → IsLog (drop (start_of entries count first_unit first_dir).0 units) (drop (start_of entries count first_unit first_dir).1 dirs)
     (map (moved (start_of entries count first_unit first_dir).0 (start_of entries count first_unit first_dir).1) (drop count entries))
     (first_unit - (start_of entries count first_unit first_dir).0) (first_dir - (start_of entries count first_unit first_dir).1)
@@ -200,7 +200,7 @@ IsLog-left units dirs entries first_unit first_dir count log =
 
 -- ---- what is answered
 
-pub due-same : (log : Log) (gone : ℕ) (part : Part) (watch own : Watch) → Holds log gone part → log.base ≤ watch.from → own ≡ record watch { from = watch.from - gone } → due_of part.changes own ≡ due_of log.changes watch
+pub due-same : (log : Log) (gone : ℕ) (part : LogPartView) (watch own : Watch) → Holds log gone part → log.base ≤ watch.from → own ≡ record watch { from = watch.from - gone } → due_of part.changes own ≡ due_of log.changes watch
 due-same log gone part watch own holds kept is = ap (due_of part.changes) is ∙ due-held log gone part watch holds kept
 
 pub size-none : (due : List (ℕ × List ℕ)) (size : ℕ) → size ≡ length (packed_changes due) → size ≡ 0 → None ≡ size_due due
@@ -209,7 +209,7 @@ size-none due size is none = rw (size_due-is due, ← is, none) refl
 pub size-some : (due : List (ℕ × List ℕ)) (size : ℕ) → size ≡ length (packed_changes due) → (size ≡ 0 → ⊥) → Some size ≡ size_due due
 size-some due size is some = rw (size_due-is due, ← is, ne_eqb size 0 some) refl
 
-pub IsTrimmed-less : (past : List (Part × ℕ)) (gone base next room : ℕ) (part left : Part) (count : ℕ) → IsTrimmed past gone base room part → left.changes ≡ drop count part.changes → part.room ≤ left.room
+pub IsTrimmed-less : (past : List (LogPartView × ℕ)) (gone base next room : ℕ) (part left : LogPartView) (count : ℕ) → IsTrimmed past gone base room part → left.changes ≡ drop count part.changes → part.room ≤ left.room
     → count ≤ length part.changes → next ≡ gone + count → IsTrimmed (past ++ (part, count) ∷ []) next next room left
 IsTrimmed-less past gone base next room part left count was is more within here =
     let there = was.there in

@@ -6,7 +6,7 @@ use Rattle.fsa_types.specs.PackedRows.{PackRow, change_row}
 use Rattle.fsa_model.specs.Volume.{Change, Watch as Row}
 use Rattle.fsa_model.specs.Watching.{due_to, is_asked_by, packed_changes, told_from}
 use Rattle.notify_queue.specs.Log.{change_of}
-use Rattle.notify_queue.specs.declared.part.Entry.{Entry}
+use Rattle.notify_queue.specs.declared.part.LogEntry.{LogEntry}
 use Rattle.notify_queue.specs.declared.watch.Watch.{Watch}
 
 -- the watch as a volume lists it, under no handle
@@ -33,16 +33,16 @@ packed_within due room = if nat_le (length (packed_changes due)) room then Some 
 -- ---- the parts of a log
 
 -- the watch asks for the change of this entry
-abbrev pub asks_for : Watch → List ℕ → List (ℕ × ℕ) → Entry → Bool
+abbrev pub asks_for : Watch → List ℕ → List (ℕ × ℕ) → LogEntry → Bool
 asks_for watch units dirs entry = is_asked_by (row_of_watch watch) watch.dir (change_of units dirs entry)
 
 -- what it is told of it
-abbrev pub told : Watch → List ℕ → List (ℕ × ℕ) → Entry → ℕ × List ℕ
-told watch units dirs entry = told_from watch.dir (change_of units dirs entry)
+abbrev pub told_from_change : Watch → List ℕ → List (ℕ × ℕ) → LogEntry → ℕ × List ℕ
+told_from_change watch units dirs entry = told_from watch.dir (change_of units dirs entry)
 
 -- what is due to it of these entries
-abbrev pub due_among : Watch → List ℕ → List (ℕ × ℕ) → List Entry → List (ℕ × List ℕ)
-due_among watch units dirs entries = map (told watch units dirs) (filter (asks_for watch units dirs) entries)
+abbrev pub due_among : Watch → List ℕ → List (ℕ × ℕ) → List LogEntry → List (ℕ × List ℕ)
+due_among watch units dirs entries = map (told_from_change watch units dirs) (filter (asks_for watch units dirs) entries)
 
 -- the rows that are packed for these
 abbrev pub rows_of : List (ℕ × List ℕ) → List PackRow
@@ -60,14 +60,14 @@ written_for dir seen = option_map_or (λ ancestor. ancestor.1) (find (λ ancesto
 -- ---- sizes
 
 -- the next multiple of 4
-abbrev pub rounded : ℕ → ℕ
-rounded size = (size + 3) / 4 * 4
+abbrev pub rounded_to_4 : ℕ → ℕ
+rounded_to_4 size = (size + 3) / 4 * 4
 
 -- how many bytes an entry takes without its padding
-abbrev pub size_of : ℕ × List ℕ → ℕ
-size_of change = 12 + 2 * length change.1
+abbrev pub change_size : ℕ × List ℕ → ℕ
+change_size change = 12 + 2 * length change.1
 
 -- so many bytes with these behind them
 abbrev pub size_from : ℕ → List (ℕ × List ℕ) → ℕ
 size_from size [] = size
-size_from size (change ∷ changes) = size_from (rounded size + size_of change) changes
+size_from size (change ∷ changes) = size_from (rounded_to_4 size + change_size change) changes

@@ -11,7 +11,7 @@ use std::marker::Model;
 
 // What a log holds.
 #[derive(Clone, Copy)]
-pub(crate) struct Held<'a> {
+pub(crate) struct HeldPart<'a> {
     // How many changes are gone before it.
     pub gone: u64,
     // The changes, and the one that is begun.
@@ -135,10 +135,10 @@ impl ChangeLog {
     }
 
     // What it holds.
-    pub(crate) fn held(&self) -> Held<'_>
+    pub(crate) fn held(&self) -> HeldPart<'_>
         ensures { Holds self.now result.gone result.part.now }
     {
-        Held {
+        HeldPart {
             gone: self.gone,
             part: &self.part,
         }

@@ -10,7 +10,7 @@ use std::marker::Model;
 
 /// Where the path of a change and its ancestors lie in the log.
 #[derive(Clone, Copy, Debug, PartialEq, Eq)]
-pub struct Entry {
+pub struct LogEntry {
     /// The action.
     pub action: u32,
     /// The filter bits.
@@ -29,7 +29,7 @@ pub struct Entry {
 #[derive(Clone, Copy, Debug)]
 pub(crate) struct Pieces<'a> {
     // Where each change lies.
-    pub entries: &'a [Entry],
+    pub entries: &'a [LogEntry],
     // The units of all paths.
     pub units: &'a [u16],
     // The ancestors of all changes.
@@ -41,7 +41,7 @@ pub(crate) struct Pieces<'a> {
 #[derive(Debug, Drop)]
 pub(crate) struct LogPart {
     /// Where each change lies.
-    pub entries: Series<Entry>,
+    pub entries: Series<LogEntry>,
     /// The units of all paths.
     pub units: Series<u16>,
     /// The ancestors of all changes, each with how many units of the path were written when it was
@@ -53,9 +53,9 @@ pub(crate) struct LogPart {
 
 impl Model for LogPart {
     ghost use Rattle.std.specs.Prelude.{drop, map};
-    ghost use Rattle.notify_queue.specs.Log.{Part, IsLog, changes_of, relative};
+    ghost use Rattle.notify_queue.specs.Log.{LogPartView, IsLog, changes_of, relative};
 
-    ghost Value = { Part };
+    ghost Value = { LogPartView };
 
     ghost view = { λ l. record {
       changes = changes_of l.units.items l.dirs.items l.entries.items;
@@ -134,7 +134,7 @@ impl LogPart {
     {
         let units = self.units.len() - self.first_unit;
         let dirs = self.dirs.len() - self.first_dir;
-        self.entries.push(Entry {
+        self.entries.push(LogEntry {
             action,
             bits,
             first_unit: self.first_unit,
@@ -191,14 +191,14 @@ impl LogPart {
 }
 
 // Slices fit the memory that there can be.
-fn are_few(entries: &[Entry], units: &[u16])
+fn are_few(entries: &[LogEntry], units: &[u16])
     ensures { 15 * length entries.now + 2 * length units.now < 2 ^ 64 }
 {
     let _counts = (entries.len(), units.len());
 }
 
 // Where the path of the change at this place begins, and where its ancestors; behind the last change these.
-fn start_of(entries: &[Entry], place: usize, unit: usize, dir: usize) -> (usize, usize)
+fn start_of(entries: &[LogEntry], place: usize, unit: usize, dir: usize) -> (usize, usize)
     ensures { result ≡ start_of entries.now place unit dir }
 {
     match entries.get(place) {
@@ -208,10 +208,10 @@ fn start_of(entries: &[Entry], place: usize, unit: usize, dir: usize) -> (usize,
 }
 
 // The entry, where so many units and ancestors before it are gone.
-fn moved(entry: Entry, unit: usize, dir: usize) -> Entry
+fn moved(entry: LogEntry, unit: usize, dir: usize) -> LogEntry
     ensures { result ≡ moved unit dir entry }
 {
-    Entry {
+    LogEntry {
         action: entry.action,
         bits: entry.bits,
         first_unit: entry.first_unit.saturating_sub(unit),
@@ -222,7 +222,7 @@ fn moved(entry: Entry, unit: usize, dir: usize) -> Entry
 }
 
 // All entries, where so many units and ancestors before them are gone.
-fn move_all(entries: &mut Series<Entry>, unit: usize, dir: usize)
+fn move_all(entries: &mut Series<LogEntry>, unit: usize, dir: usize)
     ensures items { entries.new.items ≡ map (moved unit dir) entries.old.items }
     ensures room { entries.new.room ≡ entries.old.room }
 {

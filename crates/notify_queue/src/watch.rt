@@ -5,11 +5,11 @@ ghost use Rattle.std.specs.List.{list_any};
 ghost use Rattle.std.specs.Option.{option_copied};
 ghost use Rattle.fsa_types.specs.Access.{has_any};
 ghost use Rattle.fsa_model.specs.Watching.{packed_changes};
-ghost use Rattle.notify_queue.specs.Due.{asks_for, asks_for_last, due_among, due_of, is_seen_among, packed_within, rounded, rows_of, size_due, size_from, size_of, told, written_for};
-ghost use Rattle.notify_queue.specs.Log.{units_in};
+ghost use Rattle.notify_queue.specs.Due.{asks_for, asks_for_last, due_among, due_of, is_seen_among, packed_within, rounded_to_4, rows_of, size_due, size_from, change_size, told_from_change, written_for};
+ghost use Rattle.notify_queue.specs.Log.{units_of_paths};
 
 use crate::log::ChangeLog;
-use crate::part::{Entry, LogPart};
+use crate::part::{LogEntry, LogPart};
 use fsa_types::{Bytes, Name, NoMemory};
 use pack_info::{ChangeRow, pack_changes};
 use std::alloc::Global;
@@ -167,7 +167,7 @@ fn rows_due(alloc: Global, watch: &Watch, log: &LogPart) -> Result<Vec<ChangeRow
 }
 
 // The entries from this place on.
-fn from_place(entries: &[Entry], place: u64) -> &[Entry]
+fn from_place(entries: &[LogEntry], place: u64) -> &[LogEntry]
     ensures { result.now ≡ drop place entries.now }
 {
     let place = place as usize;
@@ -179,9 +179,9 @@ fn from_place(entries: &[Entry], place: u64) -> &[Entry]
 }
 
 // How many bytes a report of what is due of these entries takes.
-fn size_among(watch: &Watch, entries: &[Entry], units: &[u16], dirs: &[(u64, usize)]) -> u64
+fn size_among(watch: &Watch, entries: &[LogEntry], units: &[u16], dirs: &[(u64, usize)]) -> u64
     requires lie { All (λ entry. (entry.first_unit + entry.units ≤ length units.now) × (entry.first_dir + entry.dirs ≤ length dirs.now)) entries.now }
-    requires few { 15 * length entries.now + 2 * units_in entries.now < 2 ^ 64 }
+    requires few { 15 * length entries.now + 2 * units_of_paths entries.now < 2 ^ 64 }
     ensures { result ≡ size_from 0 (due_among watch.now units.now dirs.now entries.now) }
 {
     let mut rest = entries;
@@ -197,13 +197,13 @@ fn size_among(watch: &Watch, entries: &[Entry], units: &[u16], dirs: &[(u64, usi
 // takes more.
 fn fits_among(
     watch: &Watch,
-    entries: &[Entry],
+    entries: &[LogEntry],
     units: &[u16],
     dirs: &[(u64, usize)],
     room: u64,
 ) -> bool
     requires lie { All (λ entry. (entry.first_unit + entry.units ≤ length units.now) × (entry.first_dir + entry.dirs ≤ length dirs.now)) entries.now }
-    requires few { 15 * length entries.now + 2 * units_in entries.now < 2 ^ 64 }
+    requires few { 15 * length entries.now + 2 * units_of_paths entries.now < 2 ^ 64 }
     ensures { result ≡ nat_le (size_from 0 (due_among watch.now units.now dirs.now entries.now)) room }
 {
     let mut rest = entries;
@@ -219,7 +219,7 @@ fn fits_among(
 }
 
 // Whether the watch asks for the change of one of these entries.
-fn asks_among(watch: &Watch, entries: &[Entry], dirs: &[(u64, usize)]) -> bool
+fn asks_among(watch: &Watch, entries: &[LogEntry], dirs: &[(u64, usize)]) -> bool
     requires lie { All (λ entry. entry.first_dir + entry.dirs ≤ length dirs.now) entries.now }
     ensures { (units : List ℕ) → result ≡ list_any (asks_for watch.now units dirs.now) entries.now }
 {
@@ -237,7 +237,7 @@ fn asks_among(watch: &Watch, entries: &[Entry], dirs: &[(u64, usize)]) -> bool
 fn rows_among(
     alloc: Global,
     watch: &Watch,
-    entries: &[Entry],
+    entries: &[LogEntry],
     units: &[u16],
     dirs: &[(u64, usize)],
 ) -> Result<Vec<ChangeRow>, NoMemory>
@@ -254,10 +254,10 @@ fn rows_among(
 }
 
 // So many bytes with the entry behind them, where the watch asks for its change.
-fn size_with(size: u64, watch: &Watch, entry: &Entry, units: &[u16], dirs: &[(u64, usize)]) -> u64
+fn size_with(size: u64, watch: &Watch, entry: &LogEntry, units: &[u16], dirs: &[(u64, usize)]) -> u64
     requires lies { (entry.now.first_unit + entry.now.units ≤ length units.now) × (entry.now.first_dir + entry.now.dirs ≤ length dirs.now) }
     requires few { size + 15 + 2 * entry.now.units < 2 ^ 64 }
-    ensures size { result ≡ cond (asks_for watch.now units.now dirs.now entry.now) (rounded size + size_of (told watch.now units.now dirs.now entry.now)) size }
+    ensures size { result ≡ cond (asks_for watch.now units.now dirs.now entry.now) (rounded_to_4 size + change_size (told_from_change watch.now units.now dirs.now entry.now)) size }
     ensures bound { result ≤ size + 15 + 2 * entry.now.units }
 {
     let Some(written) = asked_written(watch, entry, dirs) else {
@@ -272,12 +272,12 @@ fn push_row(
     alloc: Global,
     rows: &mut Vec<ChangeRow>,
     watch: &Watch,
-    entry: &Entry,
+    entry: &LogEntry,
     units: &[u16],
     dirs: &[(u64, usize)],
 ) -> Result<(), NoMemory>
     requires lies { (entry.now.first_unit + entry.now.units ≤ length units.now) × (entry.now.first_dir + entry.now.dirs ≤ length dirs.now) }
-    ensures { OnOk result (rows.new.items ≡ rows.old.items ++ rows_of (cond (asks_for watch.now units.now dirs.now entry.now) (told watch.now units.now dirs.now entry.now ∷ []) [])) }
+    ensures { OnOk result (rows.new.items ≡ rows.old.items ++ rows_of (cond (asks_for watch.now units.now dirs.now entry.now) (told_from_change watch.now units.now dirs.now entry.now ∷ []) [])) }
 {
     let Some(written) = asked_written(watch, entry, dirs) else {
         return Ok(());
@@ -291,7 +291,7 @@ fn push_row(
 }
 
 // Whether the watch asks for the change of this entry.
-fn asks_for(watch: &Watch, entry: &Entry, dirs: &[(u64, usize)]) -> bool
+fn asks_for(watch: &Watch, entry: &LogEntry, dirs: &[(u64, usize)]) -> bool
     requires lies { entry.now.first_dir + entry.now.dirs ≤ length dirs.now }
     ensures { (units : List ℕ) → result ≡ asks_for watch.now units dirs.now entry.now }
 {
@@ -300,7 +300,7 @@ fn asks_for(watch: &Watch, entry: &Entry, dirs: &[(u64, usize)]) -> bool
 
 // Where the watch asks for the change of this entry, how much of its path was written when the watch's directory was
 // reached.
-fn asked_written(watch: &Watch, entry: &Entry, dirs: &[(u64, usize)]) -> Option<usize>
+fn asked_written(watch: &Watch, entry: &LogEntry, dirs: &[(u64, usize)]) -> Option<usize>
     requires lies { entry.now.first_dir + entry.now.dirs ≤ length dirs.now }
     ensures asked { (units : List ℕ) → is_some result ≡ asks_for watch.now units dirs.now entry.now }
     ensures written { IfSome result (λ written. written ≡ written_for watch.now.dir (take entry.now.dirs (drop entry.now.first_dir dirs.now))) }
@@ -356,7 +356,7 @@ fn find_dir(seen: &[(u64, usize)], dir: u64) -> Option<&(u64, usize)>
 }
 
 // The first units of the path of the entry, so many: from its last unit to its first.
-fn path_written<'a>(entry: &Entry, units: &'a [u16], written: usize) -> &'a [u16]
+fn path_written<'a>(entry: &LogEntry, units: &'a [u16], written: usize) -> &'a [u16]
     requires lies { entry.now.first_unit + entry.now.units ≤ length units.now }
     ensures path { result.now ≡ take written (take entry.now.units (drop entry.now.first_unit units.now)) }
     ensures short { length result.now ≤ entry.now.units }

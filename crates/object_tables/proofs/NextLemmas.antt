@@ -8,7 +8,7 @@ use Rattle.std.proofs.lemmas.List.Folds.{find_at}
 use Rattle.std.proofs.lemmas.List.Sums.{position_or_len_is}
 use Rattle.fsa_types.specs.Rows.{lives}
 use Rattle.fsa_types.proofs.RowLemmas.{AreRising, AreRising-first, AreRising-rest, lives-map}
-use Rattle.object_tables.specs.Next.{IsNext, number_after}
+use Rattle.object_tables.specs.Next.{IsNext, next_number_after}
 
 -- the first row above a number stands where those up to it end
 next-some : {T : Type 0} (xs : List (ℕ × T)) (i after : ℕ) (some : ℕ × T) → i ≤ length xs → IsPartitionPoint (λ e. e.0 ≤ after) (λ e. after < e.0) xs i → slice_get xs i ≡ find (λ e. nat_lt after e.0) xs
@@ -71,7 +71,7 @@ one-more x xs after (Some id) below is = record {
   none = tt;
 }
 
-pub next-least : {T : Type 0} (rows : List (ℕ × T)) (after : ℕ) → AreRising rows → IsNext rows after (number_after rows after)
+pub next-least : {T : Type 0} (rows : List (ℕ × T)) (after : ℕ) → AreRising rows → IsNext rows after (next_number_after rows after)
 next-least [] after rising = record { live = tt; above = tt; least = tt; none = λ other living. absurd (false≢true living) }
 next-least (x ∷ rows) after rising = elim (cases_Bool (nat_lt after x.0)) [
   | inl more ↦ rw more (record {
@@ -83,7 +83,7 @@ next-least (x ∷ rows) after rising = elim (cases_Bool (nat_lt after x.0)) [
     ];
     none = tt;
   })
-  | inr less ↦ rw less (one-more x rows after (number_after rows after) (ltb-false after x.0 less) (next-least rows after (AreRising-rest x rows rising)))
+  | inr less ↦ rw less (one-more x rows after (next_number_after rows after) (ltb-false after x.0 less) (next-least rows after (AreRising-rest x rows rising)))
 ]
 
 -- rows as they are seen have the same numbers

@@ -12,7 +12,7 @@ use Rattle.fsa_types.specs.Rows.{IsNumbered, row_of, with_row_changed, without_r
 use Rattle.fsa_types.proofs.RowLemmas.{IsAt-position, IsNumbered-remove, remove-at, row_of-at, row_of-none, set-at, without_row-none}
 use Rattle.slab.specs.Slab.{Slab, ContainsKey, slab_len, with_value}
 use Rattle.slab.proofs.SlabLemmas.{ContainsKey-within}
-use Rattle.object_tables.specs.Next.{number_after}
+use Rattle.object_tables.specs.Next.{next_number_after}
 use Rattle.object_tables.specs.Places.{ArePlaced, rows_by}
 
 some-row : {T : Type 0} (row : Option T) → IsSome row → (some : T) × (row ≡ Some some)
@@ -125,7 +125,7 @@ module _ {T : Type 0} where
     pub rows-missing : (places : List (ℕ × ℕ)) (last id : ℕ) → ArePlaced found places last → position (λ e. e.0 == id) places ≡ None → without_row (rows_by found places) id ≡ rows_by found places
     rows-missing places last id placed none = without_row-none (rows_by found places) id (place-same places placed.there id ∙ none)
 
-    pub after-same : (places : List (ℕ × ℕ)) → AreThere found places → (after : ℕ) → number_after (rows_by found places) after ≡ number_after places after
+    pub after-same : (places : List (ℕ × ℕ)) → AreThere found places → (after : ℕ) → next_number_after (rows_by found places) after ≡ next_number_after places after
     after-same [] there after = refl
     after-same (p ∷ places) there after =
         let here = some-row (found p.1) (there 0 p (omega arith)) in

@@ -3,8 +3,8 @@ use Rattle.std.specs.Prelude.{ℕ, ◌<◌, ◌≤◌, List, Option, IfNone, IfS
 use Rattle.fsa_types.specs.Rows.{lives}
 
 -- the number of the first row above this one, among rows whose numbers rise
-abbrev pub number_after : {R : Type 0} → List (ℕ × R) → ℕ → Option ℕ
-number_after rows after = option_map (λ row. row.0) (find (λ row. nat_lt after row.0) rows)
+abbrev pub next_number_after : {R : Type 0} → List (ℕ × R) → ℕ → Option ℕ
+next_number_after rows after = option_map (λ row. row.0) (find (λ row. nat_lt after row.0) rows)
 
 -- it is that of a row, above `after`, and none of a row stands between; where there is none, no row is above
 pub record IsNext {R : Type 0} (rows : List (ℕ × R)) (after : ℕ) (next : Option ℕ) : Type 0 where

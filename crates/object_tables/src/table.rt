@@ -4,7 +4,7 @@ ghost use Rattle.std.specs.Prelude.{◌≡◌, ◌≤◌, ◌<◌, ◌+◌, ◌^
 ghost use Rattle.std.specs.Borrow.{sem};
 ghost use Rattle.std.specs.Option.{option_copied, option_copied_mut, option_map_or};
 ghost use Rattle.fsa_types.specs.Rows.{row_of, without_row, with_row_changed, IsNumbered};
-ghost use Rattle.object_tables.specs.Next.{IsNext, number_after};
+ghost use Rattle.object_tables.specs.Next.{IsNext, next_number_after};
 
 use crate::search::{end_of, number_at, place_of};
 use crate::shift_list::ShiftList;
@@ -109,7 +109,7 @@ impl<T: Drop> Table<T> {
 
     /// The least number above `after` that a row has; `None` exactly where there is none.
     pub fn next(&self, after: u64) -> Option<u64>
-        ensures found { result ≡ number_after self.now.rows after }
+        ensures found { result ≡ next_number_after self.now.rows after }
         ensures next { IsNext self.now.rows after result }
     {
         let places = self.places.as_slice();

@@ -13,7 +13,7 @@ use Rattle.fsa_model.specs.Volume.{Lock, Volume}
 use Rattle.fsa_model.specs.Waits.{waits_for}
 use Rattle.op_data.specs.Calls.{HasAnswer}
 use Rattle.fsa_model.specs.Locking.{conflicts_with, lock_blockers, lock_free, lock_range}
-use Rattle.range_locks.specs.RangeTable.{blockers_of, conflicts, first_id}
+use Rattle.range_locks.specs.RangeTable.{range_blockers, conflicts, first_id}
 use Rattle.range_locks.specs.declared.range.Range.{Range}
 use Rattle.range_locks.specs.declared.range.Want.TheVariants.{Read, Write, Shared, Exclusive}
 use Rattle.volume_state.specs.Locks.{ranges_on}
@@ -39,7 +39,7 @@ write_locked v handle stream at count = first-found (conflicts Write handle at c
 
 -- the ranges that pass a test are the locks that pass the same
 pub blockers-found : (passes : Range → Bool) (test : Lock → Bool) (locks : List (ℕ × Lock)) → ((entry : ℕ × Lock) → passes (range_of_lock entry) ≡ test entry.1)
-    → blockers_of passes (map range_of_lock locks) ≡ map (λ entry. LockOf entry.0) (filter (λ entry. test entry.1) locks)
+    → range_blockers passes (map range_of_lock locks) ≡ map (λ entry. LockOf entry.0) (filter (λ entry. test entry.1) locks)
 blockers-found passes test [] same = refl
 blockers-found passes test (entry ∷ locks) same = elim (cases_Bool (test entry.1)) [
   | inl here ↦ rw (same entry, here) (ap (λ more. LockOf entry.0 ∷ more) (blockers-found passes test locks same))
@@ -47,7 +47,7 @@ blockers-found passes test (entry ∷ locks) same = elim (cases_Bool (test entry
 ]
 
 pub lock_found : (v : Volume) (handle stream at count : ℕ) (exclusive : Bool)
-    → blockers_of (conflicts (if exclusive then Exclusive else Shared) handle at count) (ranges_on v stream) ≡ lock_blockers v handle stream at count exclusive
+    → range_blockers (conflicts (if exclusive then Exclusive else Shared) handle at count) (ranges_on v stream) ≡ lock_blockers v handle stream at count exclusive
 lock_found v handle stream at count true = blockers-found (conflicts Exclusive handle at count) (conflicts_with handle at count true) (locks_on v stream) (λ _. refl)
 lock_found v handle stream at count false = blockers-found (conflicts Shared handle at count) (conflicts_with handle at count false) (locks_on v stream) (λ _. refl)
 

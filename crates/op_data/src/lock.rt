@@ -18,7 +18,7 @@ use volume_state::{Class, HandleSet, Tried, Volume};
 
 // The range that a call asks to lock, exclusively or else shared, and whether it waits.
 #[derive(Clone, Copy, Debug)]
-struct Range {
+struct LockRange {
     at: u64,
     count: u64,
     exclusive: bool,
@@ -108,7 +108,7 @@ fn passes_top(at: u64, count: u64) -> bool
 
 // Locks through the handle of this number.
 #[tactic(auto, using(crate::proofs::HandleLaws::stream_lives), unfolding(fsa_model::specs::Locking::lock_at, fsa_model::specs::Locking::lock_by, fsa_model::specs::Locking::lock_stream))]
-fn lock_at(alloc: Global, volume: &mut Volume, id: u64, range: Range) -> Tried
+fn lock_at(alloc: Global, volume: &mut Volume, id: u64, range: LockRange) -> Tried
     requires may { MayLock volume.old.content }
     ensures leaves { Leaves (lock_at volume.old.content id range.at range.count range.exclusive range.wait) volume.old volume.new result }
 {
@@ -140,7 +140,7 @@ fn lock_at(alloc: Global, volume: &mut Volume, id: u64, range: Range) -> Tried
 
 // One try of a lock.
 #[tactic(auto, unfolding(fsa_model::specs::Locking::try_lock))]
-fn lock(alloc: Global, volume: &mut Volume, client: u32, handle: u32, range: Range) -> Tried
+fn lock(alloc: Global, volume: &mut Volume, client: u32, handle: u32, range: LockRange) -> Tried
     requires may { MayLock volume.old.content }
     ensures leaves { Leaves (try_lock volume.old.content client handle range.at range.count range.exclusive range.wait) volume.old volume.new result }
 {
@@ -175,7 +175,7 @@ pub fn try_lock(alloc: Global, volume: &mut Volume, call: &Call, _turn: u64) -> 
     else {
         unreachable!()
     };
-    let range = Range {
+    let range = LockRange {
         at: *at,
         count: *count,
         exclusive: *exclusive,

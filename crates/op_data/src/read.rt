@@ -19,7 +19,7 @@ use volume_state::{Class, HandleSet, Need, Tried, Volume};
 
 // A read of a range of a stream, by a handle with this key.
 #[derive(Clone, Copy, Debug)]
-struct Reading {
+struct ReadRange {
     handle: u64,
     key: u64,
     stream: u64,
@@ -50,7 +50,7 @@ fn part_at(
 
 // The read gives these bytes, or is past the end where there are none.
 #[tactic(auto, using(crate::proofs::ReadLaws::reads_part))]
-fn read_bytes(volume: &Volume, reading: Reading, part: Option<Bytes>) -> Result<Body, Status>
+fn read_bytes(volume: &Volume, reading: ReadRange, part: Option<Bytes>) -> Result<Body, Status>
     requires part { part ≡ part_at volume.now.content reading.stream reading.at reading.count }
     ensures { Ends (read_bytes volume.now.content reading.stream reading.at reading.count) volume.now.content result }
 {
@@ -63,7 +63,7 @@ fn read_bytes(volume: &Volume, reading: Reading, part: Option<Bytes>) -> Result<
 
 // The read gives these bytes unless a lock is in the way.
 #[tactic(auto, unfolding(fsa_model::specs::Read::read_unlocked))]
-fn read_unlocked(volume: &Volume, reading: Reading, part: Option<Bytes>) -> Result<Body, Status>
+fn read_unlocked(volume: &Volume, reading: ReadRange, part: Option<Bytes>) -> Result<Body, Status>
     requires lives { IsTrue (lives volume.now.content.streams reading.stream) }
     requires part { part ≡ part_at volume.now.content reading.stream reading.at reading.count }
     ensures { Ends (read_unlocked volume.now.content reading.handle reading.stream reading.at reading.count) volume.now.content result }
@@ -80,7 +80,7 @@ fn read_unlocked(volume: &Volume, reading: Reading, part: Option<Bytes>) -> Resu
 #[tactic(auto, unfolding(fsa_model::specs::Read::read_range))]
 fn read_in_room(
     volume: &mut Volume,
-    reading: Reading,
+    reading: ReadRange,
     part: Option<Bytes>,
     blockers: BlockerList,
 ) -> Tried
@@ -91,7 +91,7 @@ fn read_in_room(
     ensures leaves { Leaves (read_range volume.old.content reading.handle reading.key reading.stream reading.at reading.count) volume.old volume.new result }
 {
     let mut blockers = blockers;
-    let Reading {
+    let ReadRange {
         handle,
         key,
         stream,
@@ -109,7 +109,7 @@ fn read_in_room(
 }
 
 // The read of a range.
-fn read_range(alloc: Global, volume: &mut Volume, reading: Reading) -> Tried
+fn read_range(alloc: Global, volume: &mut Volume, reading: ReadRange) -> Tried
     requires lives { IsTrue (lives volume.old.content.streams reading.stream) }
     requires may { MayUse volume.old.content }
     ensures leaves { Leaves (read_range volume.old.content reading.handle reading.key reading.stream reading.at reading.count) volume.old volume.new result }
@@ -144,7 +144,7 @@ fn read_at(alloc: Global, volume: &mut Volume, id: u64, at: u64, count: u32) -> 
     if count == 0 {
         return Tried::succeeds(Body::Got(Bytes::from(Vec::new(alloc))));
     }
-    let reading = Reading {
+    let reading = ReadRange {
         handle: id,
         key: row.key,
         stream,

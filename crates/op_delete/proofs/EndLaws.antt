@@ -14,7 +14,7 @@ use Rattle.fsa_model.specs.Sound.{ArePending}
 use Rattle.fsa_model.specs.Volume.{Pending, Volume}
 use Rattle.fsa_model.proofs.RowLaws.{any-weaker, find-any, lives-found, none-all, option_cases}
 use Rattle.volume_state.proofs.OpenLaws.{find-passes}
-use Rattle.op_delete.specs.Ends.{ends_call, end_status, to_end, with_ended, with_row_ended, with_turn_ended}
+use Rattle.op_delete.specs.Ends.{ends_call, end_status, to_end, with_ending, with_row_ended, with_turn_ended}
 use Rattle.op_delete.specs.declared.ends.Ending.{Ending}
 use Rattle.op_delete.proofs.ListLaws.{Picks, alone-pairs, by_key, fewer, filter-agree, filter-both, filter-none, find-row, first-picked, only-found}
 
@@ -171,7 +171,7 @@ to_end-last ending v after none =
 
 -- the calls of turns up to `after` have ended, and the others are still to end
 pub record IsEnding (ending : Ending) (old now : Volume) (after : ℕ) : Type 0 where
-  pub goes : with_calls_ended (end_status ending) (to_end ending after now) now ≡ with_ended ending old
+  pub goes : with_calls_ended (end_status ending) (to_end ending after now) now ≡ with_ending ending old
   pub rest : now ≡ record old { pending = now.pending; ended = now.ended }
 
 -- the next turn is the least above `after`
@@ -224,7 +224,7 @@ IsEnding-turn ending old now new after turn walk sound next above live is same =
 }
 
 -- no later turn is left
-pub IsEnding-last : (ending : Ending) (old now : Volume) (after : ℕ) → IsEnding ending old now after → list_any (λ entry. nat_lt after entry.0) now.pending ≡ false → now ≡ with_ended ending old
+pub IsEnding-last : (ending : Ending) (old now : Volume) (after : ℕ) → IsEnding ending old now after → list_any (λ entry. nat_lt after entry.0) now.pending ≡ false → now ≡ with_ending ending old
 IsEnding-last ending old now after walk none = sym (to_end-last ending now after none) ∙ walk.goes
 
 -- ---- the first of those that end
@@ -273,7 +273,7 @@ ends-under ending v turn sound there = elim (option_cases (row_of v.pending turn
     ]
 
 ended-row : (ending : Ending) (v : Volume) (turn : ℕ) (row : Pending) → ArePending v.clients v.pending → row_of v.pending turn ≡ Some row → ends_call ending row.call ≡ true
-    → list_any (λ entry. ends_call ending entry.1.call && nat_lt entry.0 turn) v.pending ≡ false → with_ended ending (with_row_ended ending row v) ≡ with_ended ending v
+    → list_any (λ entry. ends_call ending entry.1.call && nat_lt entry.0 turn) v.pending ≡ false → with_ending ending (with_row_ended ending row v) ≡ with_ending ending v
 ended-row ending v turn row sound found ends least =
     rw ends (sym (ap (λ (calls : List (ℕ × Pending)). with_calls_ended (end_status ending) calls v)
     (first-picked (λ (entry : ℕ × Pending). entry.0) (λ entry. ends_call ending entry.1.call)
@@ -314,7 +314,7 @@ ended-row ending v turn row sound found ends least =
 
 -- once the first of those that end has ended, the others are to end, and there are fewer
 pub record IsFewer (ending : Ending) (old new : Volume) : Type 0 where
-  pub goes : with_ended ending new ≡ with_ended ending old
+  pub goes : with_ending ending new ≡ with_ending ending old
   pub less : length new.pending < length old.pending
 
 pub ended-first : (ending : Ending) (old new : Volume) (turn : ℕ) → ArePending old.clients old.pending → list_any (λ entry. entry.0 == turn && ends_call ending entry.1.call) old.pending ≡ true
@@ -324,13 +324,13 @@ ended-first ending old new turn sound there least is =
     let row : Pending = under.0 in
     let ended : new ≡ with_row_ended ending row old = is ∙ rw under.1 refl in
     record {
-      goes = ap (with_ended ending) ended ∙ ended-row ending old turn row sound under.1 under.2 least;
+      goes = ap (with_ending ending) ended ∙ ended-row ending old turn row sound under.1 under.2 least;
       less = rw (ended, under.2) (fewer (λ (entry : ℕ × Pending). entry.0 == turn) (λ entry. not (is_call row.call.client row.call.number entry.1)) old.pending (turn, row) (find-row old.pending turn row under.1)
           (not_from_true _ (is_call-own row)));
     }
 
 -- and where none is left that ends, all have ended
-pub ended-none : (ending : Ending) (v : Volume) → list_any (λ entry. ends_call ending entry.1.call) v.pending ≡ false → with_ended ending v ≡ v
+pub ended-none : (ending : Ending) (v : Volume) → list_any (λ entry. ends_call ending entry.1.call) v.pending ≡ false → with_ending ending v ≡ v
 ended-none ending v none =
     ap (λ (calls : List (ℕ × Pending)). with_calls_ended (end_status ending) (in_order (by_key (λ (entry : ℕ × Pending). entry.0)) calls) v)
     (filter-none (λ entry. ends_call ending entry.1.call) v.pending (none-all (λ (entry : ℕ × Pending). ends_call ending entry.1.call) v.pending none))

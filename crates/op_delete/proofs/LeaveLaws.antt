@@ -14,7 +14,7 @@ use Rattle.fsa_model.specs.Volume.{Handle, Volume}
 use Rattle.fsa_model.proofs.RowLaws.{find-all, find-any, lives-found, none-all, number_of-none, option_cases, row_of-here}
 use Rattle.volume_state.proofs.OpenLaws.{IfSome-map, find-passes}
 use Rattle.volume_state.specs.VolumeView.{Spare}
-use Rattle.op_delete.specs.Ends.{with_ended}
+use Rattle.op_delete.specs.Ends.{with_ending}
 use Rattle.op_delete.specs.declared.ends.Ending.TheVariants.{OfClient}
 use Rattle.op_delete.specs.declared.leave.Sum.{Sum}
 use Rattle.op_delete.specs.Room.{CountsOne, HasRoomForAll, HasSweepRoom, IsFirst, KeepsRoom, NotesTakeNoMore, all_dirs, all_units, close_dirs, close_units, later_handles}
@@ -555,7 +555,7 @@ IsSummed-last v client sum summed none =
 
 -- ---- a client that is gone
 
-pub with_client_gone-steps : (v ended closed gone : Volume) (client : ℕ) → ended ≡ with_ended (OfClient client) v → ended.handles ≡ v.handles
+pub with_client_gone-steps : (v ended closed gone : Volume) (client : ℕ) → ended ≡ with_ending (OfClient client) v → ended.handles ≡ v.handles
     → closed ≡ with_all_closed (handles_of_client ended client) ended → gone ≡ with_left closed client → gone ≡ with_client_gone v client
 unfolding with_client_gone
 with_client_gone-steps v ended closed gone client ends handles closes leaves =

@@ -25,8 +25,8 @@ end_status (OfHandle client handle) what = closed_status what
 end_status (OfClient client) what = Cancelled
 
 -- all of them ended, in order of turns
-abbrev pub with_ended : Ending → Volume → Volume
-with_ended ending v = with_calls_ended (end_status ending) (pending_by_turn (λ pending. ends_call ending pending.call) v) v
+abbrev pub with_ending : Ending → Volume → Volume
+with_ending ending v = with_calls_ended (end_status ending) (pending_by_turn (λ pending. ends_call ending pending.call) v) v
 
 -- the call that is pending under this turn ended, where it is one of them
 abbrev pub with_row_ended : Ending → Pending → Volume → Volume

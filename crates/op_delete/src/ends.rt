@@ -5,7 +5,7 @@ ghost use Rattle.std.specs.List.{list_any};
 ghost use Rattle.fsa_types.specs.Rows.{lives};
 ghost use Rattle.fsa_model.specs.Close.{closed_status, is_open_or_wait};
 ghost use Rattle.fsa_model.specs.Sound.{ArePending};
-ghost use Rattle.op_delete.specs.Ends.{end_status, ends_call, with_ended, with_turn_ended};
+ghost use Rattle.op_delete.specs.Ends.{end_status, ends_call, with_ending, with_turn_ended};
 ghost use Rattle.op_delete.specs.declared.ends.Ending.TheVariants.{OfHandle};
 ghost use Rattle.volume_state.specs.Room.{KeepsEnds};
 
@@ -121,7 +121,7 @@ fn first_pending(volume: &Volume) -> Option<u64>
 // The calls of this kind end, in order of turns, with a look at each that is pending.
 fn end_each(volume: &mut Volume, ending: Ending)
     requires room { length volume.old.content.pending ≤ volume.old.spare.ends }
-    ensures content { volume.new.content ≡ with_ended ending volume.old.content }
+    ensures content { volume.new.content ≡ with_ending ending volume.old.content }
     ensures rest { volume.new.content ≡ record volume.old.content { pending = volume.new.content.pending; ended = volume.new.content.ended } }
     ensures others { volume.new.spare ≡ record volume.old.spare { ends = volume.new.spare.ends; pending = volume.new.spare.pending; blockers = volume.new.spare.blockers } }
     ensures count { volume.old.spare.ends + length volume.new.content.pending ≤ volume.new.spare.ends + length volume.old.content.pending }
@@ -141,7 +141,7 @@ fn end_each(volume: &mut Volume, ending: Ending)
 // The calls that name a handle which is closed end, in order of turns. No others are looked at.
 fn end_on(volume: &mut Volume, client: u32, handle: u32)
     requires room { length volume.old.content.pending ≤ volume.old.spare.ends }
-    ensures content { volume.new.content ≡ with_ended (OfHandle client handle) volume.old.content }
+    ensures content { volume.new.content ≡ with_ending (OfHandle client handle) volume.old.content }
     ensures rest { volume.new.content ≡ record volume.old.content { pending = volume.new.content.pending; ended = volume.new.content.ended } }
     ensures others { volume.new.spare ≡ record volume.old.spare { ends = volume.new.spare.ends; pending = volume.new.spare.pending; blockers = volume.new.spare.blockers } }
     ensures count { volume.old.spare.ends + length volume.new.content.pending ≤ volume.new.spare.ends + length volume.old.content.pending }
@@ -156,7 +156,7 @@ fn end_on(volume: &mut Volume, client: u32, handle: u32)
 /// are pending calls. Those that name a handle are found without a look at the others.
 pub fn end_calls(volume: &mut Volume, ending: Ending)
     requires room { length volume.old.content.pending ≤ volume.old.spare.ends }
-    ensures content { volume.new.content ≡ with_ended ending volume.old.content }
+    ensures content { volume.new.content ≡ with_ending ending volume.old.content }
     ensures rest { volume.new.content ≡ record volume.old.content { pending = volume.new.content.pending; ended = volume.new.content.ended } }
     ensures others { volume.new.spare ≡ record volume.old.spare { ends = volume.new.spare.ends; pending = volume.new.spare.pending; blockers = volume.new.spare.blockers } }
     ensures count { volume.old.spare.ends + length volume.new.content.pending ≤ volume.new.spare.ends + length volume.old.content.pending }

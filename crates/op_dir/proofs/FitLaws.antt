@@ -14,7 +14,7 @@ use Rattle.fsa_model.specs.QueryDir.{DirectoryEntry, entry_row, entry_rows, how_
 use Rattle.fsa_model.specs.Volume.{Cursor, Volume}
 use Rattle.op_dir.specs.Filling.{Fills, padded, padded_size}
 use Rattle.op_dir.specs.Listing.{Lists}
-use Rattle.op_dir.specs.Places.{entry_at}
+use Rattle.op_dir.specs.Places.{place_entry}
 use Rattle.op_dir.specs.declared.listing.Listing.{Listing}
 use Rattle.op_dir.specs.declared.listing.Listing.TheVariants.{NoneLeft, NoneFits, Given}
 use Rattle.op_dir.specs.declared.places.Place.{Place}
@@ -160,21 +160,21 @@ slice_get-mapped f (y ∷ ys) (suc i) x d within is = slice_get-mapped f ys i x 
 
 -- the enumeration stands behind the last entry that was given
 pub place-given : (v : Volume) (dir : ℕ) (cursor : Cursor) (places : List Place) (given : ℕ) (place d : Place) → given - 1 < length places → place ≡ get_or places (given - 1) d
-    → place_after cursor (map (entry_at v dir) places) given ≡ (entry_at v dir place).place
+    → place_after cursor (map (place_entry v dir) places) given ≡ (place_entry v dir place).place
 place-given v dir cursor places given place d within is =
-    ap (λ (o : Option DirectoryEntry). option_map_or (λ entry. entry.place) o cursor) (slice_get-mapped (entry_at v dir) places (given - 1) place d within is)
+    ap (λ (o : Option DirectoryEntry). option_map_or (λ entry. entry.place) o cursor) (slice_get-mapped (place_entry v dir) places (given - 1) place d within is)
 
-pub none-given : (v : Volume) (dir : ℕ) (kind : DirKind) (places : List Place) (room count : ℕ) → (length places == 0) ≡ false → count ≡ how_many_fit v kind (map (entry_at v dir) places) room → count ≡ 0
-    → (cursor : Cursor) → Lists v kind cursor (map (entry_at v dir) places) room NoneFits
-none-given v dir kind places room count some is none cursor = (ap (λ n. n == 0) (length-map places (entry_at v dir)) ∙ some, ap (λ n. n == 0) (sym is ∙ none))
+pub none-given : (v : Volume) (dir : ℕ) (kind : DirKind) (places : List Place) (room count : ℕ) → (length places == 0) ≡ false → count ≡ how_many_fit v kind (map (place_entry v dir) places) room → count ≡ 0
+    → (cursor : Cursor) → Lists v kind cursor (map (place_entry v dir) places) room NoneFits
+none-given v dir kind places room count some is none cursor = (ap (λ n. n == 0) (length-map places (place_entry v dir)) ∙ some, ap (λ n. n == 0) (sym is ∙ none))
 
 pub some-given : (v : Volume) (dir : ℕ) (kind : DirKind) (places : List Place) (room count : ℕ) (place d : Place) (after : Stand) (made : List ℕ) → (length places == 0) ≡ false
-    → count ≡ how_many_fit v kind (map (entry_at v dir) places) room → (count ≡ 0 → ⊥) → count - 1 < length places → place ≡ get_or places (count - 1) d
-    → cursor_of after ≡ (entry_at v dir place).place → made ≡ bytes (pack_kind kind) (take count (entry_rows v (map (entry_at v dir) places)))
-    → (cursor : Cursor) → Lists v kind cursor (map (entry_at v dir) places) room (Given after made)
+    → count ≡ how_many_fit v kind (map (place_entry v dir) places) room → (count ≡ 0 → ⊥) → count - 1 < length places → place ≡ get_or places (count - 1) d
+    → cursor_of after ≡ (place_entry v dir place).place → made ≡ bytes (pack_kind kind) (take count (entry_rows v (map (place_entry v dir) places)))
+    → (cursor : Cursor) → Lists v kind cursor (map (place_entry v dir) places) room (Given after made)
 some-given v dir kind places room count place d after made some is more within there stands packed cursor = (
-  ap (λ n. n == 0) (length-map places (entry_at v dir)) ∙ some,
+  ap (λ n. n == 0) (length-map places (place_entry v dir)) ∙ some,
   ap (λ n. n == 0) (sym is) ∙ ne_eqb count 0 more,
-  stands ∙ sym (place-given v dir cursor places count place d within there) ∙ ap (place_after cursor (map (entry_at v dir) places)) is,
-  packed ∙ ap (λ n. bytes (pack_kind kind) (take n (entry_rows v (map (entry_at v dir) places)))) is,
+  stands ∙ sym (place-given v dir cursor places count place d within there) ∙ ap (place_after cursor (map (place_entry v dir) places)) is,
+  packed ∙ ap (λ n. bytes (pack_kind kind) (take n (entry_rows v (map (place_entry v dir) places)))) is,
 )

@@ -16,10 +16,10 @@ abbrev pub dot_dot_entry : Volume → ℕ → DirectoryEntry
 dot_dot_entry v dir = record { place = DotDot; name = 0x2E ∷ 0x2E ∷ []; file = parent_directory v dir }
 
 -- the entry at a place; for a number that no link has, `.`
-abbrev pub entry_at : Volume → ℕ → Place → DirectoryEntry
-entry_at v dir place.Dot = dot_entry dir
-entry_at v dir place.DotDot = dot_dot_entry v dir
-entry_at v dir (place.Link id) = option_map_or (λ row. link_entry (id, row)) (row_of v.links id) (dot_entry dir)
+abbrev pub place_entry : Volume → ℕ → Place → DirectoryEntry
+place_entry v dir place.Dot = dot_entry dir
+place_entry v dir place.DotDot = dot_dot_entry v dir
+place_entry v dir (place.Link id) = option_map_or (λ row. link_entry (id, row)) (row_of v.links id) (dot_entry dir)
 
 -- an entry is still to come behind the cursor, and matches
 abbrev pub is_wanted : Volume → List ℕ → Cursor → DirectoryEntry → Bool

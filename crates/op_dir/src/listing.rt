@@ -6,7 +6,7 @@ ghost use Rattle.fsa_types.specs.Packing.{head_size, packed};
 ghost use Rattle.fsa_model.specs.QueryDir.{entry_rows, left_to_list};
 ghost use Rattle.fsa_model.specs.Volume.{Cursor as Stand};
 ghost use Rattle.op_dir.specs.Listing.{Lists};
-ghost use Rattle.op_dir.specs.Places.{entry_at};
+ghost use Rattle.op_dir.specs.Places.{place_entry};
 ghost use Rattle.volume_rows.specs.Cursors.{cursor_of};
 
 use crate::places::{Place, places_left};
@@ -38,8 +38,8 @@ fn pack_places(
     rows: &[DirRow],
     room: u32,
 ) -> Result<Listing, NoMemory>
-    requires rows { map (packed (pack_kind kind)) rows.now ≡ map (packed (pack_kind kind)) (entry_rows volume.now.content (map (entry_at volume.now.content dir) places.now)) }
-    ensures { IfOk result (λ listing. (cursor : Stand) → Lists volume.now.content kind cursor (map (entry_at volume.now.content dir) places.now) room listing) }
+    requires rows { map (packed (pack_kind kind)) rows.now ≡ map (packed (pack_kind kind)) (entry_rows volume.now.content (map (place_entry volume.now.content dir) places.now)) }
+    ensures { IfOk result (λ listing. (cursor : Stand) → Lists volume.now.content kind cursor (map (place_entry volume.now.content dir) places.now) room listing) }
 {
     if places.is_empty() {
         return Ok(Listing::NoneLeft);

@@ -7,7 +7,7 @@ ghost use Rattle.fsa_types.specs.Packing.{packed};
 ghost use Rattle.fsa_model.specs.QueryDir.{dots, entry_rows, is_still_to_come, left_to_list, link_entry, listed_links, parent_directory};
 ghost use Rattle.fsa_model.specs.Volume.{After};
 ghost use Rattle.op_dir.specs.Filling.{Fills, padded_size};
-ghost use Rattle.op_dir.specs.Places.{dot_dot_entry, dot_entry, entry_at, is_listed, is_wanted};
+ghost use Rattle.op_dir.specs.Places.{dot_dot_entry, dot_entry, place_entry, is_listed, is_wanted};
 ghost use Rattle.volume_rows.specs.Cursors.{cursor_of};
 ghost use Rattle.volume_state.specs.Children.{links_under};
 
@@ -86,7 +86,7 @@ fn dots_left(
     expression: &Expression,
     cursor: &Cursor,
 ) -> Result<Vec<Place>, NoMemory>
-    ensures { IfOk result (λ places. map (entry_at volume.now.content dir) places.items ≡ filter (is_wanted volume.now.content expression.now (cursor_of cursor.now)) (dots volume.now.content dir)) }
+    ensures { IfOk result (λ places. map (place_entry volume.now.content dir) places.items ≡ filter (is_wanted volume.now.content expression.now (cursor_of cursor.now)) (dots volume.now.content dir)) }
 {
     let mut places = Vec::new(alloc);
     if dir == volume.root() {
@@ -136,7 +136,7 @@ fn push_link(
     places: &mut Vec<Place>,
     rows: &mut Vec<DirRow>,
 ) -> Result<u32, NoMemory>
-    ensures entries { OnOk result (map (entry_at volume.now.content dir) places.new.items ≡ map (entry_at volume.now.content dir) places.old.items ++ map link_entry (filter (is_listed volume.now.content expression.now) (links_under volume.now.content (id ∷ [])))) }
+    ensures entries { OnOk result (map (place_entry volume.now.content dir) places.new.items ≡ map (place_entry volume.now.content dir) places.old.items ++ map link_entry (filter (is_listed volume.now.content expression.now) (links_under volume.now.content (id ∷ [])))) }
     ensures rows { OnOk result (map (packed (pack_kind kind)) rows.new.items ≡ map (packed (pack_kind kind)) rows.old.items ++ map (packed (pack_kind kind)) (entry_rows volume.now.content (map link_entry (filter (is_listed volume.now.content expression.now) (links_under volume.now.content (id ∷ [])))))) }
     ensures left { IfOk result (λ behind. behind ≡ left - padded_size (pack_kind kind) (map link_entry (filter (is_listed volume.now.content expression.now) (links_under volume.now.content (id ∷ []))))) }
 {
@@ -166,9 +166,9 @@ fn push_links(
     places: &mut Vec<Place>,
     rows: &mut Vec<DirRow>,
 ) -> Result<(), NoMemory>
-    requires rows { map (packed (pack_kind kind)) rows.old.items ≡ map (packed (pack_kind kind)) (entry_rows volume.now.content (map (entry_at volume.now.content dir) places.old.items)) }
-    ensures fills { OnOk result (Fills (pack_kind kind) room (map (entry_at volume.now.content dir) places.new.items) (map (entry_at volume.now.content dir) places.old.items ++ map link_entry (filter (is_listed volume.now.content expression.now) (links_under volume.now.content links.now)))) }
-    ensures rows { OnOk result (map (packed (pack_kind kind)) rows.new.items ≡ map (packed (pack_kind kind)) (entry_rows volume.now.content (map (entry_at volume.now.content dir) places.new.items))) }
+    requires rows { map (packed (pack_kind kind)) rows.old.items ≡ map (packed (pack_kind kind)) (entry_rows volume.now.content (map (place_entry volume.now.content dir) places.old.items)) }
+    ensures fills { OnOk result (Fills (pack_kind kind) room (map (place_entry volume.now.content dir) places.new.items) (map (place_entry volume.now.content dir) places.old.items ++ map link_entry (filter (is_listed volume.now.content expression.now) (links_under volume.now.content links.now)))) }
+    ensures rows { OnOk result (map (packed (pack_kind kind)) rows.new.items ≡ map (packed (pack_kind kind)) (entry_rows volume.now.content (map (place_entry volume.now.content dir) places.new.items))) }
 {
     let mut left = room;
     'links: for id in links {
@@ -193,8 +193,8 @@ pub(crate) fn places_left(
     cursor: &Cursor,
     room: u32,
 ) -> Result<(Vec<Place>, Vec<DirRow>), NoMemory>
-    ensures fills { IfOk result (λ made. Fills (pack_kind kind) room (map (entry_at volume.now.content dir) made.0.items) (left_to_list volume.now.content dir expression.now (cursor_of cursor.now))) }
-    ensures rows { IfOk result (λ made. map (packed (pack_kind kind)) made.1.items ≡ map (packed (pack_kind kind)) (entry_rows volume.now.content (map (entry_at volume.now.content dir) made.0.items))) }
+    ensures fills { IfOk result (λ made. Fills (pack_kind kind) room (map (place_entry volume.now.content dir) made.0.items) (left_to_list volume.now.content dir expression.now (cursor_of cursor.now))) }
+    ensures rows { IfOk result (λ made. map (packed (pack_kind kind)) made.1.items ≡ map (packed (pack_kind kind)) (entry_rows volume.now.content (map (place_entry volume.now.content dir) made.0.items))) }
 {
     let mut places = dots_left(alloc, volume, dir, expression, cursor)?;
     let mut rows = entry_rows(alloc, volume, dir, kind, &places)?;

@@ -5,7 +5,7 @@ ghost use Rattle.fsa_types.specs.PackedRows.{pack_kind};
 ghost use Rattle.fsa_types.specs.Packing.{packed};
 ghost use Rattle.fsa_model.specs.QueryDir.{entry_row, entry_rows};
 ghost use Rattle.fsa_model.specs.Shown.{listed_numbers};
-ghost use Rattle.op_dir.specs.Places.{entry_at};
+ghost use Rattle.op_dir.specs.Places.{place_entry};
 ghost use Rattle.volume_rows.specs.Cursors.{cursor_of};
 
 use crate::places::{DOT, DOT_DOT, Place, parent_directory};
@@ -81,7 +81,7 @@ fn entry_row(
     kind: DirKind,
     place: Place,
 ) -> Result<DirRow, NoMemory>
-    ensures { IfOk result (λ row. packed (pack_kind kind) row ≡ packed (pack_kind kind) (entry_row volume.now.content (entry_at volume.now.content dir place))) }
+    ensures { IfOk result (λ row. packed (pack_kind kind) row ≡ packed (pack_kind kind) (entry_row volume.now.content (place_entry volume.now.content dir place))) }
 {
     match place {
         Place::Dot => row_for(alloc, volume, kind, dir, &DOT),
@@ -102,7 +102,7 @@ pub(crate) fn entry_rows(
     kind: DirKind,
     places: &[Place],
 ) -> Result<Vec<DirRow>, NoMemory>
-    ensures { IfOk result (λ rows. map (packed (pack_kind kind)) rows.items ≡ map (packed (pack_kind kind)) (entry_rows volume.now.content (map (entry_at volume.now.content dir) places.now))) }
+    ensures { IfOk result (λ rows. map (packed (pack_kind kind)) rows.items ≡ map (packed (pack_kind kind)) (entry_rows volume.now.content (map (place_entry volume.now.content dir) places.now))) }
 {
     let mut rows = Vec::new(alloc);
     for place in places {
@@ -118,7 +118,7 @@ pub(crate) fn cursor_after(
     dir: u64,
     place: Place,
 ) -> Result<Cursor, NoMemory>
-    ensures { IfOk result (λ cursor. cursor_of cursor ≡ (entry_at volume.now.content dir place).place) }
+    ensures { IfOk result (λ cursor. cursor_of cursor ≡ (place_entry volume.now.content dir place).place) }
 {
     let _dir = dir;
     match place {

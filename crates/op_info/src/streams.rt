@@ -10,12 +10,12 @@ ghost use Rattle.volume_state.specs.Tried.{Leaves};
 
 use fsa_types::{Body, Bytes, Name, NoMemory, PackKind, Reply, Status};
 use op_parts::{length_shown, space_shown};
-use pack_info::{StreamRow, pack_streams};
+use pack_info::{StreamInfoRow, pack_streams};
 use std::alloc::Global;
 use volume_state::{HandleRow, Tried, Volume};
 
 // The row of a stream, which there has to be.
-fn row_of_stream(alloc: Global, volume: &Volume, stream: u64) -> Result<StreamRow, NoMemory>
+fn row_of_stream(alloc: Global, volume: &Volume, stream: u64) -> Result<StreamInfoRow, NoMemory>
     requires lives { IsTrue (lives volume.now.content.streams stream) }
     ensures { IfOk result (λ row. IfSome (row_of volume.now.content.streams stream) (λ s. row ≡ stream_row (length s.bytes) (space_shown volume.now.content (Some stream)) s.name)) }
 {
@@ -25,7 +25,7 @@ fn row_of_stream(alloc: Global, volume: &Volume, stream: u64) -> Result<StreamRo
         unreachable!()
     };
     let name = Name::copy_of(alloc, info.name.units())?;
-    Ok(StreamRow { length, room, name })
+    Ok(StreamInfoRow { length, room, name })
 }
 
 // The units of the name of a stream, which there has to be.
@@ -40,7 +40,7 @@ fn units_of(volume: &Volume, stream: u64) -> &[u16]
 }
 
 // The row of the default stream, where there is one.
-fn default_row(alloc: Global, volume: &Volume, file: u64) -> Result<Vec<StreamRow>, NoMemory>
+fn default_row(alloc: Global, volume: &Volume, file: u64) -> Result<Vec<StreamInfoRow>, NoMemory>
     ensures { IfOk result (λ rows. IsWalked volume.now.content file rows.items []) }
 {
     let mut rows = Vec::new(alloc);
@@ -55,7 +55,7 @@ fn default_row(alloc: Global, volume: &Volume, file: u64) -> Result<Vec<StreamRo
 }
 
 // The rows of all streams of a file, in the order of their names.
-fn stream_rows(alloc: Global, volume: &Volume, file: u64) -> Result<Vec<StreamRow>, NoMemory>
+fn stream_rows(alloc: Global, volume: &Volume, file: u64) -> Result<Vec<StreamInfoRow>, NoMemory>
     ensures { IfOk result (λ rows. rows.items ≡ stream_rows volume.now.content file) }
 {
     let mut rows = default_row(alloc, volume, file)?;

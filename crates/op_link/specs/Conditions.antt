@@ -14,7 +14,7 @@ use Rattle.fsa_model.specs.Rename.{replaced_link}
 use Rattle.fsa_model.specs.Replacement.{Naming, new_name}
 use Rattle.fsa_model.specs.Volume.{File, Link, Handle, Volume}
 use Rattle.volume_state.specs.Living.{CanHold}
-use Rattle.volume_state.specs.Paths.{units_in, dirs_in}
+use Rattle.volume_state.specs.Paths.{units_noted_in, dirs_in}
 use Rattle.volume_state.specs.VolumeView.{Spare, room_for}
 
 -- numbers are left for a link and for breaks
@@ -26,14 +26,14 @@ pub record MayName (v : Volume) : Type 0 where
 pub record HasNameRoom (v : Volume) (spare : Spare) (dir count : ℕ) : Type 0 where
   pub links : 1 ≤ room_for spare.links dir
   pub changes : 1 ≤ spare.changes
-  pub units : units_in v dir count ≤ spare.units
+  pub units : units_noted_in v dir count ≤ spare.units
   pub dirs : dirs_in v dir ≤ spare.dirs
 
 -- so it can, and another link can be noted before
 pub record HasReplaceRoom (v : Volume) (spare : Spare) (replaced dir count : ℕ) : Type 0 where
   pub links : 1 ≤ room_for spare.links dir
   pub changes : 2 ≤ spare.changes
-  pub units : units_noted v replaced None + units_in v dir count ≤ spare.units
+  pub units : units_noted v replaced None + units_noted_in v dir count ≤ spare.units
   pub dirs : dirs_noted v replaced None + dirs_in v dir ≤ spare.dirs
 
 -- the link has this name in this directory, and isn't a directory's
@@ -45,7 +45,7 @@ pub record IsReplaceable (v : Volume) (replaced dir : ℕ) (name : List ℕ) : T
 pub record HasRenameRoom (v : Volume) (spare : Spare) (replaced : Option ℕ) (link dir count : ℕ) : Type 0 where
   pub links : 1 ≤ room_for spare.links dir
   pub changes : 3 ≤ spare.changes
-  pub units : option_map_or (λ r. units_noted v r None) replaced 0 + (units_noted v link None + units_in v dir count) ≤ spare.units
+  pub units : option_map_or (λ r. units_noted v r None) replaced 0 + (units_noted v link None + units_noted_in v dir count) ≤ spare.units
   pub dirs : option_map_or (λ r. dirs_noted v r None) replaced 0 + (dirs_noted v link None + dirs_in v dir) ≤ spare.dirs
 
 -- there is room for so many breaks, one after another, and for the call to be held by one of them; each tells at

@@ -5,7 +5,7 @@ ghost use Rattle.std.specs.Option.{option_map_or};
 ghost use Rattle.fsa_model.specs.Changes.{units_noted, dirs_noted};
 ghost use Rattle.op_link.specs.Conditions.{HasBreaksRoom, HasNameRoom, HasRenameRoom, HasReplaceRoom};
 ghost use Rattle.op_parts.specs.Room.{HasWaitRoom};
-ghost use Rattle.volume_state.specs.Paths.{units_in, dirs_in};
+ghost use Rattle.volume_state.specs.Paths.{units_noted_in, dirs_in};
 ghost use Rattle.volume_state.specs.Room.{KeepsEnds};
 
 use fsa_types::{BlockerList, NoMemory};
@@ -35,7 +35,7 @@ pub fn room_to_add(volume: &mut Volume, dir: u64, units: u64) -> Result<(), NoMe
 
 // The room for a link of this directory, and for a note of it and one of the link that it replaces.
 fn need_to_replace(volume: &Volume, replaced: u64, dir: u64, units: u64) -> Option<Need>
-    ensures units { IfSome result (λ need. need.units ≡ units_noted volume.now.content replaced None + units_in volume.now.content dir units) }
+    ensures units { IfSome result (λ need. need.units ≡ units_noted volume.now.content replaced None + units_noted_in volume.now.content dir units) }
     ensures dirs { IfSome result (λ need. need.dirs ≡ dirs_noted volume.now.content replaced None + dirs_in volume.now.content dir) }
     ensures rows { IfSome result (λ need. (need.links ≡ 1) × (need.parent ≡ dir) × (need.changes ≡ 2) × (need.pending ≡ 0) × (need.ends ≡ 0)) }
 {
@@ -94,7 +94,7 @@ fn need_to_rename(
     units: u64,
     oplocks: u32,
 ) -> Option<Need>
-    ensures units { IfSome result (λ need. need.units ≡ option_map_or (λ r. units_noted volume.now.content r None) replaced 0 + (units_noted volume.now.content link None + units_in volume.now.content dir units)) }
+    ensures units { IfSome result (λ need. need.units ≡ option_map_or (λ r. units_noted volume.now.content r None) replaced 0 + (units_noted volume.now.content link None + units_noted_in volume.now.content dir units)) }
     ensures dirs { IfSome result (λ need. need.dirs ≡ option_map_or (λ r. dirs_noted volume.now.content r None) replaced 0 + (dirs_noted volume.now.content link None + dirs_in volume.now.content dir)) }
     ensures rows { IfSome result (λ need. (need.links ≡ 1) × (need.parent ≡ dir) × (need.changes ≡ 3) × (need.pending ≡ 1) × (need.blockers ≡ oplocks) × (need.ends ≡ 3 * oplocks)) }
 {

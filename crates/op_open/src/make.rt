@@ -13,7 +13,7 @@ ghost use Rattle.volume_state.specs.Room.{KeepsEnds};
 ghost use Rattle.volume_state.specs.VolumeView.{room_for};
 ghost use Rattle.fsa_model.specs.Changes.{units_noted, dirs_noted};
 ghost use Rattle.volume_state.specs.Living.{CanHold, is_link_to};
-ghost use Rattle.volume_state.specs.Paths.{units_in, dirs_in};
+ghost use Rattle.volume_state.specs.Paths.{units_noted_in, dirs_in};
 ghost use Rattle.volume_state.specs.Tried.{Leaves};
 ghost use Rattle.fsa_types.specs.declared.reply.Action.TheVariants as action;
 ghost use Rattle.fsa_types.specs.declared.status.Status.TheVariants as status;
@@ -53,7 +53,7 @@ fn new_file(volume: &Volume, asked: &Asked, directory: bool, attributes: u32) ->
 
 // The room for a file or a directory with its link, so many streams, a handle and a note.
 fn need_to_make(volume: &Volume, dir: u64, name: u64, streams: u32) -> Option<Need>
-    ensures units { IfSome result (λ need. need.units ≡ units_in volume.now.content dir name) }
+    ensures units { IfSome result (λ need. need.units ≡ units_noted_in volume.now.content dir name) }
     ensures dirs { IfSome result (λ need. need.dirs ≡ dirs_in volume.now.content dir) }
     ensures rows { IfSome result (λ need. (need.files ≡ 1) × (need.links ≡ 1) × (need.parent ≡ dir) × (need.streams ≡ streams) × (need.handles ≡ 1) × (need.owners ≡ 1) × (need.changes ≡ 1)) }
 {
@@ -86,7 +86,7 @@ fn put_link(volume: &mut Volume, dir: u64, name: Name, file: FileRow) -> u64
     ensures link { result ≡ volume.old.content.last_link + 1 }
     ensures lives { IsTrue (lives volume.new.content.links result) }
     ensures directory { file.directory ≡ true → IsTrue (is_link_of_directory volume.new.content.files volume.new.content.links result) }
-    ensures units { units_noted volume.new.content result None ≡ units_in volume.old.content dir (length name) }
+    ensures units { units_noted volume.new.content result None ≡ units_noted_in volume.old.content dir (length name) }
     ensures dirs { dirs_noted volume.new.content result None ≡ dirs_in volume.old.content dir }
 {
     let made = volume.add_file(file);
@@ -206,7 +206,7 @@ fn make_plain_file(
 
 // The room for a file with a named stream, which is opened, and a note of each.
 fn need_with_stream(volume: &Volume, dir: u64, name: u64, stream: u64) -> Option<Need>
-    ensures units { IfSome result (λ need. need.units ≡ units_in volume.now.content dir name + units_in volume.now.content dir (name + 1 + stream)) }
+    ensures units { IfSome result (λ need. need.units ≡ units_noted_in volume.now.content dir name + units_noted_in volume.now.content dir (name + 1 + stream)) }
     ensures dirs { IfSome result (λ need. need.dirs ≡ dirs_in volume.now.content dir + dirs_in volume.now.content dir) }
     ensures rows { IfSome result (λ need. (need.files ≡ 1) × (need.links ≡ 1) × (need.parent ≡ dir) × (need.streams ≡ 2) × (need.handles ≡ 1) × (need.owners ≡ 1) × (need.changes ≡ 2)) }
 {

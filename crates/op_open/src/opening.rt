@@ -2,7 +2,7 @@
 
 ghost use Rattle.std.specs.Prelude.{◌≡◌, ℕ, List, [], true, false, ◌||◌, ◌==◌, not, length, option_map, None};
 ghost use Rattle.fsa_types.specs.CaseTable.{same_name};
-ghost use Rattle.fsa_types.specs.Paths.{path_fault, stream_of};
+ghost use Rattle.fsa_types.specs.Paths.{path_fault, stream_part};
 ghost use Rattle.fsa_model.specs.Open.{asks_for_file, has_stream_part, names_stream, overwrites, stream_name, wants_file};
 
 use crate::asked::{Asked, overwrites};
@@ -18,14 +18,14 @@ pub struct Opening<'a> {
 
 impl<'a> Model for Opening<'a> {
     ghost use Rattle.std.specs.Prelude.{◌≡◌, option_map};
-    ghost use Rattle.fsa_types.specs.Paths.{stream_of};
+    ghost use Rattle.fsa_types.specs.Paths.{stream_part};
     ghost use Rattle.fsa_model.specs.Open.{Asked as Asking};
 
     ghost Value = { Asking };
 
     ghost view = { λ o. o.asked.now };
 
-    ghost invariant = { λ o. option_map (λ name. name.now) o.stream ≡ stream_of o.asked.now.path };
+    ghost invariant = { λ o. option_map (λ name. name.now) o.stream ≡ stream_part o.asked.now.path };
 }
 
 impl<'a> Opening<'a> {

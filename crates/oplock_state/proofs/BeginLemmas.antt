@@ -7,7 +7,7 @@ use Rattle.std.specs.Prelude.{◌==◌, filter, fold}
 use Rattle.std.proofs.lemmas.Bool.{cases_Bool, eqb-true}
 use Rattle.std.proofs.lemmas.List.{get_or_default, take_all, take_more}
 use Rattle.std.proofs.lemmas.List.Sums.{fold-append}
-use Rattle.fsa_types.specs.OplockLists.{OplockState, after_breaks, after_effect, effect_on, last_by, left_by}
+use Rattle.fsa_types.specs.OplockLists.{OplockState, after_breaks, after_effect, effect_on, last_by, left_by_effect}
 use Rattle.fsa_types.specs.Oplocks.{Begins, Effect, Ends, Lowers, Oplock, Stays}
 use Rattle.fsa_types.specs.declared.oplock.Class.{Class}
 use Rattle.fsa_model.specs.Volume.{Handle}
@@ -75,7 +75,7 @@ next-at handles kind held chosen place tables last oplock begun within read home
 pub begun-more : (handles : List (ℕ × Handle)) (kind : Class) (held : OplockState) (chosen : List Oplock) (place : ℕ) (tables new : List (ℕ × State)) (last : ℕ) (oplock : Oplock)
     → AreBegun handles kind held chosen place tables last → place < length chosen → oplock ≡ get_or chosen place oplock → AllPairs (λ a b. (a.handle == b.handle) ≡ false) chosen
     → ForSome (home_of_handle handles oplock.handle)
-    (λ home. IsStep tables new home (left_by (effect_on kind oplock) oplock.handle (last + 1) (rows_at tables home)) (last_by (effect_on kind oplock) last) 0)
+    (λ home. IsStep tables new home (left_by_effect (effect_on kind oplock) oplock.handle (last + 1) (rows_at tables home)) (last_by (effect_on kind oplock) last) 0)
     → AreBegun handles kind held chosen (place + 1) new (last_by (effect_on kind oplock) last)
 begun-more handles kind held chosen place tables new last oplock begun within read differ steps =
     elim (option_cases (home_of_handle handles oplock.handle)) [
@@ -93,10 +93,10 @@ begun-more handles kind held chosen place tables new last oplock begun within re
         let done : Effect = effect_on kind oplock in
         let step = steps home found in
         let more = after-more kind held chosen place oplock within read in
-        let local : IsLocal oplock.handle (left_by done oplock.handle (last + 1)) = local-left done oplock.handle (last + 1) in
-        let left : left_by done oplock.handle (last + 1) was.oplocks ≡ (after_breaks kind held (take (place + 1) chosen)).oplocks
-        = ap (λ (n : ℕ). left_by done oplock.handle (n + 1) was.oplocks) begun.number ∙ sym (ap (λ (s : OplockState). s.oplocks) more) in
-        let sorted = sorted-local handles was.oplocks tables new oplock.handle home (last_by done last) 0 (left_by done oplock.handle (last + 1)) local found begun.sorted step in
+        let local : IsLocal oplock.handle (left_by_effect done oplock.handle (last + 1)) = local-left done oplock.handle (last + 1) in
+        let left : left_by_effect done oplock.handle (last + 1) was.oplocks ≡ (after_breaks kind held (take (place + 1) chosen)).oplocks
+        = ap (λ (n : ℕ). left_by_effect done oplock.handle (n + 1) was.oplocks) begun.number ∙ sym (ap (λ (s : OplockState). s.oplocks) more) in
+        let sorted = sorted-local handles was.oplocks tables new oplock.handle home (last_by done last) 0 (left_by_effect done oplock.handle (last + 1)) local found begun.sorted step in
         record {
           sorted = subst (λ (rows : List Oplock). AreSorted handles rows new) left sorted;
           number = ap (λ (n : ℕ). last_by done n) begun.number ∙ sym (ap (λ (s : OplockState). s.last_break) more);

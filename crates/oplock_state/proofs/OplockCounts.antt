@@ -8,7 +8,7 @@ use Rattle.std.proofs.lemmas.List.Elements.{All-push}
 use Rattle.std.proofs.lemmas.List.Quantifiers.{all_pairs_push}
 use Rattle.fsa_types.proofs.RowLemmas.{length-filter_le}
 use Rattle.fsa_types.specs.OplockGrants.{after_answer, after_switches, as_answered}
-use Rattle.fsa_types.specs.OplockLists.{OplockState, after_breaks, after_effect, begun, effect_on, left_by, lowered, without_oplock_of}
+use Rattle.fsa_types.specs.OplockLists.{OplockState, after_breaks, after_effect, break_begun, effect_on, left_by_effect, lowered, without_oplock_of}
 use Rattle.fsa_types.specs.Oplocks.{Begins, Effect, Ends, Lowers, Oplock, Stays, has_read}
 use Rattle.fsa_types.specs.declared.oplock.Class.{Class}
 use Rattle.fsa_types.specs.declared.request.Level.{Level}
@@ -20,10 +20,10 @@ use Rattle.oplock_state.specs.State.{AreMarked, has_oplock}
 pub without-few : (handle : ℕ) (rows : List Oplock) → length (without_oplock_of handle rows) ≤ length rows
 without-few handle rows = length-filter_le (λ (o : Oplock). not (o.handle == handle)) rows
 
-effect-few : (done : Effect) (handle number : ℕ) (rows : List Oplock) → length (left_by done handle number rows) ≤ length rows
+effect-few : (done : Effect) (handle number : ℕ) (rows : List Oplock) → length (left_by_effect done handle number rows) ≤ length rows
 effect-few Stays handle number rows = omega arith
 effect-few Ends handle number rows = without-few handle rows
-effect-few (Begins level) handle number rows = omega (arith, length-map rows (begun handle level number))
+effect-few (Begins level) handle number rows = omega (arith, length-map rows (break_begun handle level number))
 effect-few (Lowers level) handle number rows = omega (arith, length-map rows (lowered handle level))
 
 pub breaks-few : (class : Class) (held : OplockState) (broken : List Oplock) → length (after_breaks class held broken).oplocks ≤ length held.oplocks

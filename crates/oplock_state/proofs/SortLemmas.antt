@@ -9,7 +9,7 @@ use Rattle.std.proofs.lemmas.List.{append-nil}
 use Rattle.std.proofs.lemmas.List.Elements.{All-cons, All-filter, All-map, All-push, filter-append}
 use Rattle.fsa_types.proofs.OplockLemmas.{All-in_order}
 use Rattle.fsa_types.specs.OplockGrants.{after_answer, after_grant, after_switches, as_answered, as_granted, is_of_key, switched_among, target_among}
-use Rattle.fsa_types.specs.OplockLists.{begun, left_by, lowered, without_oplock_of}
+use Rattle.fsa_types.specs.OplockLists.{break_begun, left_by_effect, lowered, without_oplock_of}
 use Rattle.fsa_types.specs.Oplocks.{Begins, Effect, Ends, Lowers, Oplock, Stays, has_read, in_both}
 use Rattle.fsa_types.specs.Rows.{row_of}
 use Rattle.fsa_types.specs.Sorting.{in_order, put_in_order}
@@ -19,7 +19,7 @@ use Rattle.fsa_model.specs.Volume.{Handle}
 use Rattle.fsa_model.proofs.RowLaws.{eqb-swap, find-filter, option_cases}
 use Rattle.oplock_state.specs.Homes.{home_of_handle, home_of_stream, is_home_to}
 use Rattle.oplock_state.specs.State.{State}
-use Rattle.oplock_state.specs.Tables.{AreSorted, AreThere, FitTables, IsStep, is_at, last_at, room_at, rows_at}
+use Rattle.oplock_state.specs.Tables.{AreSorted, AreThere, FitTables, IsStep, is_oplock_of_stream, last_at, room_at, rows_at}
 use Rattle.volume_breaks.proofs.GrantLemmas.{NoneOf, switched-on}
 use Rattle.volume_tables.specs.HandleTable.{stream_of_handle}
 use Rattle.volume_tables.specs.Rooms.{room_in}
@@ -127,13 +127,13 @@ local-map handle f same leaves = record {
       (λ k d within. subst (λ (h : ℕ). IsSome (home_of_handle handles h)) (sym (same (get_or rows k d))) (homes k d within));
 }
 
-pub local-left : (done : Effect) (handle number : ℕ) → IsLocal handle (left_by done handle number)
+pub local-left : (done : Effect) (handle number : ℕ) → IsLocal handle (left_by_effect done handle number)
 local-left Stays handle number = record { sorts = λ handles home rows. refl; stays = λ rows none. refl; keeps = λ other rows differ. refl; homes = λ handles rows homes. homes }
 local-left Ends handle number =
     let one = local-without handle in
     record { sorts = one.sorts; stays = one.stays; keeps = one.keeps; homes = one.homes }
 local-left (Begins level) handle number =
-    let one = local-map handle (begun handle level number)
+    let one = local-map handle (break_begun handle level number)
     (λ o. elim (cases_Bool (o.handle == handle)) [ inl here ↦ rw here refl | inr other ↦ rw other refl ])
     (λ o other. rw other refl) in
     record { sorts = one.sorts; stays = one.stays; keeps = one.keeps; homes = one.homes }
@@ -352,7 +352,7 @@ homes-differ a b = elim (cases_Bool (a == b)) [
 ]
 
 -- the oplocks of a stream's home are those on the stream
-at-home : (handles : List (ℕ × Handle)) (stream : ℕ) (o : Oplock) → is_home_to handles (home_of_stream stream) o ≡ is_at handles stream o
+at-home : (handles : List (ℕ × Handle)) (stream : ℕ) (o : Oplock) → is_home_to handles (home_of_stream stream) o ≡ is_oplock_of_stream handles stream o
 at-home handles stream o = elim (option_cases (row_of handles o.handle)) [
   | inl none ↦ rw none refl
   | inr some ↦ rw some.1 (by_stream some.0.stream)
@@ -370,14 +370,14 @@ filter-alike p q (o ∷ rows) same = elim (cases_Bool (q o)) [
 ]
 
 -- the table of a stream's home has the oplocks on the stream
-pub rows-on : (handles : List (ℕ × Handle)) (rows : List Oplock) (tables : List (ℕ × State)) (stream : ℕ) → AreSorted handles rows tables → rows_at tables (home_of_stream stream) ≡ filter (is_at handles stream) rows
+pub rows-on : (handles : List (ℕ × Handle)) (rows : List Oplock) (tables : List (ℕ × State)) (stream : ℕ) → AreSorted handles rows tables → rows_at tables (home_of_stream stream) ≡ filter (is_oplock_of_stream handles stream) rows
 rows-on handles rows tables stream sorted =
-    sorted.each (home_of_stream stream) ∙ filter-alike (is_home_to handles (home_of_stream stream)) (is_at handles stream) rows (at-home handles stream)
+    sorted.each (home_of_stream stream) ∙ filter-alike (is_home_to handles (home_of_stream stream)) (is_oplock_of_stream handles stream) rows (at-home handles stream)
 
 switched-alike : (handles : List (ℕ × Handle)) (stream handle key : ℕ) (rows : List Oplock)
-    → switched_among (is_home_to handles (home_of_stream stream)) handle key rows ≡ switched_among (is_at handles stream) handle key rows
+    → switched_among (is_home_to handles (home_of_stream stream)) handle key rows ≡ switched_among (is_oplock_of_stream handles stream) handle key rows
 switched-alike handles stream handle key rows =
-    filter-alike (λ o. is_home_to handles (home_of_stream stream) o && is_of_key handle key o) (λ o. is_at handles stream o && is_of_key handle key o) rows
+    filter-alike (λ o. is_home_to handles (home_of_stream stream) o && is_of_key handle key o) (λ o. is_oplock_of_stream handles stream o && is_of_key handle key o) rows
     (λ o. ap (λ at. at && is_of_key handle key o) (at-home handles stream o))
 
 -- one that is granted in the list, and in the table of its home
@@ -426,7 +426,7 @@ sorted-granted handles rows old new handle key home level turn last taken found 
 -- one that is granted in the list on a stream, and in the table of the stream's home
 pub sorted-grant : (handles : List (ℕ × Handle)) (rows : List Oplock) (old new : List (ℕ × State)) (handle key stream : ℕ) (level : Level) (turn last taken : ℕ) → stream_of_handle handles handle ≡ Some stream
     → AreSorted handles rows old → IsStep old new (home_of_stream stream) (after_grant (λ _. true) handle key level turn (rows_at old (home_of_stream stream))) last taken
-    → AreSorted handles (after_grant (is_at handles stream) handle key level turn rows) new
+    → AreSorted handles (after_grant (is_oplock_of_stream handles stream) handle key level turn rows) new
 sorted-grant handles rows old new handle key stream level turn last taken found sorted step =
     subst (λ (switched : List Oplock). AreSorted handles (after_switches rows switched ++ as_granted handle key level turn ∷ []) new) (switched-alike handles stream handle key rows)
     (sorted-granted handles rows old new handle key (home_of_stream stream) level turn last taken (home-found handles handle stream found) sorted step)

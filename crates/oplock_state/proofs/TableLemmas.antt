@@ -14,7 +14,7 @@ use Rattle.oplock_state.specs.State.{Grants, State}
 use Rattle.oplock_state.specs.Tables.{AreTables, GrantsAmong, rows_at, room_at, last_at, taken_by, IsStep}
 use Rattle.oplock_state.specs.declared.stream_oplocks.Grant.{Grant}
 use Rattle.oplock_state.specs.declared.stream_oplocks.Grant.TheVariants as grant
-use Rattle.oplock_state.specs.declared.stream_tables.Asked.{Asked}
+use Rattle.oplock_state.specs.declared.stream_tables.AskedOplock.{AskedOplock}
 use Rattle.volume_tables.proofs.PlaceLemmas.{IsPut, rising-at}
 
 -- ---- what a key has where its table is known, and where it has none
@@ -65,13 +65,13 @@ step-same tables key rows last taken same_rows same_last = record {
 -- ---- what a table gives
 
 -- a table grants of its own rows
-pub grants-at : (old new : State) (asked : Asked) (was now : List Oplock) (result : Grant) → Grants old asked.handle asked.key asked.level asked.turn asked.others asked.locked new result → was ≡ old.rows → now ≡ new.rows
+pub grants-at : (old new : State) (asked : AskedOplock) (was now : List Oplock) (result : Grant) → Grants old asked.handle asked.key asked.level asked.turn asked.others asked.locked new result → was ≡ old.rows → now ≡ new.rows
     → GrantsAmong (λ _. true) asked was now result
 grants-at old new asked was now grant.Granted grants is_was is_now = rw (is_was, is_now) (grants.0, grants.1)
 grants-at old new asked was now grant.Refused grants is_was is_now = rw (is_was, is_now) (grants.0, ap (λ (s : State). s.rows) grants.1)
 
 -- and takes room only where it does
-pub grants-room : (old new : State) (asked : Asked) (result : Grant) → Grants old asked.handle asked.key asked.level asked.turn asked.others asked.locked new result → old.room ≤ new.room + 1
+pub grants-room : (old new : State) (asked : AskedOplock) (result : Grant) → Grants old asked.handle asked.key asked.level asked.turn asked.others asked.locked new result → old.room ≤ new.room + 1
     → old.room ≤ new.room + taken_by result
 grants-room old new asked grant.Granted grants more = more
 grants-room old new asked grant.Refused grants more = (let same = ap (λ (s : State). s.room) grants.1 in omega arith)

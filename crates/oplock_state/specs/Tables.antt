@@ -13,7 +13,7 @@ use Rattle.oplock_state.specs.Homes.{home_of_handle, is_home_to}
 use Rattle.oplock_state.specs.State.{State}
 use Rattle.oplock_state.specs.declared.stream_oplocks.Grant.{Grant}
 use Rattle.oplock_state.specs.declared.stream_oplocks.Grant.TheVariants as grant
-use Rattle.oplock_state.specs.declared.stream_tables.Asked.{Asked}
+use Rattle.oplock_state.specs.declared.stream_tables.AskedOplock.{AskedOplock}
 use Rattle.volume_breaks.specs.declared.telling.Told.{Told}
 use Rattle.volume_tables.specs.Rooms.{room_in}
 
@@ -48,7 +48,7 @@ pub record AreTables (tables : List (ℕ × State)) : Type 0 where
 
 -- of the oplocks that are on a stream by this test, one was granted exactly where it isn't refused, and else nothing
 -- has changed
-abbrev pub GrantsAmong : (Oplock → Bool) → Asked → List Oplock → List Oplock → Grant → Type 0
+abbrev pub GrantsAmong : (Oplock → Bool) → AskedOplock → List Oplock → List Oplock → Grant → Type 0
 GrantsAmong on asked old new grant.Granted =
     (is_refused_among on asked.handle asked.key asked.level asked.others asked.locked old ≡ false)
     × (new ≡ after_grant on asked.handle asked.key asked.level asked.turn old)
@@ -88,8 +88,8 @@ abbrev pub given_up : ℕ → List Oplock → Oplock → List Oplock
 given_up turn rows oplock = if is_granted_under turn oplock then without_oplock_of oplock.handle rows else rows
 
 -- the oplock is of a handle on this stream
-abbrev pub is_at : List (ℕ × Handle) → ℕ → Oplock → Bool
-is_at handles stream oplock = option_map_or (is_open_on stream) (row_of handles oplock.handle) false
+abbrev pub is_oplock_of_stream : List (ℕ × Handle) → ℕ → Oplock → Bool
+is_oplock_of_stream handles stream oplock = option_map_or (is_open_on stream) (row_of handles oplock.handle) false
 
 -- the table of each home has the oplocks of the handles with this home, in the order of the list, and each oplock is
 -- of a handle with a home
@@ -108,7 +108,7 @@ KeepSorted old new = (handles : List (ℕ × Handle)) → AreSorted handles old.
 
 -- of the oplocks that are on a stream by this test, one was granted exactly where it isn't refused, and those of its
 -- key were chosen; and else none has changed
-abbrev pub GrantsTabled : (Oplock → Bool) → Asked → Tabled → Tabled → Grant → Type 0
+abbrev pub GrantsTabled : (Oplock → Bool) → AskedOplock → Tabled → Tabled → Grant → Type 0
 GrantsTabled on asked old new grant.Granted =
     (is_refused_among on asked.handle asked.key asked.level asked.others asked.locked old.rows ≡ false)
     × (new.rows ≡ after_grant on asked.handle asked.key asked.level asked.turn old.rows)

@@ -41,5 +41,5 @@ mod stream_tables;
 
 pub use oplock_table::OplockTable;
 pub use stream_oplocks::{Grant, StreamOplocks};
-pub use stream_tables::{Asked, StreamTables};
+pub use stream_tables::{AskedOplock, StreamTables};
 pub use volume_breaks::Told;

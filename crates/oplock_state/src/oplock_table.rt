@@ -3,13 +3,13 @@
 ghost use Rattle.std.specs.Prelude.{ℕ, ◌≡◌, ◌≤◌, ◌<◌, ◌+◌, ◌^◌, ◌==◌, ◌∷◌, [], false, not, List, All, AllPairs, filter, length, IfNone, IsSome, OnOk, Some, option_map};
 ghost use Rattle.std.specs.Option.{option_map_or, ForSome};
 ghost use Rattle.fsa_types.specs.OplockGrants.{after_answer, after_grant, switched_among, target_among};
-ghost use Rattle.fsa_types.specs.OplockLists.{after_breaks, awaited_among, effect_on, last_by, left_by, without_oplock_of, IsCopy, IsSoundOplock};
+ghost use Rattle.fsa_types.specs.OplockLists.{after_breaks, awaited_among, effect_on, last_by, left_by_effect, without_oplock_of, IsCopy, IsSoundOplock};
 ghost use Rattle.fsa_types.specs.Oplocks.{Oplock, in_both};
 ghost use Rattle.fsa_types.specs.Sorting.{in_order};
 ghost use Rattle.fsa_model.specs.Breaks.{is_broken_before, is_chosen};
 ghost use Rattle.fsa_model.specs.Waiting.{is_granted_under};
 ghost use Rattle.oplock_state.specs.Homes.{home_of_handle, home_of_stream, HomesFit};
-ghost use Rattle.oplock_state.specs.Tables.{AreSorted, AreThere, GrantsTabled, IsStep, KeepFit, KeepSorted, given_up, is_at, last_at, room_at, rows_at};
+ghost use Rattle.oplock_state.specs.Tables.{AreSorted, AreThere, GrantsTabled, IsStep, KeepFit, KeepSorted, given_up, is_oplock_of_stream, last_at, room_at, rows_at};
 ghost use Rattle.volume_breaks.specs.Oplocks.{state_of};
 ghost use Rattle.volume_breaks.specs.Told.{told_all};
 ghost use Rattle.volume_tables.specs.HandleTable.{stream_of_handle};
@@ -17,7 +17,7 @@ ghost use Rattle.volume_tables.specs.Rooms.{room_in};
 
 use crate::homes::{home_of_handle, home_of_stream};
 use crate::stream_oplocks::Grant;
-use crate::stream_tables::{Asked, StreamTables};
+use crate::stream_tables::{AskedOplock, StreamTables};
 use fsa_types::{Class, HandleSet, Level, NoMemory};
 use std::alloc::Global;
 use std::marker::Model;
@@ -153,12 +153,12 @@ impl OplockTable {
     /// Grants an oplock to a handle on this stream, unless the stream's table refuses it. Oplocks of its key on the
     /// stream end, and are those that were chosen last. There has to be room for one on the stream; that of all
     /// others stays.
-    pub fn grant(&mut self, tree: &Tree, stream: u64, asked: &Asked) -> Grant
+    pub fn grant(&mut self, tree: &Tree, stream: u64, asked: &AskedOplock) -> Grant
         requires fit { HomesFit tree.now.handles }
         requires home { stream_of_handle tree.now.handles asked.now.handle ≡ Some stream }
         requires room { 1 ≤ room_in self.old.rooms stream }
         requires sorted { AreSorted tree.now.handles self.old.rows self.old.tables }
-        ensures grants { GrantsTabled (is_at tree.now.handles stream) asked.now self.old self.new result }
+        ensures grants { GrantsTabled (is_oplock_of_stream tree.now.handles stream) asked.now self.old self.new result }
         ensures rest { self.new ≡ record self.old { rows = self.new.rows; chosen = self.new.chosen; rooms = self.new.rooms; tables = self.new.tables } }
         ensures left { room_in self.old.rooms stream ≤ room_in self.new.rooms stream + 1 }
         ensures others { (other : ℕ) → (other == stream) ≡ false → room_in self.new.rooms other ≡ room_in self.old.rooms other }
@@ -271,11 +271,11 @@ fn give_up_all(tables: &mut StreamTables, list: &Oplocks, handles: &HandleTable,
 }
 
 // Grants an oplock in the list: those of its key on the stream end. It takes room of this home.
-fn grant_in_list(list: &mut Oplocks, tree: &Tree, stream: u64, home: u64, asked: &Asked)
+fn grant_in_list(list: &mut Oplocks, tree: &Tree, stream: u64, home: u64, asked: &AskedOplock)
     requires home { stream_of_handle tree.now.handles asked.now.handle ≡ Some stream }
     requires room { 1 ≤ room_in list.old.rooms home }
-    ensures rows { list.new.rows ≡ after_grant (is_at tree.now.handles stream) asked.now.handle asked.now.key asked.now.level asked.now.turn list.old.rows }
-    ensures chosen { list.new.chosen ≡ switched_among (is_at tree.now.handles stream) asked.now.handle asked.now.key list.old.rows }
+    ensures rows { list.new.rows ≡ after_grant (is_oplock_of_stream tree.now.handles stream) asked.now.handle asked.now.key asked.now.level asked.now.turn list.old.rows }
+    ensures chosen { list.new.chosen ≡ switched_among (is_oplock_of_stream tree.now.handles stream) asked.now.handle asked.now.key list.old.rows }
     ensures rest { list.new ≡ record list.old { rows = list.new.rows; chosen = list.new.chosen; rooms = list.new.rooms } }
     ensures left { room_in list.old.rooms home ≤ room_in list.new.rooms home + 1 }
     ensures taken { room_in list.new.rooms home + 1 ≤ room_in list.old.rooms home }
@@ -311,7 +311,7 @@ fn begin_in_table(
     requires there { ForSome (home_of_handle handles.now.rows oplock.handle) (λ home. filter (λ other. other.handle == oplock.handle) (rows_at tables.old home) ≡ oplock ∷ []) }
     requires rising { (key : ℕ) → last_at tables.old key ≤ last }
     requires numbers { last + 1 < 2 ^ 64 }
-    ensures step { ForSome (home_of_handle handles.now.rows oplock.handle) (λ home. IsStep tables.old tables.new home (left_by (effect_on class oplock) oplock.handle (last + 1) (rows_at tables.old home)) (last_by (effect_on class oplock) last) 0) }
+    ensures step { ForSome (home_of_handle handles.now.rows oplock.handle) (λ home. IsStep tables.old tables.new home (left_by_effect (effect_on class oplock) oplock.handle (last + 1) (rows_at tables.old home)) (last_by (effect_on class oplock) last) 0) }
     ensures number { result ≡ last_by (effect_on class oplock) last }
 {
     let Some(home) = home_of_handle(handles, oplock.handle) else {

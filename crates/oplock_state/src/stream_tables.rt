@@ -16,7 +16,7 @@ use volume_rows::OplockRow;
 
 /// An oplock that is asked for.
 #[derive(Clone, Copy, Debug)]
-pub struct Asked {
+pub struct AskedOplock {
     /// The handle.
     pub handle: u64,
     /// Its key; with the key 0 it has none.
@@ -80,7 +80,7 @@ impl StreamTables {
 
     /// Grants an oplock of this level to a handle with this key, unless those under the table's key refuse it; the
     /// call that is pending under this turn, or will be, is its own. There has to be room for one.
-    pub fn grant(&mut self, key: u64, asked: &Asked) -> Grant
+    pub fn grant(&mut self, key: u64, asked: &AskedOplock) -> Grant
         requires { 1 ≤ room_at self.old key }
         ensures grants { GrantsAmong (λ _. true) asked.now (rows_at self.old key) (rows_at self.new key) result }
         ensures step { IsStep self.old self.new key (rows_at self.new key) (last_at self.old key) (taken_by result) }
@@ -162,7 +162,7 @@ fn reserve_at(
 }
 
 // Grants an oplock under this key, unless it is refused.
-fn grant(tables: &mut [(u64, StreamOplocks)], key: u64, asked: &Asked) -> Grant
+fn grant(tables: &mut [(u64, StreamOplocks)], key: u64, asked: &AskedOplock) -> Grant
     requires room { 1 ≤ room_at tables.old key }
     requires tables { AreTables tables.old }
     ensures grants { GrantsAmong (λ _. true) asked.now (rows_at tables.old key) (rows_at tables.new key) result }

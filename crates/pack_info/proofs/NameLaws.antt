@@ -8,7 +8,7 @@ use Rattle.std.proofs.lemmas.Nat.{le_bytes_2}
 use Rattle.fsa_types.specs.declared.reply.PackKind.{PackKind}
 use Rattle.fsa_types.specs.declared.reply.PackKind.TheVariants.{Names, Dir, Full, IdFull, Streams, Changes}
 use Rattle.fsa_types.specs.LittleEndian.{utf16}
-use Rattle.fsa_types.specs.Packing.{before_name, after_name, name_of}
+use Rattle.fsa_types.specs.Packing.{before_name, after_name, name_field}
 use Rattle.pack_info.specs.Entries.{IsName}
 use Rattle.pack_info.proofs.NumberLaws.{length-name_of}
 use Rattle.pack_info.proofs.ReadLaws.{IsBytes, IsBytes-take}
@@ -38,7 +38,7 @@ plain_parts Changes h = (refl, refl)
 plain_parts Streams h = absurd (h refl)
 
 pub plain_name : (kind : PackKind) (name : List ℕ) → (kind ≡ Streams → ⊥) → IsBytes name → length name % 2 ≡ 0 → IsName kind name
-unfolding name_of
+unfolding name_field
 plain_name kind name h fits even =
     let u = units_exist name fits even in
     let p = plain_parts kind h in
@@ -48,7 +48,7 @@ pub name_even : (kind : PackKind) (name : List ℕ) → IsName kind name → len
 name_even kind name is = omega (arith, ap length is.1, length-name_of kind is.0)
 
 pub stream_name : (name xs : List ℕ) → name ≡ utf16 (before_name Streams) ++ xs ++ utf16 (after_name Streams) → IsBytes xs → length xs % 2 ≡ 0 → IsName Streams name
-unfolding name_of
+unfolding name_field
 stream_name name xs e fits even =
     let u = units_exist xs fits even in
     (u.0, e ∙ ap (λ (ys : List ℕ). utf16 (before_name Streams) ++ ys ++ utf16 (after_name Streams)) u.1)
@@ -61,7 +61,7 @@ stream_even name xs e is =
     omega (arith, a, b, c, ap length e)
 
 pub stream_between : (name : List ℕ) → IsName Streams name → (xs : List ℕ) × (name ≡ utf16 (before_name Streams) ++ xs ++ utf16 (after_name Streams))
-unfolding name_of
+unfolding name_field
 stream_between name is = (utf16 is.0, is.1)
 
 inner_bytes : (name xs : List ℕ) → name ≡ utf16 (before_name Streams) ++ xs ++ utf16 (after_name Streams) → IsBytes name → IsBytes xs

@@ -4,8 +4,8 @@ use Rattle.std.proofs.lemmas.List.Concat.{flat_map-cons}
 use Rattle.fsa_types.specs.declared.reply.PackKind.{PackKind}
 use Rattle.fsa_types.specs.declared.reply.PackKind.TheVariants.{Names, Dir, Full, IdFull, Streams, Changes}
 use Rattle.fsa_types.specs.PackedRows.{Numbers}
-use Rattle.fsa_types.specs.Packing.{shown, head, packed, before_name, after_name, name_of, size_of, rounded, entry_bytes}
-use Rattle.pack_info.specs.Entries.{entry_of}
+use Rattle.fsa_types.specs.Packing.{shown, head, packed, before_name, after_name, name_field, size_of, rounded, entry_bytes}
+use Rattle.pack_info.specs.Entries.{entry_with}
 use Rattle.fsa_types.specs.LittleEndian.{unit_bytes, utf16, zeros}
 
 pub zeros_more : (n : ℕ) → zeros n ++ 0 ∷ [] ≡ zeros (suc n)
@@ -29,8 +29,8 @@ length-utf16 (unit ∷ units) =
     ap length (flat_map-cons unit_bytes unit units) ∙ omega (arith, length-append (unit_bytes unit) (utf16 units), ih)
 
 -- the field of a name has two bytes for each unit
-pub length-name_of : (kind : PackKind) (units : List ℕ) → length (name_of kind units) ≡ 2 * (length (before_name kind) + length units + length (after_name kind))
-unfolding name_of
+pub length-name_of : (kind : PackKind) (units : List ℕ) → length (name_field kind units) ≡ 2 * (length (before_name kind) + length units + length (after_name kind))
+unfolding name_field
 length-name_of kind units =
     let a = length-utf16 (before_name kind) in
     let b = length-utf16 units in
@@ -50,11 +50,11 @@ head-shown IdFull n next len = refl
 head-shown Streams n next len = refl
 
 -- an entry that is written in parts
-pub entry_last : (kind : PackKind) (n : Numbers) (units old a b : List ℕ) → a ≡ old ++ head kind n 0 (length (name_of kind units)) → b ≡ a ++ name_of kind units → b ≡ old ++ entry_bytes kind (entry_of kind n units) true
+pub entry_last : (kind : PackKind) (n : Numbers) (units old a b : List ℕ) → a ≡ old ++ head kind n 0 (length (name_field kind units)) → b ≡ a ++ name_field kind units → b ≡ old ++ entry_bytes kind (entry_with kind n units) true
 unfolding entry_bytes
-entry_last kind n units old a b p q = rw (q, p, head-shown kind n 0 (length (name_of kind units))) (append_assoc old (head kind n 0 (length (name_of kind units))) (name_of kind units))
+entry_last kind n units old a b p q = rw (q, p, head-shown kind n 0 (length (name_field kind units))) (append_assoc old (head kind n 0 (length (name_field kind units))) (name_field kind units))
 
-pub entry_other : (kind : PackKind) (n : Numbers) (units old a b c : List ℕ) (next size : ℕ) → size ≡ size_of kind (entry_of kind n units) → next ≡ rounded kind size
-    → a ≡ old ++ head kind n next (length (name_of kind units)) → b ≡ a ++ name_of kind units → c ≡ b ++ zeros (next - size) → c ≡ old ++ entry_bytes kind (entry_of kind n units) false
+pub entry_other : (kind : PackKind) (n : Numbers) (units old a b c : List ℕ) (next size : ℕ) → size ≡ size_of kind (entry_with kind n units) → next ≡ rounded kind size
+    → a ≡ old ++ head kind n next (length (name_field kind units)) → b ≡ a ++ name_field kind units → c ≡ b ++ zeros (next - size) → c ≡ old ++ entry_bytes kind (entry_with kind n units) false
 unfolding entry_bytes
-entry_other kind n units old a b c next size s r p q t = rw (t, q, p, r, s, head-shown kind n (rounded kind (size_of kind (entry_of kind n units))) (length (name_of kind units))) (simp append_assoc)
+entry_other kind n units old a b c next size s r p q t = rw (t, q, p, r, s, head-shown kind n (rounded kind (size_of kind (entry_with kind n units))) (length (name_field kind units))) (simp append_assoc)

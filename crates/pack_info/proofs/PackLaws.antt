@@ -8,8 +8,8 @@ use Rattle.fsa_types.specs.declared.reply.PackKind.{PackKind}
 use Rattle.fsa_types.specs.declared.reply.PackKind.TheVariants.{Names, Dir, Full, IdFull, Streams, Changes}
 use Rattle.fsa_types.specs.PackedRows.{Numbers, NumbersFit, PackRow}
 use Rattle.fsa_types.specs.LittleEndian.{zeros}
-use Rattle.fsa_types.specs.Packing.{Packed, packed, before_name, after_name, name_of, head, head_size, rounded, size_of, entry_bytes, is_nothing, entries_bytes, shown, bytes, size, fitting, longest_fitting}
-use Rattle.pack_info.specs.Entries.{entries_size, entries_of, IsFitting, next_of, IsEntry, AreEntries, FitsWidths, AreWritable}
+use Rattle.fsa_types.specs.Packing.{Packed, packed, before_name, after_name, name_field, head, head_size, rounded, size_of, entry_bytes, is_nothing, entries_bytes, shown, bytes, size, fitting, longest_fitting}
+use Rattle.pack_info.specs.Entries.{entries_size, rows_as_entries, IsFitting, next_distance, IsEntry, AreEntries, FitsWidths, AreWritable}
 use Rattle.pack_info.proofs.NumberLaws.{length-zeros, length-name_of}
 
 pub length-head : (kind : PackKind) (n : Numbers) (next len : ℕ) → length (head kind n next len) ≡ head_size kind
@@ -124,7 +124,7 @@ fit-is kind room count es e = record {
 }
 
 pub take-entries : {T : Type 0} (row_of : T → PackRow) (kind : PackKind) (n : ℕ) (rows : List T)
-    → entries_of row_of kind (take n rows) ≡ take n (entries_of row_of kind rows)
+    → rows_as_entries row_of kind (take n rows) ≡ take n (rows_as_entries row_of kind rows)
 take-entries row_of kind zero rows = refl
 take-entries row_of kind (suc n) [] = refl
 take-entries row_of kind (suc n) (row ∷ rows) = ap (λ (es : List Packed). packed kind (row_of row) ∷ es) (take-entries row_of kind n rows)
@@ -145,48 +145,48 @@ parts-small Full = omega arith
 parts-small IdFull = omega arith
 parts-small Streams = omega arith
 
-pub name-bounds : (kind : PackKind) (units : List ℕ) → (length units ≤ length (name_of kind units)) × (length (name_of kind units) ≤ 2 * length units + 14)
+pub name-bounds : (kind : PackKind) (units : List ℕ) → (length units ≤ length (name_field kind units)) × (length (name_field kind units) ≤ 2 * length units + 14)
 name-bounds kind units = (omega (arith, length-name_of kind units), omega (arith, length-name_of kind units, parts-small kind))
 
 -- ---- over rows
 
 pub ends_at : {T : Type 0} (row_of : T → PackRow) (kind : PackKind) (used room count : ℕ) (rows rest : List T) → rest ≡ []
-    → count + fit kind used room (entries_of row_of kind rest) ≡ fit kind 0 room (entries_of row_of kind rows) → IsFitting kind (entries_of row_of kind rows) room count
+    → count + fit kind used room (rows_as_entries row_of kind rest) ≡ fit kind 0 room (rows_as_entries row_of kind rows) → IsFitting kind (rows_as_entries row_of kind rows) room count
 ends_at row_of kind used room count rows rest none all =
-    let e : fit kind used room (entries_of row_of kind rest) ≡ 0 = rw none refl in
-    fit-is kind room count (entries_of row_of kind rows) (omega (arith, e, all))
+    let e : fit kind used room (rows_as_entries row_of kind rest) ≡ 0 = rw none refl in
+    fit-is kind room count (rows_as_entries row_of kind rows) (omega (arith, e, all))
 
 pub stops_at : {T : Type 0} (row_of : T → PackRow) (kind : PackKind) (used room count : ℕ) (rows rest more : List T) (row : T) → rest ≡ row ∷ more
-    → count + fit kind used room (entries_of row_of kind rest) ≡ fit kind 0 room (entries_of row_of kind rows)
-    → room < used + (head_size kind + length (name_of kind (row_of row).name)) → IsFitting kind (entries_of row_of kind rows) room count
+    → count + fit kind used room (rows_as_entries row_of kind rest) ≡ fit kind 0 room (rows_as_entries row_of kind rows)
+    → room < used + (head_size kind + length (name_field kind (row_of row).name)) → IsFitting kind (rows_as_entries row_of kind rows) room count
 stops_at row_of kind used room count rows rest more row cut all lt =
-    let e : fit kind used room (entries_of row_of kind rest) ≡ 0 = rw cut (fit-none kind used room (packed kind (row_of row)) (entries_of row_of kind more) lt) in
-    fit-is kind room count (entries_of row_of kind rows) (omega (arith, e, all))
+    let e : fit kind used room (rows_as_entries row_of kind rest) ≡ 0 = rw cut (fit-none kind used room (packed kind (row_of row)) (rows_as_entries row_of kind more) lt) in
+    fit-is kind room count (rows_as_entries row_of kind rows) (omega (arith, e, all))
 
 pub goes_on : {T : Type 0} (row_of : T → PackRow) (kind : PackKind) (used room count total : ℕ) (rest more : List T) (row : T) → rest ≡ row ∷ more
-    → count + fit kind used room (entries_of row_of kind rest) ≡ total
-    → used + (head_size kind + length (name_of kind (row_of row).name)) ≤ room
-    → count + 1 + fit kind (used + rounded kind (head_size kind + length (name_of kind (row_of row).name))) room (entries_of row_of kind more) ≡ total
+    → count + fit kind used room (rows_as_entries row_of kind rest) ≡ total
+    → used + (head_size kind + length (name_field kind (row_of row).name)) ≤ room
+    → count + 1 + fit kind (used + rounded kind (head_size kind + length (name_field kind (row_of row).name))) room (rows_as_entries row_of kind more) ≡ total
 goes_on row_of kind used room count total rest more row cut all le =
-    let e : fit kind used room (entries_of row_of kind rest) ≡ suc (fit kind (used + rounded kind (head_size kind + length (name_of kind (row_of row).name))) room (entries_of row_of kind more))
-    = rw cut (fit-more kind used room (packed kind (row_of row)) (entries_of row_of kind more) le) in
+    let e : fit kind used room (rows_as_entries row_of kind rest) ≡ suc (fit kind (used + rounded kind (head_size kind + length (name_field kind (row_of row).name))) room (rows_as_entries row_of kind more))
+    = rw cut (fit-more kind used room (packed kind (row_of row)) (rows_as_entries row_of kind more) le) in
     omega (arith, e, all)
 
-nothing-entries : {T : Type 0} (row_of : T → PackRow) (kind : PackKind) (rows : List T) → is_nothing (entries_of row_of kind rows) ≡ eqb (length rows) 0
+nothing-entries : {T : Type 0} (row_of : T → PackRow) (kind : PackKind) (rows : List T) → is_nothing (rows_as_entries row_of kind rows) ≡ eqb (length rows) 0
 nothing-entries row_of kind [] = refl
 nothing-entries row_of kind (row ∷ rows) = grind (arith, nat_tests)
 
 pub can_write : {T : Type 0} (row_of : T → PackRow) (kind : PackKind) (row : T) (rest more : List T) (last : Bool) → rest ≡ row ∷ more → last ≡ eqb (length more) 0
-    → AreWritable kind (entries_of row_of kind rest) → FitsWidths kind (packed kind (row_of row)) last
+    → AreWritable kind (rows_as_entries row_of kind rest) → FitsWidths kind (packed kind (row_of row)) last
 can_write {T = T} row_of kind row rest more last cut e all =
-    let s : AreWritable kind (entries_of row_of kind (row ∷ more)) = subst (λ (rs : List T). AreWritable kind (entries_of row_of kind rs)) cut all in
-    let l : last ≡ is_nothing (entries_of row_of kind more) = e ∙ sym (nothing-entries row_of kind more) in
+    let s : AreWritable kind (rows_as_entries row_of kind (row ∷ more)) = subst (λ (rs : List T). AreWritable kind (rows_as_entries row_of kind rs)) cut all in
+    let l : last ≡ is_nothing (rows_as_entries row_of kind more) = e ∙ sym (nothing-entries row_of kind more) in
     rw l s.0
 
 pub rest_writable : {T : Type 0} (row_of : T → PackRow) (kind : PackKind) (row : T) (rest more : List T) → rest ≡ row ∷ more
-    → AreWritable kind (entries_of row_of kind rest) → AreWritable kind (entries_of row_of kind more)
+    → AreWritable kind (rows_as_entries row_of kind rest) → AreWritable kind (rows_as_entries row_of kind more)
 rest_writable {T = T} row_of kind row rest more cut all =
-    let s : AreWritable kind (entries_of row_of kind (row ∷ more)) = subst (λ (rs : List T). AreWritable kind (entries_of row_of kind rs)) cut all in
+    let s : AreWritable kind (rows_as_entries row_of kind (row ∷ more)) = subst (λ (rs : List T). AreWritable kind (rows_as_entries row_of kind rs)) cut all in
     s.1
 
 -- entries of less than 2 ^ 32 bytes in all can be written
@@ -209,21 +209,21 @@ changes_writable [] all = tt
 changes_writable (row ∷ rows) all = (short_writable row (is_nothing (map (packed Changes) rows)) (all 0 row (omega arith)), changes_writable rows (λ k d lt. all (suc k) d (omega arith)))
 
 pub writes_one : {T : Type 0} (row_of : T → PackRow) (kind : PackKind) (row : T) (rest more : List T) (last : Bool) (old new whole : List ℕ) → rest ≡ row ∷ more → last ≡ eqb (length more) 0
-    → new ≡ old ++ entry_bytes kind (packed kind (row_of row)) last → old ++ entries_bytes kind (entries_of row_of kind rest) ≡ whole
-    → new ++ entries_bytes kind (entries_of row_of kind more) ≡ whole
+    → new ≡ old ++ entry_bytes kind (packed kind (row_of row)) last → old ++ entries_bytes kind (rows_as_entries row_of kind rest) ≡ whole
+    → new ++ entries_bytes kind (rows_as_entries row_of kind more) ≡ whole
 writes_one {T = T} row_of kind row rest more last old new whole cut e step all =
-    let l : last ≡ is_nothing (entries_of row_of kind more) = e ∙ sym (nothing-entries row_of kind more) in
-    let a : new ++ entries_bytes kind (entries_of row_of kind more) ≡ old ++ entries_bytes kind (entries_of row_of kind (row ∷ more))
-    = rw (step, l) (append_assoc old (entry_bytes kind (packed kind (row_of row)) (is_nothing (entries_of row_of kind more))) (entries_bytes kind (entries_of row_of kind more))) in
-    a ∙ ap (λ (rs : List T). old ++ entries_bytes kind (entries_of row_of kind rs)) (sym cut) ∙ all
+    let l : last ≡ is_nothing (rows_as_entries row_of kind more) = e ∙ sym (nothing-entries row_of kind more) in
+    let a : new ++ entries_bytes kind (rows_as_entries row_of kind more) ≡ old ++ entries_bytes kind (rows_as_entries row_of kind (row ∷ more))
+    = rw (step, l) (append_assoc old (entry_bytes kind (packed kind (row_of row)) (is_nothing (rows_as_entries row_of kind more))) (entries_bytes kind (rows_as_entries row_of kind more))) in
+    a ∙ ap (λ (rs : List T). old ++ entries_bytes kind (rows_as_entries row_of kind rs)) (sym cut) ∙ all
 
-pub length-entries : {T : Type 0} (row_of : T → PackRow) (kind : PackKind) (rows : List T) → length (entries_of row_of kind rows) ≡ length rows
+pub length-entries : {T : Type 0} (row_of : T → PackRow) (kind : PackKind) (rows : List T) → length (rows_as_entries row_of kind rows) ≡ length rows
 length-entries row_of kind [] = refl
 length-entries row_of kind (row ∷ rows) = ap suc (length-entries row_of kind rows)
 
-pub whole-written : {T : Type 0} (row_of : T → PackRow) (kind : PackKind) (rest : List T) (out whole : List ℕ) → rest ≡ [] → out ++ entries_bytes kind (entries_of row_of kind rest) ≡ whole → out ≡ whole
+pub whole-written : {T : Type 0} (row_of : T → PackRow) (kind : PackKind) (rest : List T) (out whole : List ℕ) → rest ≡ [] → out ++ entries_bytes kind (rows_as_entries row_of kind rest) ≡ whole → out ≡ whole
 whole-written {T = T} row_of kind rest out whole none all =
-    sym (append-nil out) ∙ ap (λ (rs : List T). out ++ entries_bytes kind (entries_of row_of kind rs)) (sym none) ∙ all
+    sym (append-nil out) ∙ ap (λ (rs : List T). out ++ entries_bytes kind (rows_as_entries row_of kind rs)) (sym none) ∙ all
 
 pub nothing_left : {A : Type 0} (xs : List A) → (0 < length xs → false ≡ true) → xs ≡ []
 nothing_left [] h = refl
@@ -245,17 +245,17 @@ shown_fit Full n f = record { action = omega arith; creation = f.creation; acces
 shown_fit IdFull n f = record { action = omega arith; creation = f.creation; access = f.access; write = f.write; change = f.change; length = f.length; room = f.room; attributes = f.attributes; file = f.file }
 shown_fit Streams n f = record { action = omega arith; creation = omega arith; access = omega arith; write = omega arith; change = omega arith; length = f.length; room = f.room; attributes = omega arith; file = omega arith }
 
-next_small : (kind : PackKind) (e : Packed) (last : Bool) → FitsWidths kind e last → next_of kind (size_of kind e) last < 2 ^ 32
+next_small : (kind : PackKind) (e : Packed) (last : Bool) → FitsWidths kind e last → next_distance kind (size_of kind e) last < 2 ^ 32
 next_small kind e true can = omega arith
 next_small kind e false can = can.next refl
 
 pub entries_on : {T : Type 0} (row_of : T → PackRow) (kind : PackKind) (row : T) (rest more rows : List T) (last : Bool) → rest ≡ row ∷ more → last ≡ eqb (length more) 0
-    → AreWritable kind (entries_of row_of kind rest) → NumbersFit (row_of row).numbers
-    → (AreEntries kind (entries_of row_of kind rest) → AreEntries kind (entries_of row_of kind rows))
-    → AreEntries kind (entries_of row_of kind more) → AreEntries kind (entries_of row_of kind rows)
+    → AreWritable kind (rows_as_entries row_of kind rest) → NumbersFit (row_of row).numbers
+    → (AreEntries kind (rows_as_entries row_of kind rest) → AreEntries kind (rows_as_entries row_of kind rows))
+    → AreEntries kind (rows_as_entries row_of kind more) → AreEntries kind (rows_as_entries row_of kind rows)
 entries_on {T = T} row_of kind row rest more rows last cut e all fit before now =
     let can = can_write row_of kind row rest more last cut e all in
-    let l : last ≡ is_nothing (entries_of row_of kind more) = e ∙ sym (nothing-entries row_of kind more) in
+    let l : last ≡ is_nothing (rows_as_entries row_of kind more) = e ∙ sym (nothing-entries row_of kind more) in
     let first : IsEntry kind (packed kind (row_of row)) last = record {
       numbers = shown_fit kind (row_of row).numbers fit;
       only = shown_again kind (row_of row).numbers;
@@ -263,7 +263,7 @@ entries_on {T = T} row_of kind row rest more rows last cut e all fit before now 
       len = omega (arith, can.now);
       next = next_small kind (packed kind (row_of row)) last can;
     } in
-    before (subst (λ (rs : List T). AreEntries kind (entries_of row_of kind rs)) (sym cut) (rw l at first, now))
+    before (subst (λ (rs : List T). AreEntries kind (rows_as_entries row_of kind rs)) (sym cut) (rw l at first, now))
 
 -- ---- the number of rows that fit
 

@@ -5,7 +5,7 @@ use Rattle.fsa_types.specs.declared.reply.PackKind.{PackKind}
 use Rattle.fsa_types.specs.declared.reply.PackKind.TheVariants.{Names, Dir, Full, IdFull, Streams, Changes}
 use Rattle.pack_info.specs.declared.reading.Head.{Head}
 use Rattle.fsa_types.specs.Packing.{Packed, head, head_size, size_of, entry_bytes, is_nothing, entries_bytes}
-use Rattle.pack_info.specs.Entries.{next_of, padding_of, AreEntries, IsEntry, BeginsWithEntry, IsTail}
+use Rattle.pack_info.specs.Entries.{next_distance, padding_of, AreEntries, IsEntry, BeginsWithEntry, IsTail}
 use Rattle.std.specs.Prelude.{Option, Result}
 use Rattle.pack_info.specs.declared.walk.PackedEntry.{PackedEntry}
 use Rattle.pack_info.specs.declared.walk.Malformed.{Malformed}
@@ -17,16 +17,16 @@ use Rattle.pack_info.proofs.ReadLaws.{IsHeadOf, one_head, sound_head}
 
 -- an entry in three parts
 pub entry_parts : (kind : PackKind) (e : Packed) (last : Bool) (rest : List ℕ)
-    → entry_bytes kind e last ++ rest ≡ head kind e.numbers (next_of kind (size_of kind e) last) (length e.name) ++ (e.name ++ (padding_of kind (size_of kind e) last ++ rest))
+    → entry_bytes kind e last ++ rest ≡ head kind e.numbers (next_distance kind (size_of kind e) last) (length e.name) ++ (e.name ++ (padding_of kind (size_of kind e) last ++ rest))
 unfolding entry_bytes
 entry_parts kind e true rest = append_assoc (head kind e.numbers 0 (length e.name)) e.name rest
 entry_parts kind e false rest = simp append_assoc
 
 -- what a buffer that begins with an entry was read as
 pub read_as : (kind : PackKind) (h : Head) (buffer after : List ℕ) (e : Packed) (rest : List ℕ) → IsPlain kind h → HeadFits h → buffer ≡ raw_head kind h ++ after → BeginsWithEntry kind buffer e rest
-    → IsHeadOf kind h e.numbers (next_of kind (size_of kind e) (is_nothing rest)) (length e.name) after (e.name ++ (padding_of kind (size_of kind e) (is_nothing rest) ++ rest))
+    → IsHeadOf kind h e.numbers (next_distance kind (size_of kind e) (is_nothing rest)) (length e.name) after (e.name ++ (padding_of kind (size_of kind e) (is_nothing rest) ++ rest))
 read_as kind h buffer after e rest plain fits is b =
-    one_head kind h e.numbers (next_of kind (size_of kind e) (is_nothing rest)) (length e.name) after (e.name ++ (padding_of kind (size_of kind e) (is_nothing rest) ++ rest)) plain fits b.is_entry.numbers b.is_entry.next b.is_entry.len
+    one_head kind h e.numbers (next_distance kind (size_of kind e) (is_nothing rest)) (length e.name) after (e.name ++ (padding_of kind (size_of kind e) (is_nothing rest) ++ rest)) plain fits b.is_entry.numbers b.is_entry.next b.is_entry.len
     (sym is ∙ b.spelled ∙ entry_parts kind e (is_nothing rest) rest)
 
 pub tail_of : (kind : PackKind) (h : Head) (buffer after : List ℕ) (e : Packed) (rest : List ℕ) → IsPlain kind h → HeadFits h → buffer ≡ raw_head kind h ++ after → BeginsWithEntry kind buffer e rest
@@ -39,8 +39,8 @@ pub too_few : (kind : PackKind) (buffer : List ℕ) (e : Packed) (rest : List �
 too_few kind buffer e rest lt b =
     let last = is_nothing rest in
     let s = ap length (b.spelled ∙ entry_parts kind e (is_nothing rest) rest) in
-    let a = length-head kind e.numbers (next_of kind (size_of kind e) (is_nothing rest)) (length e.name) in
-    let c = length-append (head kind e.numbers (next_of kind (size_of kind e) (is_nothing rest)) (length e.name)) (e.name ++ (padding_of kind (size_of kind e) (is_nothing rest) ++ rest)) in
+    let a = length-head kind e.numbers (next_distance kind (size_of kind e) (is_nothing rest)) (length e.name) in
+    let c = length-append (head kind e.numbers (next_distance kind (size_of kind e) (is_nothing rest)) (length e.name)) (e.name ++ (padding_of kind (size_of kind e) (is_nothing rest) ++ rest)) in
     omega (arith, s, a, c, lt)
 
 -- a head and a tail that were read are an entry
@@ -56,7 +56,7 @@ begins_with kind h buffer after name rest plain fits a b c is t =
         len = omega (arith, fits.len, t.len_is);
         next = rw (t.len_is, ← t.next_is) fits.next;
       };
-      spelled = is ∙ ap (λ (xs : List ℕ). xs ++ after) (sound_head kind h a b c) ∙ rw (t.next_is, ← t.len_is) (ap (λ (xs : List ℕ). head kind h.numbers (next_of kind (head_size kind + length name) (is_nothing rest)) (length name) ++ xs) (rw (t.len_is) t.spelled) ∙ sym (entry_parts kind (record { numbers = h.numbers; name = name }) (is_nothing rest) rest));
+      spelled = is ∙ ap (λ (xs : List ℕ). xs ++ after) (sound_head kind h a b c) ∙ rw (t.next_is, ← t.len_is) (ap (λ (xs : List ℕ). head kind h.numbers (next_distance kind (head_size kind + length name) (is_nothing rest)) (length name) ++ xs) (rw (t.len_is) t.spelled) ∙ sym (entry_parts kind (record { numbers = h.numbers; name = name }) (is_nothing rest) rest));
     }
 
 some : (xs : List ℕ) → 0 < length xs → is_nothing xs ≡ false
@@ -86,7 +86,7 @@ written_begins kind buffer e es is written = record {
 }
 
 -- a number that is no sum of anything
-same_last : (kind : PackKind) (size : ℕ) (a b : Bool) → 0 < size → next_of kind size a ≡ next_of kind size b → a ≡ b
+same_last : (kind : PackKind) (size : ℕ) (a b : Bool) → 0 < size → next_distance kind size a ≡ next_distance kind size b → a ≡ b
 same_last kind size true true some e = refl
 same_last kind size false false some e = refl
 same_last kind size true false some e = absurd (omega (arith, e, some, (rounds kind size).0))
@@ -103,19 +103,19 @@ as_head e next = record { next = next; index = 0; attributes_size = 0; reserved 
 pub begins_once : (kind : PackKind) (buffer : List ℕ) (e f : Packed) (r s : List ℕ) → BeginsWithEntry kind buffer e r → BeginsWithEntry kind buffer f s → Same e f r s
 unfolding as_head
 begins_once kind buffer e f r s b c =
-    let next = next_of kind (size_of kind e) (is_nothing r) in
+    let next = next_distance kind (size_of kind e) (is_nothing r) in
     let h = as_head e next in
     let after = e.name ++ (padding_of kind (size_of kind e) (is_nothing r) ++ r) in
-    let fits : HeadFits (as_head e (next_of kind (size_of kind e) (is_nothing r))) = record { next = b.is_entry.next; index = omega arith; attributes_size = omega arith; reserved = omega arith; len = b.is_entry.len; numbers = b.is_entry.numbers } in
-    let plain : IsPlain kind (as_head e (next_of kind (size_of kind e) (is_nothing r))) = record { numbers = b.is_entry.only; blank = blank_of kind (as_head e (next_of kind (size_of kind e) (is_nothing r))) refl refl refl } in
-    let read : buffer ≡ raw_head kind (as_head e (next_of kind (size_of kind e) (is_nothing r))) ++ (e.name ++ (padding_of kind (size_of kind e) (is_nothing r) ++ r))
-    = b.spelled ∙ entry_parts kind e (is_nothing r) r ∙ ap (λ (xs : List ℕ). xs ++ (e.name ++ (padding_of kind (size_of kind e) (is_nothing r) ++ r))) (sym (sound_head kind (as_head e (next_of kind (size_of kind e) (is_nothing r))) refl refl refl)) in
-    let is = read_as kind (as_head e (next_of kind (size_of kind e) (is_nothing r))) buffer (e.name ++ (padding_of kind (size_of kind e) (is_nothing r) ++ r)) f s plain fits read c in
+    let fits : HeadFits (as_head e (next_distance kind (size_of kind e) (is_nothing r))) = record { next = b.is_entry.next; index = omega arith; attributes_size = omega arith; reserved = omega arith; len = b.is_entry.len; numbers = b.is_entry.numbers } in
+    let plain : IsPlain kind (as_head e (next_distance kind (size_of kind e) (is_nothing r))) = record { numbers = b.is_entry.only; blank = blank_of kind (as_head e (next_distance kind (size_of kind e) (is_nothing r))) refl refl refl } in
+    let read : buffer ≡ raw_head kind (as_head e (next_distance kind (size_of kind e) (is_nothing r))) ++ (e.name ++ (padding_of kind (size_of kind e) (is_nothing r) ++ r))
+    = b.spelled ∙ entry_parts kind e (is_nothing r) r ∙ ap (λ (xs : List ℕ). xs ++ (e.name ++ (padding_of kind (size_of kind e) (is_nothing r) ++ r))) (sym (sound_head kind (as_head e (next_distance kind (size_of kind e) (is_nothing r))) refl refl refl)) in
+    let is = read_as kind (as_head e (next_distance kind (size_of kind e) (is_nothing r))) buffer (e.name ++ (padding_of kind (size_of kind e) (is_nothing r) ++ r)) f s plain fits read c in
     let numbers : e.numbers ≡ f.numbers = is.numbers_are ∙ c.is_entry.only in
     let name : e.name ≡ f.name = sym (take_at e.name (padding_of kind (size_of kind e) (is_nothing r) ++ r) (length e.name) refl) ∙ ap (take (length e.name)) is.rest_is ∙ take_at f.name (padding_of kind (size_of kind f) (is_nothing s) ++ s) (length e.name) (sym is.len_is) in
     let behind : padding_of kind (size_of kind e) (is_nothing r) ++ r ≡ padding_of kind (size_of kind f) (is_nothing s) ++ s = sym (drop_at e.name (padding_of kind (size_of kind e) (is_nothing r) ++ r) (length e.name) refl) ∙ ap (drop (length e.name)) is.rest_is ∙ drop_at f.name (padding_of kind (size_of kind f) (is_nothing s) ++ s) (length e.name) (sym is.len_is) in
     let sizes : size_of kind e ≡ size_of kind f = ap (λ (n : ℕ). head_size kind + n) is.len_is in
-    let last : is_nothing r ≡ is_nothing s = same_last kind (size_of kind e) (is_nothing r) (is_nothing s) (omega (arith, head-some kind)) (is.next_is ∙ ap (λ (n : ℕ). next_of kind n (is_nothing s)) (sym sizes)) in
+    let last : is_nothing r ≡ is_nothing s = same_last kind (size_of kind e) (is_nothing r) (is_nothing s) (omega (arith, head-some kind)) (is.next_is ∙ ap (λ (n : ℕ). next_distance kind n (is_nothing s)) (sym sizes)) in
     record {
       entry = rw (numbers, name) refl;
       rest = append_cancel_left (padding_of kind (size_of kind f) (is_nothing s)) r s (ap (λ (xs : List ℕ). xs ++ r) (sym (ap (λ (n : ℕ). padding_of kind n (is_nothing r)) sizes ∙ ap (padding_of kind (size_of kind f)) last)) ∙ behind);
@@ -144,8 +144,8 @@ steps_at result new v old same holds = subst (λ (w : WalkState). StepsToEntry w
 pub begins_longer : (kind : PackKind) (buffer : List ℕ) (e : Packed) (rest : List ℕ) → BeginsWithEntry kind buffer e rest → length rest < length buffer
 begins_longer kind buffer e rest b =
     let s = ap length (b.spelled ∙ entry_parts kind e (is_nothing rest) rest) in
-    let h = length-head kind e.numbers (next_of kind (size_of kind e) (is_nothing rest)) (length e.name) in
-    let a = length-append (head kind e.numbers (next_of kind (size_of kind e) (is_nothing rest)) (length e.name)) (e.name ++ (padding_of kind (size_of kind e) (is_nothing rest) ++ rest)) in
+    let h = length-head kind e.numbers (next_distance kind (size_of kind e) (is_nothing rest)) (length e.name) in
+    let a = length-append (head kind e.numbers (next_distance kind (size_of kind e) (is_nothing rest)) (length e.name)) (e.name ++ (padding_of kind (size_of kind e) (is_nothing rest) ++ rest)) in
     let c = length-append e.name (padding_of kind (size_of kind e) (is_nothing rest) ++ rest) in
     let d = length-append (padding_of kind (size_of kind e) (is_nothing rest)) rest in
     omega (arith, s, h, a, c, d, head-some kind)

@@ -4,15 +4,15 @@ use Rattle.std.specs.Prelude.{◌≡◌, ℕ, ◌+◌, ◌-◌, ◌<◌, ◌≤�
 use Rattle.fsa_types.specs.declared.reply.PackKind.{PackKind}
 use Rattle.fsa_types.specs.LittleEndian.{zeros}
 use Rattle.fsa_types.specs.PackedRows.{Numbers, NumbersFit, PackRow}
-use Rattle.fsa_types.specs.Packing.{Packed, packed, shown, name_of, head_size, rounded, size_of, entry_bytes, entries_bytes, is_nothing}
+use Rattle.fsa_types.specs.Packing.{Packed, packed, shown, name_field, head_size, rounded, size_of, entry_bytes, entries_bytes, is_nothing}
 
 -- the entry of these numbers and units
-abbrev pub entry_of : PackKind → Numbers → List ℕ → Packed
-entry_of kind numbers units = record { numbers = shown kind numbers; name = name_of kind units }
+abbrev pub entry_with : PackKind → Numbers → List ℕ → Packed
+entry_with kind numbers units = record { numbers = shown kind numbers; name = name_field kind units }
 
 -- the entries of what stands for rows
-abbrev pub entries_of : {T : Type 0} → (T → PackRow) → PackKind → List T → List Packed
-entries_of row_of kind items = map (λ item. packed kind (row_of item)) items
+abbrev pub rows_as_entries : {T : Type 0} → (T → PackRow) → PackKind → List T → List Packed
+rows_as_entries row_of kind items = map (λ item. packed kind (row_of item)) items
 
 abbrev pub entries_size : PackKind → List Packed → ℕ
 entries_size kind entries = length (entries_bytes kind entries)
@@ -24,9 +24,9 @@ pub record IsFitting (kind : PackKind) (entries : List Packed) (room : ℕ) (cou
   pub longest : (more : ℕ) → more ≤ length entries → entries_size kind (take more entries) ≤ room → more ≤ count
 
 -- the distance to the next entry; 0 for the last
-abbrev pub next_of : PackKind → ℕ → Bool → ℕ
-next_of kind size true = 0
-next_of kind size false = rounded kind size
+abbrev pub next_distance : PackKind → ℕ → Bool → ℕ
+next_distance kind size true = 0
+next_distance kind size false = rounded kind size
 
 -- what stands between an entry and the next
 abbrev pub padding_of : PackKind → ℕ → Bool → List ℕ
@@ -45,7 +45,7 @@ AreWritable kind (entry ∷ entries) = FitsWidths kind entry (is_nothing entries
 
 -- the field of a name is that of some units
 abbrev pub IsName : PackKind → List ℕ → Type 0
-IsName kind name = (units : List ℕ) × (name ≡ name_of kind units)
+IsName kind name = (units : List ℕ) × (name ≡ name_field kind units)
 
 -- an entry that the layout has
 pub record IsEntry (kind : PackKind) (entry : Packed) (last : Bool) : Type 0 where
@@ -53,7 +53,7 @@ pub record IsEntry (kind : PackKind) (entry : Packed) (last : Bool) : Type 0 whe
   pub only : shown kind entry.numbers ≡ entry.numbers
   pub name : IsName kind entry.name
   pub len : length entry.name < 2 ^ 32
-  pub next : next_of kind (size_of kind entry) last < 2 ^ 32
+  pub next : next_distance kind (size_of kind entry) last < 2 ^ 32
 
 -- the layout has all these entries
 abbrev pub AreEntries : PackKind → List Packed → Type 0
@@ -69,5 +69,5 @@ pub record BeginsWithEntry (kind : PackKind) (buffer : List ℕ) (entry : Packed
 pub record IsTail (kind : PackKind) (next len : ℕ) (after name rest : List ℕ) : Type 0 where
   pub spelled : after ≡ name ++ (padding_of kind (head_size kind + len) (is_nothing rest) ++ rest)
   pub len_is : length name ≡ len
-  pub next_is : next ≡ next_of kind (head_size kind + len) (is_nothing rest)
+  pub next_is : next ≡ next_distance kind (head_size kind + len) (is_nothing rest)
   pub name_is : IsName kind name

@@ -1,8 +1,8 @@
 //! One entry of any layout, written.
 
 ghost use Rattle.std.specs.Prelude.{◌≡◌, ◌+◌, ◌*◌, ◌<◌, ◌≤◌, ◌^◌, ◌++◌, true, false, length, OnOk, if◌then◌else◌};
-ghost use Rattle.fsa_types.specs.Packing.{before_name, after_name, name_of, size_of, rounded, entry_bytes};
-ghost use Rattle.pack_info.specs.Entries.{entry_of};
+ghost use Rattle.fsa_types.specs.Packing.{before_name, after_name, name_field, size_of, rounded, entry_bytes};
+ghost use Rattle.pack_info.specs.Entries.{entry_with};
 
 use crate::layout::{Numbers, push_head, round_up, size_of_head};
 use crate::number::{push_units, push_zeros};
@@ -31,15 +31,15 @@ fn after(kind: PackKind) -> &'static [u16]
 // The number of bytes of the field for a name of so many units.
 pub(crate) fn size_of_name(kind: PackKind, units: &[u16]) -> usize
     requires { length units.now < 2 ^ 32 }
-    ensures { result ≡ length (name_of kind units.now) }
+    ensures { result ≡ length (name_field kind units.now) }
 {
     2 * (before(kind).len() + units.len() + after(kind).len())
 }
 
 // Writes the field of a name.
-#[tactic(auto, unfolding(fsa_types::specs::Packing::name_of))]
+#[tactic(auto, unfolding(fsa_types::specs::Packing::name_field))]
 fn push_name(out: &mut Vec<u8>, kind: PackKind, units: &[u16]) -> Result<(), NoMemory>
-    ensures { OnOk result (out.new.items ≡ out.old.items ++ name_of kind units.now) }
+    ensures { OnOk result (out.new.items ≡ out.old.items ++ name_field kind units.now) }
 {
     push_units(out, before(kind))?;
     push_units(out, units)?;
@@ -55,9 +55,9 @@ pub(crate) fn push_entry(
     last: bool,
 ) -> Result<(), NoMemory>
     requires units { length units.now < 2 ^ 32 }
-    requires size { size_of kind (entry_of kind n.now units.now) < 2 ^ 32 }
-    requires next { last ≡ false → rounded kind (size_of kind (entry_of kind n.now units.now)) < 2 ^ 32 }
-    ensures { OnOk result (out.new.items ≡ out.old.items ++ entry_bytes kind (entry_of kind n.now units.now) last) }
+    requires size { size_of kind (entry_with kind n.now units.now) < 2 ^ 32 }
+    requires next { last ≡ false → rounded kind (size_of kind (entry_with kind n.now units.now)) < 2 ^ 32 }
+    ensures { OnOk result (out.new.items ≡ out.old.items ++ entry_bytes kind (entry_with kind n.now units.now) last) }
 {
     let len = size_of_name(kind, units);
     if last {

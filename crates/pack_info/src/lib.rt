@@ -34,5 +34,5 @@ mod walk;
 
 pub use fixed::{pack_basic, pack_internal, pack_reparse, pack_standard, pack_tag, read_reparse};
 pub use pack::{pack_changes, pack_entries, pack_streams};
-pub use rows::{ChangeRow, DirRow, StreamRow};
+pub use rows::{ChangeRow, DirRow, StreamInfoRow};
 pub use walk::{DirEntries, Malformed, NotifyEntries, PackedEntry, StreamEntries};

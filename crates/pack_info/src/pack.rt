@@ -4,17 +4,17 @@ ghost use Rattle.std.specs.Prelude.{◌≡◌, ◌+◌, ◌<◌, ◌≤◌, ◌^
 ghost use Rattle.fsa_types.specs.declared.reply.PackKind.TheVariants.{Streams, Changes};
 ghost use Rattle.fsa_types.specs.PackedRows.{pack_kind};
 ghost use Rattle.fsa_types.specs.Packing.{entries_bytes, bytes, fitting, packed};
-ghost use Rattle.pack_info.specs.Entries.{AreEntries, AreWritable, IsFitting, entries_of};
+ghost use Rattle.pack_info.specs.Entries.{AreEntries, AreWritable, IsFitting, rows_as_entries};
 
 use crate::entry::{push_entry, size_of_name};
 use crate::layout::{numbers_fit, round_up, size_of_head};
-use crate::rows::{ChangeRow, DirRow, Row, StreamRow};
+use crate::rows::{ChangeRow, DirRow, Row, StreamInfoRow};
 use fsa_types::{Bytes, DirKind, NoMemory, PackKind};
 use std::alloc::Global;
 
 // How many rows fit.
 fn count_fitting<T: Row>(kind: PackKind, rows: &[T], room: u32) -> usize
-    ensures { IsFitting kind (entries_of T.row_of kind rows.now) room result }
+    ensures { IsFitting kind (rows_as_entries T.row_of kind rows.now) room result }
 {
     let room = room as usize;
     let mut rest = rows;
@@ -38,9 +38,9 @@ fn count_fitting<T: Row>(kind: PackKind, rows: &[T], room: u32) -> usize
 
 // The buffer of these rows.
 fn write_rows<T: Row>(alloc: Global, kind: PackKind, rows: &[T]) -> Result<Vec<u8>, NoMemory>
-    requires { AreWritable kind (entries_of T.row_of kind rows.now) }
-    ensures bytes { IfOk result (λ out. out.items ≡ entries_bytes kind (entries_of T.row_of kind rows.now)) }
-    ensures entries { OnOk result (AreEntries kind (entries_of T.row_of kind rows.now)) }
+    requires { AreWritable kind (rows_as_entries T.row_of kind rows.now) }
+    ensures bytes { IfOk result (λ out. out.items ≡ entries_bytes kind (rows_as_entries T.row_of kind rows.now)) }
+    ensures entries { OnOk result (AreEntries kind (rows_as_entries T.row_of kind rows.now)) }
 {
     let mut out = Vec::new(alloc);
     let mut rest = rows;
@@ -60,9 +60,9 @@ fn pack<T: Row>(
     rows: &[T],
     room: u32,
 ) -> Result<(Bytes, usize), NoMemory>
-    ensures count { IfOk result (λ made. IsFitting kind (entries_of T.row_of kind rows.now) room made.1) }
-    ensures bytes { IfOk result (λ made. made.0 ≡ entries_bytes kind (entries_of T.row_of kind (take made.1 rows.now))) }
-    ensures entries { IfOk result (λ made. AreEntries kind (entries_of T.row_of kind (take made.1 rows.now))) }
+    ensures count { IfOk result (λ made. IsFitting kind (rows_as_entries T.row_of kind rows.now) room made.1) }
+    ensures bytes { IfOk result (λ made. made.0 ≡ entries_bytes kind (rows_as_entries T.row_of kind (take made.1 rows.now))) }
+    ensures entries { IfOk result (λ made. AreEntries kind (rows_as_entries T.row_of kind (take made.1 rows.now))) }
 {
     let count = count_fitting(kind, rows, room);
     let out = write_rows(alloc, kind, &rows[..count])?;
@@ -85,7 +85,7 @@ pub fn pack_changes(alloc: Global, rows: &[ChangeRow]) -> Result<Bytes, NoMemory
 /// 'FileStreamInformation'.
 pub fn pack_streams(
     alloc: Global,
-    rows: &[StreamRow],
+    rows: &[StreamInfoRow],
     room: u32,
 ) -> Result<(Bytes, usize), NoMemory>
     ensures count { IfOk result (λ made. made.1 ≡ fitting Streams rows.now room) }

@@ -85,7 +85,7 @@ impl Model for DirRow {
 
 /// A stream of a file, after [MS-FSCC] 'FileStreamInformation'.
 #[derive(Debug, Drop)]
-pub struct StreamRow {
+pub struct StreamInfoRow {
     /// The length in bytes.
     pub length: u64,
     /// The allocation in bytes.
@@ -94,7 +94,7 @@ pub struct StreamRow {
     pub name: Name,
 }
 
-impl Model for StreamRow {
+impl Model for StreamInfoRow {
     ghost use Rattle.fsa_types.specs.PackedRows.{PackRow, stream_row};
 
     ghost Value = { PackRow };
@@ -138,7 +138,7 @@ impl Row for DirRow {
     }
 }
 
-impl Row for StreamRow {
+impl Row for StreamInfoRow {
     ghost row_of = { λ r. r };
 
     fn numbers(&self) -> Numbers {

@@ -13,8 +13,8 @@ use Rattle.std.proofs.lemmas.List.Folds.{list_any_at, list_any-append}
 use Rattle.fsa_types.specs.Rows.{lives, row_of, with_row_changed, without_row}
 use Rattle.fsa_types.specs.declared.reply.Blocker.{Blocker}
 use Rattle.fsa_types.proofs.RowLemmas.{IsAt-position, fails-none, row_of-none}
-use Rattle.pending_queue.specs.Lists.{AreCounted, AreInOrder, IsBehind, NoneBeside, counted, discounted, is_at, ready_turns, sorted, turns_of, with_count, with_turn}
-use Rattle.pending_queue.specs.PendingQueue.{blockers_of, calls_added, held_of, is_same, with_ended, with_held}
+use Rattle.pending_queue.specs.Lists.{AreCounted, AreInOrder, IsBehind, NoneBeside, counted, discounted, is_at, ready_turns, sorted, turns_of, with_count, with_turn_among}
+use Rattle.pending_queue.specs.PendingQueue.{blockers_under, calls_added, held_of, is_same, with_blocker_ended, with_call_held}
 use Rattle.pending_queue.proofs.QueueLemmas.{blockers-append, blockers-ended, blockers-gone, blockers-kept, held-ended, held-held, held-lives, held-removed, put, put-own, put-others}
 
 -- ---- rows under numbers that differ
@@ -143,7 +143,7 @@ pub turns-lives : (calls : List (ℕ × ℕ)) (turn : ℕ) → list_any (λ othe
 turns-lives [] turn = refl
 turns-lives (c ∷ cs) turn = ap (λ rest. c.0 == turn || rest) (turns-lives cs turn)
 
-pub turns-put : (calls : List (ℕ × ℕ)) (turn count : ℕ) → turns_of (with_count calls turn count) ≡ with_turn (turns_of calls) turn
+pub turns-put : (calls : List (ℕ × ℕ)) (turn count : ℕ) → turns_of (with_count calls turn count) ≡ with_turn_among (turns_of calls) turn
 turns-put calls turn count =
     elim (cases_Bool (lives calls turn)) [
       | inl there ↦ rw (turns-lives calls turn, there) (turns-changed (λ _. count) calls turn)
@@ -231,7 +231,7 @@ counted-changed (t ∷ ts) waited turn blockers =
     let rest = counted-changed ts waited turn blockers in
     elim (cases_Bool (t == turn)) [
       | inl own ↦ (let is : t ≡ turn = eqb-true t turn own in
-          let its : blockers_of (put waited turn blockers) t ≡ blockers = rw is (put-own waited turn blockers) in
+          let its : blockers_under (put waited turn blockers) t ≡ blockers = rw is (put-own waited turn blockers) in
           rw (own, its, rest) refl)
       | inr kept ↦ rw (kept, put-others waited turn blockers t kept, rest) refl
     ]
@@ -248,14 +248,14 @@ counted-others (t ∷ ts) waited turn blockers none =
 
 -- blockers are put under a turn
 pub counted-put : (turns : List ℕ) (waited : List (ℕ × Blocker)) (turn : ℕ) (blockers : List Blocker)
-    → with_count (counted turns waited) turn (length blockers) ≡ counted (with_turn turns turn) (put waited turn blockers)
+    → with_count (counted turns waited) turn (length blockers) ≡ counted (with_turn_among turns turn) (put waited turn blockers)
 counted-put turns waited turn blockers =
     let there_too : lives (counted turns waited) turn ≡ list_any (λ other. other == turn) turns = sym (turns-lives (counted turns waited) turn) ∙ ap (λ its. list_any (λ other. other == turn) its) (turns-counted turns waited) in
     elim (cases_Bool (list_any (λ other. other == turn) turns)) [
       | inl there ↦ rw (there_too, there) (counted-changed turns waited turn blockers)
       | inr none ↦ rw (there_too, none) (sym (
-          map-append (λ t. (t, length (blockers_of (put waited turn blockers) t))) turns (turn ∷ [])
-          ∙ ap (λ front. front ++ (turn, length (blockers_of (put waited turn blockers) turn)) ∷ []) (counted-others turns waited turn blockers none)
+          map-append (λ t. (t, length (blockers_under (put waited turn blockers) t))) turns (turn ∷ [])
+          ∙ ap (λ front. front ++ (turn, length (blockers_under (put waited turn blockers) turn)) ∷ []) (counted-others turns waited turn blockers none)
           ∙ ap (λ its. counted turns waited ++ (turn, length its) ∷ []) (put-own waited turn blockers)))
     ]
 
@@ -269,23 +269,23 @@ counted-removed (t ∷ ts) waited turn =
       | inr kept ↦ rw (kept, blockers-kept waited turn t kept, counted-removed ts waited turn) refl
     ]
 
-pub row-counted : (turns : List ℕ) (waited : List (ℕ × Blocker)) (turn count : ℕ) → row_of (counted turns waited) turn ≡ Some count → count ≡ length (blockers_of waited turn)
+pub row-counted : (turns : List ℕ) (waited : List (ℕ × Blocker)) (turn count : ℕ) → row_of (counted turns waited) turn ≡ Some count → count ≡ length (blockers_under waited turn)
 row-counted [] waited turn count found = cc
 row-counted (t ∷ ts) waited turn count found =
     elim (cases_Bool (t == turn)) [
       | inl own ↦ (let is : t ≡ turn = eqb-true t turn own in
-          let here : Some (length (blockers_of waited t)) ≡ Some count = rw own at found in
-          let same : length (blockers_of waited t) ≡ count = cc in
+          let here : Some (length (blockers_under waited t)) ≡ Some count = rw own at found in
+          let same : length (blockers_under waited t) ≡ count = cc in
           sym (rw is at same))
       | inr other ↦ row-counted ts waited turn count (rw other at found)
     ]
 
 -- none stands under a turn of which there are none
-pub none-under : (waited : List (ℕ × Blocker)) (turn : ℕ) → length (blockers_of waited turn) ≡ 0 → filter (λ e. not (e.0 == turn)) waited ≡ waited
+pub none-under : (waited : List (ℕ × Blocker)) (turn : ℕ) → length (blockers_under waited turn) ≡ 0 → filter (λ e. not (e.0 == turn)) waited ≡ waited
 none-under [] turn none = refl
 none-under (e ∷ es) turn none =
     elim (cases_Bool (e.0 == turn)) [
-      | inl own ↦ (let some : suc (length (blockers_of es turn)) ≡ 0 = rw own at none in absurd (omega arith))
+      | inl own ↦ (let some : suc (length (blockers_under es turn)) ≡ 0 = rw own at none in absurd (omega arith))
       | inr other ↦ rw other (ap (λ rest. e ∷ rest) (none-under es turn (rw other at none)))
     ]
 
@@ -295,16 +295,16 @@ counted-less : (turns : List ℕ) (before after : List (ℕ × Blocker)) (entry 
 counted-less [] before after entry = refl
 counted-less (t ∷ ts) before after entry =
     let rest = counted-less ts before after entry in
-    let with_it = ap length (blockers-append before (entry ∷ after) t) ∙ length-append (blockers_of before t) (blockers_of (entry ∷ after) t) in
-    let without_it = ap length (blockers-append before after t) ∙ length-append (blockers_of before t) (blockers_of after t) in
+    let with_it = ap length (blockers-append before (entry ∷ after) t) ∙ length-append (blockers_under before t) (blockers_under (entry ∷ after) t) in
+    let without_it = ap length (blockers-append before after t) ∙ length-append (blockers_under before t) (blockers_under after t) in
     elim (cases_Bool (t == entry.0)) [
       | inl own ↦ (let its : (entry.0 == t) ≡ true = eq-eqb entry.0 t (sym (eqb-true t entry.0 own)) in
-          let more : length (blockers_of (before ++ entry ∷ after) t) ≡ length (blockers_of before t) + suc (length (blockers_of after t)) = rw its at with_it in
-          let less : length (blockers_of (before ++ entry ∷ after) t) - 1 ≡ length (blockers_of (before ++ after) t) = omega arith in
+          let more : length (blockers_under (before ++ entry ∷ after) t) ≡ length (blockers_under before t) + suc (length (blockers_under after t)) = rw its at with_it in
+          let less : length (blockers_under (before ++ entry ∷ after) t) - 1 ≡ length (blockers_under (before ++ after) t) = omega arith in
           rw (own, less, rest) refl)
       | inr other ↦ (let not_its : (entry.0 == t) ≡ false = other_way t entry.0 other in
-          let more : length (blockers_of (before ++ entry ∷ after) t) ≡ length (blockers_of before t) + length (blockers_of after t) = rw not_its at with_it in
-          let same : length (blockers_of (before ++ entry ∷ after) t) ≡ length (blockers_of (before ++ after) t) = more ∙ sym without_it in
+          let more : length (blockers_under (before ++ entry ∷ after) t) ≡ length (blockers_under before t) + length (blockers_under after t) = rw not_its at with_it in
+          let same : length (blockers_under (before ++ entry ∷ after) t) ≡ length (blockers_under (before ++ after) t) = more ∙ sym without_it in
           rw (other, same, rest) refl)
     ]
 
@@ -352,7 +352,7 @@ neither false false is = (refl, refl)
 
 lives-put : (calls : List (ℕ × ℕ)) (turn count other : ℕ) → lives (with_count calls turn count) other ≡ false → ((other == turn) ≡ false) × (lives calls other ≡ false)
 lives-put calls turn count other none =
-    let turns : list_any (λ t. t == other) (with_turn (turns_of calls) turn) ≡ false
+    let turns : list_any (λ t. t == other) (with_turn_among (turns_of calls) turn) ≡ false
     = ap (λ its. list_any (λ t. t == other) its) (sym (turns-put calls turn count)) ∙ turns-lives (with_count calls turn count) other ∙ none in
     elim (cases_Bool (list_any (λ t. t == turn) (turns_of calls))) [
       | inl there ↦ (let its : list_any (λ t. t == other) (turns_of calls) ≡ false = rw there at turns in
@@ -415,11 +415,11 @@ AreCounted-removed calls waited ready turn are = record {
 
 -- what is seen of the queue then
 pub seen-ended : (calls : List (ℕ × ℕ)) (waited : List (ℕ × Blocker)) (blocker : Blocker)
-    → held_of (turns_of (discounted blocker waited calls)) (filter (λ e. not (is_same blocker e.1)) waited) ≡ with_ended (held_of (turns_of calls) waited) blocker
+    → held_of (turns_of (discounted blocker waited calls)) (filter (λ e. not (is_same blocker e.1)) waited) ≡ with_blocker_ended (held_of (turns_of calls) waited) blocker
 seen-ended calls waited blocker = ap (λ its. held_of its (filter (λ e. not (is_same blocker e.1)) waited)) (turns-discounted blocker waited calls) ∙ held-ended (turns_of calls) waited blocker
 
 pub seen-put : (calls : List (ℕ × ℕ)) (waited : List (ℕ × Blocker)) (turn : ℕ) (blockers : List Blocker)
-    → held_of (turns_of (with_count calls turn (length blockers))) (put waited turn blockers) ≡ with_held (held_of (turns_of calls) waited) turn blockers
+    → held_of (turns_of (with_count calls turn (length blockers))) (put waited turn blockers) ≡ with_call_held (held_of (turns_of calls) waited) turn blockers
 seen-put calls waited turn blockers = ap (λ its. held_of its (put waited turn blockers)) (turns-put calls turn (length blockers)) ∙ held-held (turns_of calls) waited turn blockers
 
 pub seen-removed : (calls : List (ℕ × ℕ)) (waited : List (ℕ × Blocker)) (turn : ℕ)
@@ -461,15 +461,15 @@ seen-unremoved calls waited turn none = sym (without-none (held_of (turns_of cal
 
 -- how many blockers a call has
 pub count-is : (calls : List (ℕ × ℕ)) (waited : List (ℕ × Blocker)) (ready : List ℕ) (turn count : ℕ) → AreCounted calls waited ready → row_of calls turn ≡ Some count
-    → count ≡ length (blockers_of waited turn)
+    → count ≡ length (blockers_under waited turn)
 count-is calls waited ready turn count are found = row-counted (turns_of calls) waited turn count (ap (λ its. row_of its turn) (sym are.counts) ∙ found)
 
 -- or 0, where it isn't held
 pub counts-all : (calls : List (ℕ × ℕ)) (waited : List (ℕ × Blocker)) (ready : List ℕ) (turn count : ℕ) → AreCounted calls waited ready → count ≡ option_map_or (λ count. count) (row_of calls turn) 0
-    → count ≡ length (blockers_of waited turn)
+    → count ≡ length (blockers_under waited turn)
 counts-all calls waited ready turn count are is = is ∙ go (row_of calls turn) refl
   where
-    go : (kept : Option ℕ) → row_of calls turn ≡ kept → option_map_or (λ count. count) kept 0 ≡ length (blockers_of waited turn)
+    go : (kept : Option ℕ) → row_of calls turn ≡ kept → option_map_or (λ count. count) kept 0 ≡ length (blockers_under waited turn)
     go None none = ap length (sym (are.beside turn (row-lives calls turn none)))
     go (Some count) some = count-is calls waited ready turn count are some
 

@@ -7,7 +7,7 @@ use Rattle.fsa_types.specs.Pending.{Pending, is_held, is_let_go, next_let_go}
 use Rattle.fsa_types.specs.Rows.{lives, without_row, with_row_changed}
 use Rattle.fsa_types.specs.declared.reply.Blocker.{Blocker}
 use Rattle.pending_queue.specs.Lists.{least}
-use Rattle.pending_queue.specs.PendingQueue.{is_same, with_held, with_ended, next_ready, held_among}
+use Rattle.pending_queue.specs.PendingQueue.{is_same, with_call_held, with_blocker_ended, next_ready, held_among}
 use Rattle.pending_queue.proofs.LeastLemmas.{in_order-first}
 
 -- ---- which call is next
@@ -52,7 +52,7 @@ filter-both test more (b ∷ bs) =
 
 -- one of them lives no more
 pub among-ended : (alive : Blocker → Bool) (pending : List (ℕ × Pending)) (blocker : Blocker)
-    → held_among (λ b. alive b && not (is_same blocker b)) pending ≡ with_ended (held_among alive pending) blocker
+    → held_among (λ b. alive b && not (is_same blocker b)) pending ≡ with_blocker_ended (held_among alive pending) blocker
 among-ended alive [] blocker = refl
 among-ended alive (p ∷ ps) blocker =
     elim (cases_Bool (is_held p.1)) [
@@ -122,7 +122,7 @@ among-none alive (p ∷ ps) turn none =
 
 -- a new call is held
 pub among-held : (alive : Blocker → Bool) (pending : List (ℕ × Pending)) (turn : ℕ) (row : Pending) → lives pending turn ≡ false → is_held row ≡ true
-    → All (λ b. alive b ≡ true) row.blockers → held_among alive (pending ++ (turn, row) ∷ []) ≡ with_held (held_among alive pending) turn row.blockers
+    → All (λ b. alive b ≡ true) row.blockers → held_among alive (pending ++ (turn, row) ∷ []) ≡ with_call_held (held_among alive pending) turn row.blockers
 among-held alive pending turn row none is all = rw (among-none alive pending turn none) (among-last alive pending turn row is
     ∙ ap (λ its. held_among alive pending ++ (turn, its) ∷ []) (filter-whole alive row.blockers all))
 
@@ -164,7 +164,7 @@ among-changed alive (p ∷ ps) turn blockers all some whole =
 -- a call that is held is held anew
 pub among-held_anew : (alive : Blocker → Bool) (pending : List (ℕ × Pending)) (turn : ℕ) (blockers : List Blocker) → lives pending turn ≡ true → IsHeldUnder pending turn
     → (length blockers == 0) ≡ false → All (λ b. alive b ≡ true) blockers
-    → held_among alive (with_row_changed (with_blockers blockers) pending turn) ≡ with_held (held_among alive pending) turn blockers
+    → held_among alive (with_row_changed (with_blockers blockers) pending turn) ≡ with_call_held (held_among alive pending) turn blockers
 among-held_anew alive pending turn blockers there all some alive_all = rw (among-lives alive pending turn all there)
     (among-changed alive pending turn blockers all some (filter-whole alive blockers alive_all))
 

@@ -7,8 +7,8 @@ use Rattle.std.proofs.lemmas.List.{map-append, append-nil, length-map, get_or-ma
 use Rattle.std.proofs.lemmas.List.Elements.{filter-append}
 use Rattle.fsa_types.specs.Rows.{lives, without_row, with_row_changed}
 use Rattle.fsa_types.specs.declared.reply.Blocker.{Blocker}
-use Rattle.pending_queue.specs.Lists.{AreCounted, counted, least, ready_turns, turns_of, with_turn}
-use Rattle.pending_queue.specs.PendingQueue.{blockers_of, held_of, is_same, with_held, with_ended, next_ready}
+use Rattle.pending_queue.specs.Lists.{AreCounted, counted, least, ready_turns, turns_of, with_turn_among}
+use Rattle.pending_queue.specs.PendingQueue.{blockers_under, held_of, is_same, with_call_held, with_blocker_ended, next_ready}
 use Rattle.pending_queue.proofs.LeastLemmas.{in_order-first, sorted-first}
 
 -- ---- the blockers of one turn
@@ -18,7 +18,7 @@ other_way a b differ = ne_eqb b a (λ same. eqb-false a b differ (sym same))
 
 -- those of another turn stay where one turn's are taken out, and its own go
 pub blockers-kept : (waited : List (ℕ × Blocker)) (turn other : ℕ) → (other == turn) ≡ false
-    → blockers_of (filter (λ e. not (e.0 == turn)) waited) other ≡ blockers_of waited other
+    → blockers_under (filter (λ e. not (e.0 == turn)) waited) other ≡ blockers_under waited other
 blockers-kept [] turn other differ = refl
 blockers-kept (e ∷ es) turn other differ =
     elim (cases_Bool (e.0 == turn)) [
@@ -31,7 +31,7 @@ blockers-kept (e ∷ es) turn other differ =
       ]
     ]
 
-pub blockers-gone : (waited : List (ℕ × Blocker)) (turn : ℕ) → blockers_of (filter (λ e. not (e.0 == turn)) waited) turn ≡ []
+pub blockers-gone : (waited : List (ℕ × Blocker)) (turn : ℕ) → blockers_under (filter (λ e. not (e.0 == turn)) waited) turn ≡ []
 blockers-gone [] turn = refl
 blockers-gone (e ∷ es) turn =
     elim (cases_Bool (e.0 == turn)) [
@@ -40,15 +40,15 @@ blockers-gone (e ∷ es) turn =
     ]
 
 -- those that are put under one turn are its own, and no other's
-pub blockers-own : (blockers : List Blocker) (turn : ℕ) → blockers_of (map (λ blocker. (turn, blocker)) blockers) turn ≡ blockers
+pub blockers-own : (blockers : List Blocker) (turn : ℕ) → blockers_under (map (λ blocker. (turn, blocker)) blockers) turn ≡ blockers
 blockers-own [] turn = refl
 blockers-own (b ∷ bs) turn = rw (eq-eqb turn turn refl) (ap (λ rest. b ∷ rest) (blockers-own bs turn))
 
-blockers-others : (blockers : List Blocker) (turn other : ℕ) → (other == turn) ≡ false → blockers_of (map (λ blocker. (turn, blocker)) blockers) other ≡ []
+blockers-others : (blockers : List Blocker) (turn other : ℕ) → (other == turn) ≡ false → blockers_under (map (λ blocker. (turn, blocker)) blockers) other ≡ []
 blockers-others [] turn other differ = refl
 blockers-others (b ∷ bs) turn other differ = rw (other_way other turn differ) (blockers-others bs turn other differ)
 
-pub blockers-append : (some more : List (ℕ × Blocker)) (turn : ℕ) → blockers_of (some ++ more) turn ≡ blockers_of some turn ++ blockers_of more turn
+pub blockers-append : (some more : List (ℕ × Blocker)) (turn : ℕ) → blockers_under (some ++ more) turn ≡ blockers_under some turn ++ blockers_under more turn
 blockers-append some more turn =
     ap (map (λ (e : ℕ × Blocker). e.1)) (filter-append (λ (e : ℕ × Blocker). e.0 == turn) some more)
     ∙ map-append (λ (e : ℕ × Blocker). e.1) (filter (λ e. e.0 == turn) some) (filter (λ e. e.0 == turn) more)
@@ -57,19 +57,19 @@ blockers-append some more turn =
 abbrev pub put : List (ℕ × Blocker) → ℕ → List Blocker → List (ℕ × Blocker)
 put waited turn blockers = filter (λ e. not (e.0 == turn)) waited ++ map (λ blocker. (turn, blocker)) blockers
 
-pub put-own : (waited : List (ℕ × Blocker)) (turn : ℕ) (blockers : List Blocker) → blockers_of (put waited turn blockers) turn ≡ blockers
+pub put-own : (waited : List (ℕ × Blocker)) (turn : ℕ) (blockers : List Blocker) → blockers_under (put waited turn blockers) turn ≡ blockers
 put-own waited turn blockers = blockers-append (filter (λ e. not (e.0 == turn)) waited) (map (λ blocker. (turn, blocker)) blockers) turn
-    ∙ ap (λ front. front ++ blockers_of (map (λ blocker. (turn, blocker)) blockers) turn) (blockers-gone waited turn) ∙ blockers-own blockers turn
+    ∙ ap (λ front. front ++ blockers_under (map (λ blocker. (turn, blocker)) blockers) turn) (blockers-gone waited turn) ∙ blockers-own blockers turn
 
 pub put-others : (waited : List (ℕ × Blocker)) (turn : ℕ) (blockers : List Blocker) (other : ℕ) → (other == turn) ≡ false
-    → blockers_of (put waited turn blockers) other ≡ blockers_of waited other
+    → blockers_under (put waited turn blockers) other ≡ blockers_under waited other
 put-others waited turn blockers other differ = blockers-append (filter (λ e. not (e.0 == turn)) waited) (map (λ blocker. (turn, blocker)) blockers) other
-    ∙ ap (λ back. blockers_of (filter (λ e. not (e.0 == turn)) waited) other ++ back) (blockers-others blockers turn other differ)
-    ∙ append-nil (blockers_of (filter (λ e. not (e.0 == turn)) waited) other) ∙ blockers-kept waited turn other differ
+    ∙ ap (λ back. blockers_under (filter (λ e. not (e.0 == turn)) waited) other ++ back) (blockers-others blockers turn other differ)
+    ∙ append-nil (blockers_under (filter (λ e. not (e.0 == turn)) waited) other) ∙ blockers-kept waited turn other differ
 
 -- one blocker taken out
 pub blockers-ended : (waited : List (ℕ × Blocker)) (blocker : Blocker) (turn : ℕ)
-    → blockers_of (filter (λ e. not (is_same blocker e.1)) waited) turn ≡ filter (λ other. not (is_same blocker other)) (blockers_of waited turn)
+    → blockers_under (filter (λ e. not (is_same blocker e.1)) waited) turn ≡ filter (λ other. not (is_same blocker other)) (blockers_under waited turn)
 blockers-ended [] blocker turn = refl
 blockers-ended (e ∷ es) blocker turn =
     elim (cases_Bool (is_same blocker e.1)) [
@@ -90,7 +90,7 @@ held-lives [] waited turn = refl
 held-lives (t ∷ ts) waited turn = ap (λ rest. t == turn || rest) (held-lives ts waited turn)
 
 pub held-ended : (turns : List ℕ) (waited : List (ℕ × Blocker)) (blocker : Blocker)
-    → held_of turns (filter (λ e. not (is_same blocker e.1)) waited) ≡ with_ended (held_of turns waited) blocker
+    → held_of turns (filter (λ e. not (is_same blocker e.1)) waited) ≡ with_blocker_ended (held_of turns waited) blocker
 held-ended [] waited blocker = refl
 held-ended (t ∷ ts) waited blocker = rw (blockers-ended waited blocker t, held-ended ts waited blocker) refl
 
@@ -109,7 +109,7 @@ held-changed [] waited turn blockers = refl
 held-changed (t ∷ ts) waited turn blockers =
     elim (cases_Bool (t == turn)) [
       | inl own ↦ (let is : t ≡ turn = eqb-true t turn own in
-          let its : blockers_of (put waited turn blockers) t ≡ blockers = rw is (put-own waited turn blockers) in
+          let its : blockers_under (put waited turn blockers) t ≡ blockers = rw is (put-own waited turn blockers) in
           rw (own, its, held-changed ts waited turn blockers) refl)
       | inr kept ↦ rw (kept, put-others waited turn blockers t kept, held-changed ts waited turn blockers) refl
     ]
@@ -125,13 +125,13 @@ held-others (t ∷ ts) waited turn blockers none =
     ]
 
 pub held-held : (turns : List ℕ) (waited : List (ℕ × Blocker)) (turn : ℕ) (blockers : List Blocker)
-    → held_of (with_turn turns turn) (put waited turn blockers) ≡ with_held (held_of turns waited) turn blockers
+    → held_of (with_turn_among turns turn) (put waited turn blockers) ≡ with_call_held (held_of turns waited) turn blockers
 held-held turns waited turn blockers =
     elim (cases_Bool (list_any (λ other. other == turn) turns)) [
       | inl there ↦ rw (held-lives turns waited turn, there) (held-changed turns waited turn blockers)
       | inr none ↦ rw (held-lives turns waited turn, none) (
-          map-append (λ t. (t, blockers_of (put waited turn blockers) t)) turns (turn ∷ [])
-          ∙ ap (λ front. front ++ (turn, blockers_of (put waited turn blockers) turn) ∷ []) (held-others turns waited turn blockers none)
+          map-append (λ t. (t, blockers_under (put waited turn blockers) t)) turns (turn ∷ [])
+          ∙ ap (λ front. front ++ (turn, blockers_under (put waited turn blockers) turn) ∷ []) (held-others turns waited turn blockers none)
           ∙ ap (λ its. held_of turns waited ++ (turn, its) ∷ []) (put-own waited turn blockers))
     ]
 
@@ -140,7 +140,7 @@ held-held turns waited turn blockers =
 ready-held : (turns : List ℕ) (waited : List (ℕ × Blocker)) → map (λ e. e.0) (filter (λ e. length e.1 == 0) (held_of turns waited)) ≡ ready_turns (counted turns waited)
 ready-held [] waited = refl
 ready-held (t ∷ ts) waited =
-    elim (cases_Bool (length (blockers_of waited t) == 0)) [
+    elim (cases_Bool (length (blockers_under waited t) == 0)) [
       | inl free ↦ rw free (ap (λ rest. t ∷ rest) (ready-held ts waited))
       | inr blocked ↦ rw blocked (ready-held ts waited)
     ]
@@ -153,7 +153,7 @@ next_ready-first calls waited ready are = in_order-first (filter (λ e. length e
 
 pub differ-held_of : (calls : List (ℕ × ℕ)) (waited : List (ℕ × Blocker)) → AllPairs (λ a b. (a.0 == b.0) ≡ false) calls → AllPairs (λ a b. (a.0 == b.0) ≡ false) (held_of (turns_of calls) waited)
 differ-held_of calls waited differ i j d below within =
-    let view : ℕ → ℕ × List Blocker = λ turn. (turn, blockers_of waited turn) in
+    let view : ℕ → ℕ × List Blocker = λ turn. (turn, blockers_under waited turn) in
     let turn : ℕ × ℕ → ℕ = λ call. call.0 in
     let many = length-map (turns_of calls) view in
     let calls_many = length-map calls turn in

@@ -11,13 +11,13 @@ use Rattle.fsa_types.specs.declared.reply.Blocker.TheVariants.{Break, Lock}
 use Rattle.pending_queue.specs.declared.waits.Wait.{Wait}
 use Rattle.pending_queue.specs.Lists.{discounted, turns_of}
 use Rattle.pending_queue.specs.PendingQueue.{is_same}
-use Rattle.pending_queue.specs.Waits.{AreFound, AreLinked, bare, by_blocker, by_turn, end_of, entries_of, is_blocker, is_in, is_out, is_turn, link_of, links_of, nothing, number_of, over, over_at, seek, slot, slots_of, turn_link_of}
+use Rattle.pending_queue.specs.Waits.{AreFound, AreLinked, bare, by_blocker, by_turn, end_of, living_entries, is_blocker, is_in, is_out, is_turn, link_of, wait_links, nothing, blocker_number, ended_where, over_at, seek, slot, slots_of, turn_link_of}
 use Rattle.pending_queue.proofs.CountLemmas.{turns-changed}
 use Rattle.pending_queue.proofs.SeekLemmas.{AreLinked-push, end-headed, seek-all, seek-gap, seek-le, seek-settled, settled-here}
 
 -- ---- one more
 
-pub entries-push : (waits : List Wait) (wait : Wait) → wait.lives ≡ true → entries_of (waits ++ wait ∷ []) ≡ entries_of waits ++ (wait.turn, wait.blocker) ∷ []
+pub entries-push : (waits : List Wait) (wait : Wait) → wait.lives ≡ true → living_entries (waits ++ wait ∷ []) ≡ living_entries waits ++ (wait.turn, wait.blocker) ∷ []
 entries-push [] wait lives = rw lives refl
 entries-push (w ∷ ws) wait lives =
     elim (cases_Bool w.lives) [
@@ -25,14 +25,14 @@ entries-push (w ∷ ws) wait lives =
       | inr gone ↦ rw gone (entries-push ws wait lives)
     ]
 
-pub entries-many : (waits : List Wait) → length (entries_of waits) ≡ count_by (λ wait. wait.lives) waits
+pub entries-many : (waits : List Wait) → length (living_entries waits) ≡ count_by (λ wait. wait.lives) waits
 entries-many waits = length-map (filter (λ (wait : Wait). wait.lives) waits) (λ wait. (wait.turn, wait.blocker)) ∙ length-filter _ waits
 
 slots-push : (key : Wait → ℕ) (many : ℕ) (waits : List Wait) (wait : Wait) → slots_of key many (waits ++ wait ∷ []) ≡ slots_of key many waits ++ slot many (key wait) ∷ []
 slots-push key many [] wait = refl
 slots-push key many (w ∷ ws) wait = ap (λ rest. slot many (key w) ∷ rest) (slots-push key many ws wait)
 
-links-push : (link : Wait → ℕ) (waits : List Wait) (wait : Wait) → links_of link (waits ++ wait ∷ []) ≡ links_of link waits ++ link wait ∷ []
+links-push : (link : Wait → ℕ) (waits : List Wait) (wait : Wait) → wait_links link (waits ++ wait ∷ []) ≡ wait_links link waits ++ link wait ∷ []
 links-push link [] wait = refl
 links-push link (w ∷ ws) wait = ap (λ rest. link w ∷ rest) (links-push link ws wait)
 
@@ -40,7 +40,7 @@ slots-many : (key : Wait → ℕ) (many : ℕ) (waits : List Wait) → length (s
 slots-many key many [] = refl
 slots-many key many (w ∷ ws) = ap suc (slots-many key many ws)
 
-links-many : (link : Wait → ℕ) (waits : List Wait) → length (links_of link waits) ≡ length waits
+links-many : (link : Wait → ℕ) (waits : List Wait) → length (wait_links link waits) ≡ length waits
 links-many link [] = refl
 links-many link (w ∷ ws) = ap suc (links-many link ws)
 
@@ -56,18 +56,18 @@ slot-within many number some =
     rw none (omega arith)
 
 -- where those of the slot of a number end
-end-is : (key link : Wait → ℕ) (heads : List ℕ) (waits : List Wait) (number : ℕ) → AreLinked heads (slots_of key (length heads) waits) (links_of link waits)
+end-is : (key link : Wait → ℕ) (heads : List ℕ) (waits : List Wait) (number : ℕ) → AreLinked heads (slots_of key (length heads) waits) (wait_links link waits)
     → end_of heads (slot (length heads) number) (length waits) ≡ seek (is_in (slots_of key (length heads) waits) (slot (length heads) number)) (length waits)
 end-is key link [] waits number are = seek-all (is_in (slots_of key 0 waits) 0) (length waits) (λ p _. no_slots key waits p)
 end-is key link (h ∷ hs) waits number are =
     let heads : List ℕ = h ∷ hs in
     let slots : List ℕ = slots_of key (length heads) waits in
-    rw (← slots-many key (length heads) waits) (end-headed heads slots (links_of link waits) (slot (length heads) number) are (slot-within (length heads) number (omega arith)))
+    rw (← slots-many key (length heads) waits) (end-headed heads slots (wait_links link waits) (slot (length heads) number) are (slot-within (length heads) number (omega arith)))
 
 -- one is put in, and the head of its slot is set behind it
-pub AreLinked-pushed : (key link : Wait → ℕ) (heads : List ℕ) (waits : List Wait) (wait : Wait) (own end : ℕ) → AreLinked heads (slots_of key (length heads) waits) (links_of link waits)
+pub AreLinked-pushed : (key link : Wait → ℕ) (heads : List ℕ) (waits : List Wait) (wait : Wait) (own end : ℕ) → AreLinked heads (slots_of key (length heads) waits) (wait_links link waits)
     → own ≡ slot (length heads) (key wait) → link wait ≡ end_of heads own (length waits) → end ≡ suc (length waits)
-    → AreLinked (set heads own end) (slots_of key (length (set heads own end)) (waits ++ wait ∷ [])) (links_of link (waits ++ wait ∷ []))
+    → AreLinked (set heads own end) (slots_of key (length (set heads own end)) (waits ++ wait ∷ [])) (wait_links link (waits ++ wait ∷ []))
 AreLinked-pushed key link heads waits wait own end are is linked behind =
     let slots : List ℕ = slots_of key (length heads) waits in
     let many = slots-many key (length heads) waits in
@@ -75,7 +75,7 @@ AreLinked-pushed key link heads waits wait own end are is linked behind =
     let found : link wait ≡ seek (is_in slots own) (length slots) = linked ∙ ap (λ (k : ℕ). end_of heads k (length waits)) is ∙ end-is key link heads waits (key wait) are
     ∙ ap (λ (k : ℕ). seek (is_in slots k) (length waits)) (sym is) ∙ ap (seek (is_in slots own)) (sym many) in
     let last : end ≡ suc (length slots) = behind ∙ ap suc (sym many) in
-    let pushed = AreLinked-push heads slots (links_of link waits) own (link wait) are (as_many ∙ sym many) found in
+    let pushed = AreLinked-push heads slots (wait_links link waits) own (link wait) are (as_many ∙ sym many) found in
     rw (length-set heads own end, slots-push key (length heads) waits wait, links-push link waits wait, ← is, last) pushed
 
 -- ---- all but whether they live
@@ -84,15 +84,15 @@ slots-bare : (key : Wait → ℕ) (many : ℕ) (waits : List Wait) → ((wait : 
 slots-bare key many [] keeps = refl
 slots-bare key many (w ∷ ws) keeps = rw (keeps w, slots-bare key many ws keeps) refl
 
-links-bare : (link : Wait → ℕ) (waits : List Wait) → ((wait : Wait) → link (bare wait) ≡ link wait) → links_of link (map bare waits) ≡ links_of link waits
+links-bare : (link : Wait → ℕ) (waits : List Wait) → ((wait : Wait) → link (bare wait) ≡ link wait) → wait_links link (map bare waits) ≡ wait_links link waits
 links-bare link [] keeps = refl
 links-bare link (w ∷ ws) keeps = rw (keeps w, links-bare link ws keeps) refl
 
 slots-kept : (key : Wait → ℕ) (many : ℕ) (old new : List Wait) → ((wait : Wait) → key (bare wait) ≡ key wait) → map bare new ≡ map bare old → slots_of key many new ≡ slots_of key many old
 slots-kept key many old new keeps same = sym (slots-bare key many new keeps) ∙ ap (slots_of key many) same ∙ slots-bare key many old keeps
 
-links-kept : (link : Wait → ℕ) (old new : List Wait) → ((wait : Wait) → link (bare wait) ≡ link wait) → map bare new ≡ map bare old → links_of link new ≡ links_of link old
-links-kept link old new keeps same = sym (links-bare link new keeps) ∙ ap (links_of link) same ∙ links-bare link old keeps
+links-kept : (link : Wait → ℕ) (old new : List Wait) → ((wait : Wait) → link (bare wait) ≡ link wait) → map bare new ≡ map bare old → wait_links link new ≡ wait_links link old
+links-kept link old new keeps same = sym (links-bare link new keeps) ∙ ap (wait_links link) same ∙ links-bare link old keeps
 
 pub AreFound-kept : (heads turn_heads : List ℕ) (old new : List Wait) → AreFound heads turn_heads old → map bare new ≡ map bare old → AreFound heads turn_heads new
 AreFound-kept heads turn_heads old new are same = record {
@@ -108,7 +108,7 @@ bare-over out (w ∷ ws) (suc place) = ap (λ rest. bare w ∷ rest) (bare-over 
 -- ---- those that pass a test
 
 entries-over : (out : ℕ × Blocker → Bool) (waits : List Wait) (place : ℕ)
-    → filter (λ entry. not (out entry)) (entries_of (over_at out waits place)) ≡ filter (λ entry. not (out entry)) (entries_of waits)
+    → filter (λ entry. not (out entry)) (living_entries (over_at out waits place)) ≡ filter (λ entry. not (out entry)) (living_entries waits)
 entries-over out [] place = refl
 entries-over out (w ∷ ws) zero =
     elim (cases_Bool w.lives) [
@@ -128,7 +128,7 @@ entries-over out (w ∷ ws) (suc place) =
     ]
 
 none-entries : (out : ℕ × Blocker → Bool) (waits : List Wait) → ((p : ℕ) → p < length waits → is_out out (get_or waits p nothing) ≡ false)
-    → filter (λ entry. not (out entry)) (entries_of waits) ≡ entries_of waits
+    → filter (λ entry. not (out entry)) (living_entries waits) ≡ living_entries waits
 none-entries out [] none = refl
 none-entries out (w ∷ ws) none =
     let rest = none-entries out ws (λ p within. none (suc p) (omega arith)) in
@@ -138,7 +138,7 @@ none-entries out (w ∷ ws) none =
       | inr gone ↦ rw gone rest
     ]
 
-over-out : (out : ℕ × Blocker → Bool) (wait : Wait) → is_out out (over out wait) ≡ false
+over-out : (out : ℕ × Blocker → Bool) (wait : Wait) → is_out out (ended_where out wait) ≡ false
 over-out out wait =
     elim (cases_Bool wait.lives) [
       | inl there ↦ elim (cases_Bool (out (wait.turn, wait.blocker))) [
@@ -155,7 +155,7 @@ slot-at key many [] p within = absurd (omega arith)
 slot-at key many (w ∷ ws) zero within = refl
 slot-at key many (w ∷ ws) (suc p) within = slot-at key many ws p (omega arith)
 
-link-at : (link : Wait → ℕ) (waits : List Wait) (p : ℕ) → p < length waits → get_or (links_of link waits) p 0 ≡ link (get_or waits p nothing)
+link-at : (link : Wait → ℕ) (waits : List Wait) (p : ℕ) → p < length waits → get_or (wait_links link waits) p 0 ≡ link (get_or waits p nothing)
 link-at link [] p within = absurd (omega arith)
 link-at link (w ∷ ws) zero within = refl
 link-at link (w ∷ ws) (suc p) within = link-at link ws p (omega arith)
@@ -190,10 +190,10 @@ pub record Walked (many : ℕ) (sought : Sought) (before waits : List Wait) (end
   pub within : end ≤ length waits
   pub settled : seek (is_in (slots_of sought.key many waits) (slot many sought.number)) end ≡ end
   pub same : map bare waits ≡ map bare before
-  pub entries : filter (λ entry. not (sought.out entry)) (entries_of waits) ≡ filter (λ entry. not (sought.out entry)) (entries_of before)
+  pub entries : filter (λ entry. not (sought.out entry)) (living_entries waits) ≡ filter (λ entry. not (sought.out entry)) (living_entries before)
   pub none : (p : ℕ) → end ≤ p → p < length waits → is_out sought.out (get_or waits p nothing) ≡ false
 
-pub Walked-start : (heads : List ℕ) (sought : Sought) (waits : List Wait) (end : ℕ) → AreLinked heads (slots_of sought.key (length heads) waits) (links_of sought.link waits)
+pub Walked-start : (heads : List ℕ) (sought : Sought) (waits : List Wait) (end : ℕ) → AreLinked heads (slots_of sought.key (length heads) waits) (wait_links sought.link waits)
     → end ≡ end_of heads (slot (length heads) sought.number) (length waits)
     → Walked (length heads) sought waits waits end
 Walked-start heads sought waits end are is =
@@ -214,7 +214,7 @@ pub none-left : (many : ℕ) (sought : Sought) (before waits : List Wait) (end :
 none-left many sought before waits end walked is p below = walked.none p (omega arith) below
 
 pub Walked-done : (many : ℕ) (sought : Sought) (before waits : List Wait) (end : ℕ) → Walked many sought before waits end → end ≡ 0
-    → entries_of waits ≡ filter (λ entry. not (sought.out entry)) (entries_of before)
+    → living_entries waits ≡ filter (λ entry. not (sought.out entry)) (living_entries before)
 Walked-done many sought before waits end walked is = sym (none-entries sought.out waits (none-left many sought before waits end walked is)) ∙ walked.entries
 
 -- one goes on where the next place is linked to
@@ -224,7 +224,7 @@ pub record Stepped (many : ℕ) (sought : Sought) (waits : List Wait) (place lin
   pub none : (p : ℕ) → link ≤ p → p < place → is_out sought.out (get_or waits p nothing) ≡ false
 
 pub stepped : (heads : List ℕ) (sought : Sought) (before waits : List Wait) (place link : ℕ)
-    → AreLinked heads (slots_of sought.key (length heads) before) (links_of sought.link before)
+    → AreLinked heads (slots_of sought.key (length heads) before) (wait_links sought.link before)
     → Walked (length heads) sought before waits (suc place) → link ≡ sought.link (get_or waits place nothing)
     → Stepped (length heads) sought waits place link
 stepped heads sought before waits place link are walked is =
@@ -235,10 +235,10 @@ stepped heads sought before waits place link are walked is =
     let here : get_or slots place 0 ≡ own = eqb-true _ _ (settled-here test place walked.settled) in
     let inside = walked.within in
     let slots_same : slots ≡ slots_of sought.key many before = slots-kept sought.key many before waits sought.key_keeps walked.same in
-    let links_same : links_of sought.link waits ≡ links_of sought.link before = links-kept sought.link before waits sought.link_keeps walked.same in
+    let links_same : wait_links sought.link waits ≡ wait_links sought.link before = links-kept sought.link before waits sought.link_keeps walked.same in
     let as_before : length (slots_of sought.key many before) ≡ length waits = ap length (sym slots_same) ∙ slots-many sought.key many waits in
-    let next : get_or (links_of sought.link before) place 0 ≡ seek (is_in (slots_of sought.key many before) (get_or (slots_of sought.key many before) place 0)) place = are.nexts place (omega arith) in
-    let next_now : get_or (links_of sought.link waits) place 0 ≡ seek (is_in slots (get_or slots place 0)) place = rw (links_same, slots_same) next in
+    let next : get_or (wait_links sought.link before) place 0 ≡ seek (is_in (slots_of sought.key many before) (get_or (slots_of sought.key many before) place 0)) place = are.nexts place (omega arith) in
+    let next_now : get_or (wait_links sought.link waits) place 0 ≡ seek (is_in slots (get_or slots place 0)) place = rw (links_same, slots_same) next in
     let found : link ≡ seek test place = is ∙ sym (link-at sought.link waits place (omega arith)) ∙ next_now ∙ ap (λ (s : ℕ). seek (is_in slots s) place) here in
     let back = seek-le test place in
     record {
@@ -254,7 +254,7 @@ pub Walked-step : (many : ℕ) (sought : Sought) (before waits : List Wait) (pla
 Walked-step many sought before waits place link walked step =
     let its : Wait = get_or waits place nothing in
     let kept = bare-over sought.out waits place in
-    let as_many : length (over_at sought.out waits place) ≡ length waits = length-set waits place (over sought.out its) in
+    let as_many : length (over_at sought.out waits place) ≡ length waits = length-set waits place (ended_where sought.out its) in
     let inside = walked.within in
     let less = step.less in
     let here : place < length waits = omega arith in
@@ -265,8 +265,8 @@ Walked-step many sought before waits place link walked step =
       entries = entries-over sought.out waits place ∙ walked.entries;
       none = λ p above below.
           elim (cases_eq p place) [
-            | inl same ↦ rw same (rw (get_or-set_same waits place (over sought.out its) nothing here) (over-out sought.out its))
-            | inr other ↦ rw (get_or-set_other waits place p (over sought.out its) nothing other) (
+            | inl same ↦ rw same (rw (get_or-set_same waits place (ended_where sought.out its) nothing here) (over-out sought.out its))
+            | inr other ↦ rw (get_or-set_other waits place p (ended_where sought.out its) nothing other) (
                 elim (cases_lt p place) [
                   | inl before_it ↦ step.none p above before_it
                   | inr behind_it ↦ walked.none p (omega arith) (omega arith)
@@ -276,7 +276,7 @@ Walked-step many sought before waits place link walked step =
 
 -- ---- what is looked for
 
-pub same-number : (blocker other : Blocker) → is_same blocker other ≡ true → number_of other ≡ number_of blocker
+pub same-number : (blocker other : Blocker) → is_same blocker other ≡ true → blocker_number other ≡ blocker_number blocker
 same-number (Break n) (Break m) same = sym (eqb-true n m same)
 same-number (Lock n) (Lock m) same = sym (eqb-true n m same)
 same-number (Break n) (Lock m) same = absurd (false≢true same)
@@ -289,7 +289,7 @@ of_blocker blocker = record {
   link = link_of;
   key_keeps = λ wait. refl;
   link_keeps = λ wait. refl;
-  number = number_of blocker;
+  number = blocker_number blocker;
   out = is_blocker blocker;
   finds = λ wait own. same-number blocker wait.blocker own;
 }
@@ -325,7 +325,7 @@ changes-swap (c ∷ cs) turn other =
     ]
 
 discount-swap : (blocker : Blocker) (wait : Wait) (calls : List (ℕ × ℕ)) (turn : ℕ)
-    → with_row_changed (λ count. count - 1) (discounted blocker (entries_of (wait ∷ [])) calls) turn ≡ discounted blocker (entries_of (wait ∷ [])) (with_row_changed (λ count. count - 1) calls turn)
+    → with_row_changed (λ count. count - 1) (discounted blocker (living_entries (wait ∷ [])) calls) turn ≡ discounted blocker (living_entries (wait ∷ [])) (with_row_changed (λ count. count - 1) calls turn)
 discount-swap blocker wait calls turn =
     elim (cases_Bool wait.lives) [
       | inl there ↦ elim (cases_Bool (is_same blocker wait.blocker)) [
@@ -345,45 +345,45 @@ other-step : (blocker : Blocker) (entry : ℕ × Blocker) (entries : List (ℕ �
 other-step blocker entry entries calls other = ap (λ (its : Bool). discounted blocker entries (if its then with_row_changed (λ count. count - 1) calls entry.0 else calls)) other
 
 pub discount-over : (blocker : Blocker) (waits : List Wait) (place : ℕ) (calls : List (ℕ × ℕ)) → place < length waits
-    → discounted blocker (entries_of (over_at (is_blocker blocker) waits place)) (discounted blocker (entries_of (get_or waits place nothing ∷ [])) calls) ≡ discounted blocker (entries_of waits) calls
+    → discounted blocker (living_entries (over_at (is_blocker blocker) waits place)) (discounted blocker (living_entries (get_or waits place nothing ∷ [])) calls) ≡ discounted blocker (living_entries waits) calls
 discount-over blocker [] place calls within = absurd (omega arith)
 discount-over blocker (w ∷ ws) zero calls within =
     elim (cases_Bool w.lives) [
       | inl there ↦ elim (cases_Bool (is_same blocker w.blocker)) [
-        | inl own ↦ rw (there, own) (sym (own-step blocker (w.turn, w.blocker) (entries_of ws) calls own))
+        | inl own ↦ rw (there, own) (sym (own-step blocker (w.turn, w.blocker) (living_entries ws) calls own))
         | inr other ↦ rw (there, other) refl
       ]
       | inr gone ↦ rw gone refl
     ]
 discount-over blocker (w ∷ ws) (suc place) calls within =
     let rest = discount-over blocker ws place in
-    let first : List (ℕ × ℕ) = discounted blocker (entries_of (get_or ws place nothing ∷ [])) calls in
+    let first : List (ℕ × ℕ) = discounted blocker (living_entries (get_or ws place nothing ∷ [])) calls in
     elim (cases_Bool w.lives) [
       | inl there ↦ elim (cases_Bool (is_same blocker w.blocker)) [
         | inl own ↦ rw there (
-            own-step blocker (w.turn, w.blocker) (entries_of (over_at (is_blocker blocker) ws place)) first own
-            ∙ ap (discounted blocker (entries_of (over_at (is_blocker blocker) ws place))) (discount-swap blocker (get_or ws place nothing) calls w.turn)
+            own-step blocker (w.turn, w.blocker) (living_entries (over_at (is_blocker blocker) ws place)) first own
+            ∙ ap (discounted blocker (living_entries (over_at (is_blocker blocker) ws place))) (discount-swap blocker (get_or ws place nothing) calls w.turn)
             ∙ rest (with_row_changed (λ count. count - 1) calls w.turn) (omega arith)
-            ∙ sym (own-step blocker (w.turn, w.blocker) (entries_of ws) calls own))
+            ∙ sym (own-step blocker (w.turn, w.blocker) (living_entries ws) calls own))
         | inr other ↦ rw there (
-            other-step blocker (w.turn, w.blocker) (entries_of (over_at (is_blocker blocker) ws place)) first other
-            ∙ rest calls (omega arith) ∙ sym (other-step blocker (w.turn, w.blocker) (entries_of ws) calls other))
+            other-step blocker (w.turn, w.blocker) (living_entries (over_at (is_blocker blocker) ws place)) first other
+            ∙ rest calls (omega arith) ∙ sym (other-step blocker (w.turn, w.blocker) (living_entries ws) calls other))
       ]
       | inr gone ↦ rw gone (rest calls (omega arith))
     ]
 
 pub none-discounted : (blocker : Blocker) (waits : List Wait) (calls : List (ℕ × ℕ)) → ((p : ℕ) → p < length waits → is_out (is_blocker blocker) (get_or waits p nothing) ≡ false)
-    → discounted blocker (entries_of waits) calls ≡ calls
+    → discounted blocker (living_entries waits) calls ≡ calls
 none-discounted blocker [] calls none = refl
 none-discounted blocker (w ∷ ws) calls none =
     let rest = none-discounted blocker ws calls (λ p within. none (suc p) (omega arith)) in
     let here : is_out (is_blocker blocker) w ≡ false = none 0 (omega arith) in
     elim (cases_Bool w.lives) [
-      | inl there ↦ (let other : is_same blocker w.blocker ≡ false = rw there at here in rw there (other-step blocker (w.turn, w.blocker) (entries_of ws) calls other ∙ rest))
+      | inl there ↦ (let other : is_same blocker w.blocker ≡ false = rw there at here in rw there (other-step blocker (w.turn, w.blocker) (living_entries ws) calls other ∙ rest))
       | inr gone ↦ rw gone rest
     ]
 
-pub discount-turns : (blocker : Blocker) (wait : Wait) (calls : List (ℕ × ℕ)) → turns_of (discounted blocker (entries_of (wait ∷ [])) calls) ≡ turns_of calls
+pub discount-turns : (blocker : Blocker) (wait : Wait) (calls : List (ℕ × ℕ)) → turns_of (discounted blocker (living_entries (wait ∷ [])) calls) ≡ turns_of calls
 discount-turns blocker wait calls =
     elim (cases_Bool wait.lives) [
       | inl there ↦ elim (cases_Bool (is_same blocker wait.blocker)) [

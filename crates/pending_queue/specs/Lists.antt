@@ -5,7 +5,7 @@ use Rattle.std.specs.Option.{option_map_or}
 use Rattle.fsa_types.specs.Rows.{lives, with_row_changed}
 use Rattle.fsa_types.specs.Sorting.{in_order, put_in_order}
 use Rattle.fsa_types.specs.declared.reply.Blocker.{Blocker}
-use Rattle.pending_queue.specs.PendingQueue.{blockers_of, is_same}
+use Rattle.pending_queue.specs.PendingQueue.{blockers_under, is_same}
 
 -- the lesser of a number, where there is one, and another
 abbrev pub least_of : Option ℕ → ℕ → ℕ
@@ -41,8 +41,8 @@ abbrev pub with_ready : List ℕ → ℕ → Bool → List ℕ
 with_ready ready turn is = if is then put_in_order nat_lt turn (without_turn ready turn) else without_turn ready turn
 
 -- the turns with this one among them
-abbrev pub with_turn : List ℕ → ℕ → List ℕ
-with_turn turns turn = if list_any (λ other. other == turn) turns then turns else turns ++ turn ∷ []
+abbrev pub with_turn_among : List ℕ → ℕ → List ℕ
+with_turn_among turns turn = if list_any (λ other. other == turn) turns then turns else turns ++ turn ∷ []
 
 -- ---- calls, each its turn and how many of its blockers live
 
@@ -54,7 +54,7 @@ abbrev pub ready_turns : List (ℕ × ℕ) → List ℕ
 ready_turns calls = map (λ call. call.0) (filter (λ call. call.1 == 0) calls)
 
 -- the call at this place is the one of this turn
-abbrev pub is_at : List (ℕ × ℕ) → ℕ → ℕ → Bool
+abbrev pub is_at : {R : Type 0} → List (ℕ × R) → ℕ → ℕ → Bool
 is_at calls place turn = option_map_or (λ call. call.0 == turn) (slice_get calls place) false
 
 -- so many blockers of the call of this turn live: in its place where it is there already, else behind all others
@@ -68,19 +68,19 @@ discounted blocker (entry ∷ entries) calls = discounted blocker entries (if is
 
 -- the turns, each with how many blockers stand under it
 abbrev pub counted : List ℕ → List (ℕ × Blocker) → List (ℕ × ℕ)
-counted turns waited = map (λ turn. (turn, length (blockers_of waited turn))) turns
+counted turns waited = map (λ turn. (turn, length (blockers_under waited turn))) turns
 
 -- no blocker stands under a turn that is no call's
 abbrev pub NoneBeside : List (ℕ × ℕ) → List (ℕ × Blocker) → Type 0
-NoneBeside calls waited = (turn : ℕ) → lives calls turn ≡ false → blockers_of waited turn ≡ []
+NoneBeside calls waited = (turn : ℕ) → lives calls turn ≡ false → blockers_under waited turn ≡ []
 
 -- the turns rise, where that is known
-abbrev pub AreInOrder : Bool → List (ℕ × ℕ) → Type 0
+abbrev pub AreInOrder : {R : Type 0} → Bool → List (ℕ × R) → Type 0
 AreInOrder rising calls = rising ≡ true → AllPairs (λ a b. a.0 < b.0) calls
 
 -- the last of these calls has a lower turn, where there is one
-abbrev pub IsBehind : List (ℕ × ℕ) → ℕ → Type 0
-IsBehind calls turn = (k : ℕ) (d : ℕ × ℕ) → suc k ≡ length calls → (get_or calls k d).0 < turn
+abbrev pub IsBehind : {R : Type 0} → List (ℕ × R) → ℕ → Type 0
+IsBehind {R} calls turn = (k : ℕ) (d : ℕ × R) → suc k ≡ length calls → (get_or calls k d).0 < turn
 
 -- no two calls have one turn; their counts are those of the blockers that stand under their turns; and the turns of those
 -- that may be taken up, in rising order

@@ -14,11 +14,11 @@ pub record Queue : Type 0 where
   pub room_for_blockers : ℕ
 
 -- the blockers of one turn, of blockers that stand under turns; the turns, each with its blockers
-abbrev pub blockers_of : List (ℕ × Blocker) → ℕ → List Blocker
-blockers_of waited turn = map (λ entry. entry.1) (filter (λ entry. entry.0 == turn) waited)
+abbrev pub blockers_under : List (ℕ × Blocker) → ℕ → List Blocker
+blockers_under waited turn = map (λ entry. entry.1) (filter (λ entry. entry.0 == turn) waited)
 
 abbrev pub held_of : List ℕ → List (ℕ × Blocker) → List (ℕ × List Blocker)
-held_of turns waited = map (λ turn. (turn, blockers_of waited turn)) turns
+held_of turns waited = map (λ turn. (turn, blockers_under waited turn)) turns
 
 -- two blockers are the same
 abbrev pub is_same : Blocker → Blocker → Bool
@@ -27,16 +27,16 @@ is_same (Lock number) (Lock other) = number == other
 is_same _ _ = false
 
 -- the call of this turn is held by these blockers: in its place where it is held already, else behind all others
-abbrev pub with_held : List (ℕ × List Blocker) → ℕ → List Blocker → List (ℕ × List Blocker)
-with_held held turn blockers = if lives held turn then with_row_changed (λ _. blockers) held turn else held ++ (turn, blockers) ∷ []
+abbrev pub with_call_held : List (ℕ × List Blocker) → ℕ → List Blocker → List (ℕ × List Blocker)
+with_call_held held turn blockers = if lives held turn then with_row_changed (λ _. blockers) held turn else held ++ (turn, blockers) ∷ []
 
 -- how many calls more are held then
 abbrev pub calls_added : List (ℕ × List Blocker) → ℕ → ℕ
 calls_added held turn = if lives held turn then 0 else 1
 
 -- no call waits for this blocker any more
-abbrev pub with_ended : List (ℕ × List Blocker) → Blocker → List (ℕ × List Blocker)
-with_ended held blocker = map (λ entry. (entry.0, filter (λ other. not (is_same blocker other)) entry.1)) held
+abbrev pub with_blocker_ended : List (ℕ × List Blocker) → Blocker → List (ℕ × List Blocker)
+with_blocker_ended held blocker = map (λ entry. (entry.0, filter (λ other. not (is_same blocker other)) entry.1)) held
 
 -- the least turn of a call none of whose blockers lives
 abbrev pub next_ready : List (ℕ × List Blocker) → Option ℕ

@@ -14,12 +14,12 @@ pub record Waiting : Type 0 where
   pub room : ℕ
 
 -- those that live
-abbrev pub entries_of : List Wait → List (ℕ × Blocker)
-entries_of waits = map (λ wait. (wait.turn, wait.blocker)) (filter (λ wait. wait.lives) waits)
+abbrev pub living_entries : List Wait → List (ℕ × Blocker)
+living_entries waits = map (λ wait. (wait.turn, wait.blocker)) (filter (λ wait. wait.lives) waits)
 
-abbrev pub number_of : Blocker → ℕ
-number_of (Break number) = number
-number_of (Lock number) = number
+abbrev pub blocker_number : Blocker → ℕ
+blocker_number (Break number) = number
+blocker_number (Lock number) = number
 
 -- the slot of a number among so many
 abbrev pub slot : ℕ → ℕ → ℕ
@@ -27,7 +27,7 @@ slot many number = if many == 0 then 0 else number % many
 
 -- what a wait is found by, its blocker's number or its turn, and what it is linked to by each
 abbrev pub by_blocker : Wait → ℕ
-by_blocker wait = number_of wait.blocker
+by_blocker wait = blocker_number wait.blocker
 
 abbrev pub by_turn : Wait → ℕ
 by_turn wait = wait.turn
@@ -42,8 +42,8 @@ turn_link_of wait = wait.turn_link
 abbrev pub slots_of : (Wait → ℕ) → ℕ → List Wait → List ℕ
 slots_of key many waits = map (λ wait. slot many (key wait)) waits
 
-abbrev pub links_of : (Wait → ℕ) → List Wait → List ℕ
-links_of link waits = map (λ wait. link wait) waits
+abbrev pub wait_links : (Wait → ℕ) → List Wait → List ℕ
+wait_links link waits = map (λ wait. link wait) waits
 
 -- a blocker under a turn is this one, or is this turn's
 abbrev pub is_blocker : Blocker → ℕ × Blocker → Bool
@@ -57,15 +57,15 @@ abbrev pub is_out : (ℕ × Blocker → Bool) → Wait → Bool
 is_out out wait = wait.lives && out (wait.turn, wait.blocker)
 
 -- it lives no more where it passes the test
-abbrev pub over : (ℕ × Blocker → Bool) → Wait → Wait
-over out wait = record wait { lives = wait.lives && not (out (wait.turn, wait.blocker)) }
+abbrev pub ended_where : (ℕ × Blocker → Bool) → Wait → Wait
+ended_where out wait = record wait { lives = wait.lives && not (out (wait.turn, wait.blocker)) }
 
 abbrev pub nothing : Wait
 nothing = record { turn = 0; blocker = Break 0; lives = false; link = 0; turn_link = 0 }
 
 -- the wait at this place lives no more where it passes the test
 abbrev pub over_at : (ℕ × Blocker → Bool) → List Wait → ℕ → List Wait
-over_at out waits place = set waits place (over out (get_or waits place nothing))
+over_at out waits place = set waits place (ended_where out (get_or waits place nothing))
 
 -- all of a wait but whether it lives
 abbrev pub bare : Wait → Wait
@@ -91,5 +91,5 @@ pub record AreLinked (heads slots links : List ℕ) : Type 0 where
 
 -- waits are found by their blockers, and by their turns
 pub record AreFound (heads turn_heads : List ℕ) (waits : List Wait) : Type 0 where
-  pub blockers : AreLinked heads (slots_of by_blocker (length heads) waits) (links_of link_of waits)
-  pub turns : AreLinked turn_heads (slots_of by_turn (length turn_heads) waits) (links_of turn_link_of waits)
+  pub blockers : AreLinked heads (slots_of by_blocker (length heads) waits) (wait_links link_of waits)
+  pub turns : AreLinked turn_heads (slots_of by_turn (length turn_heads) waits) (wait_links turn_link_of waits)

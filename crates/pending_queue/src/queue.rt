@@ -2,7 +2,7 @@
 
 ghost use Rattle.std.specs.Prelude.{◌≡◌, ◌≤◌, ◌+◌, ◌==◌, [], false, length, AllPairs, IsOk, OnOk, OnErr};
 ghost use Rattle.fsa_types.specs.Rows.{lives, without_row};
-ghost use Rattle.pending_queue.specs.PendingQueue.{with_held, with_ended, next_ready, calls_added};
+ghost use Rattle.pending_queue.specs.PendingQueue.{with_call_held, with_blocker_ended, next_ready, calls_added};
 
 use crate::calls::{count_of, len_with, put_count, stays_rising, take_call};
 use crate::ready::{first_of, reserve_for, set_ready};
@@ -77,7 +77,7 @@ impl PendingQueue {
     /// those that it was held by. It takes memory only where there is no spare room for what is new.
     /// After `NoMemory` all calls are held as before.
     pub fn hold(&mut self, turn: u64, blockers: BlockerList) -> Result<(), NoMemory>
-        ensures ok { OnOk result (self.new.held ≡ with_held self.old.held turn blockers.items) }
+        ensures ok { OnOk result (self.new.held ≡ with_call_held self.old.held turn blockers.items) }
         ensures err { OnErr result (self.new.held ≡ self.old.held) }
         ensures succeeds { calls_added self.old.held turn ≤ self.old.room_for_calls → length blockers.items ≤ self.old.room_for_blockers → IsOk result }
         ensures calls_left { self.old.room_for_calls ≤ self.new.room_for_calls + calls_added self.old.held turn }
@@ -88,7 +88,7 @@ impl PendingQueue {
 
     /// The same of blockers that are lent.
     pub fn hold_by(&mut self, turn: u64, blockers: &[Blocker]) -> Result<(), NoMemory>
-        ensures ok { OnOk result (self.new.held ≡ with_held self.old.held turn blockers.now) }
+        ensures ok { OnOk result (self.new.held ≡ with_call_held self.old.held turn blockers.now) }
         ensures err { OnErr result (self.new.held ≡ self.old.held) }
         ensures succeeds { calls_added self.old.held turn ≤ self.old.room_for_calls → length blockers.now ≤ self.old.room_for_blockers → IsOk result }
         ensures calls_left { self.old.room_for_calls ≤ self.new.room_for_calls + calls_added self.old.held turn }
@@ -108,7 +108,7 @@ impl PendingQueue {
     /// The break or the lock has ended: no call waits for it any more. It takes no memory, and leaves
     /// the room as it was or larger.
     pub fn ended(&mut self, blocker: Blocker)
-        ensures held { self.new.held ≡ with_ended self.old.held blocker }
+        ensures held { self.new.held ≡ with_blocker_ended self.old.held blocker }
         ensures calls_kept { self.old.room_for_calls ≤ self.new.room_for_calls }
         ensures blockers_kept { self.old.room_for_blockers ≤ self.new.room_for_blockers }
     {

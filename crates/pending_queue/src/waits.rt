@@ -4,8 +4,8 @@
 ghost use Rattle.std.specs.Prelude.{◌≡◌, ◌≤◌, ◌<◌, ◌+◌, ◌==◌, ◌++◌, ◌∷◌, [], false, not, count_by, map, filter, get_or, length, AllPairs, IfOk, IsOk, OnOk};
 ghost use Rattle.std.specs.Vec.{vec_capacity, vec_len};
 ghost use Rattle.pending_queue.specs.Lists.{discounted, ready_turns, sorted, turns_of};
-ghost use Rattle.pending_queue.specs.PendingQueue.{blockers_of, is_same};
-ghost use Rattle.pending_queue.specs.Waits.{AreLinked, bare, by_blocker, by_turn, entries_of, is_blocker, is_out, is_turn, link_of, links_of, nothing, number_of, over, over_at, slots_of, turn_link_of};
+ghost use Rattle.pending_queue.specs.PendingQueue.{blockers_under, is_same};
+ghost use Rattle.pending_queue.specs.Waits.{AreLinked, bare, by_blocker, by_turn, living_entries, is_blocker, is_out, is_turn, link_of, wait_links, nothing, blocker_number, ended_where, over_at, slots_of, turn_link_of};
 
 use crate::ready::let_go;
 use crate::slots::{end_of, set_head, slot_of};
@@ -40,13 +40,13 @@ pub struct Waits {
 }
 
 impl Model for Waits {
-    ghost use Rattle.pending_queue.specs.Waits.{AreFound, Waiting, entries_of};
+    ghost use Rattle.pending_queue.specs.Waits.{AreFound, Waiting, living_entries};
     ghost use Rattle.std.specs.Prelude.{◌-◌};
     ghost use Rattle.std.specs.Vec.{vec_capacity, vec_len};
 
     ghost Value = { Waiting };
 
-    ghost view = { λ w. record { entries = entries_of w.waits.items; room = vec_capacity w.waits - vec_len w.waits } };
+    ghost view = { λ w. record { entries = living_entries w.waits.items; room = vec_capacity w.waits - vec_len w.waits } };
 
     ghost invariant = { λ w. AreFound w.heads.items w.turn_heads.items w.waits.items };
 }
@@ -113,7 +113,7 @@ impl Waits {
         ensures entries { self.new.entries ≡ self.old.entries ++ (turn, blocker) ∷ [] }
         ensures left { self.old.room ≤ self.new.room + 1 }
     {
-        let own = slot_of(self.heads.len(), number_of(blocker));
+        let own = slot_of(self.heads.len(), blocker_number(blocker));
         let link = end_of(&self.heads, own, self.waits.len());
         let turn_own = slot_of(self.turn_heads.len(), turn);
         let turn_link = end_of(&self.turn_heads, turn_own, self.waits.len());
@@ -134,7 +134,7 @@ impl Waits {
     /// Puts these blockers of the call of this turn in place of those that it has, of which there are so many. There
     /// has to be room for them.
     pub fn put(&mut self, turn: u64, count: usize, blockers: &[Blocker])
-        requires count { count ≡ length (blockers_of self.old.entries turn) }
+        requires count { count ≡ length (blockers_under self.old.entries turn) }
         requires room { length blockers.now ≤ self.old.room }
         ensures entries { self.new.entries ≡ filter (λ entry. not (entry.0 == turn)) self.old.entries ++ map (λ blocker. (turn, blocker)) blockers.now }
         ensures left { self.old.room ≤ self.new.room + length blockers.now }
@@ -157,7 +157,7 @@ impl Waits {
     /// Takes all blockers of the call of this turn out, of which there are so many. It takes no memory, and leaves the
     /// room as it was.
     pub fn drop_of(&mut self, turn: u64, count: usize)
-        requires { count ≡ length (blockers_of self.old.entries turn) }
+        requires { count ≡ length (blockers_under self.old.entries turn) }
         ensures entries { self.new.entries ≡ filter (λ entry. not (entry.0 == turn)) self.old.entries }
         ensures room { self.new.room ≡ self.old.room }
     {
@@ -187,9 +187,9 @@ impl Waits {
 
 // Puts those that live at the end. There has to be room for them.
 fn put_living(fresh: &mut Waits, waits: &[Wait])
-    requires room { length (entries_of waits.now) ≤ fresh.old.room }
-    ensures entries { fresh.new.entries ≡ fresh.old.entries ++ entries_of waits.now }
-    ensures left { fresh.old.room ≤ fresh.new.room + length (entries_of waits.now) }
+    requires room { length (living_entries waits.now) ≤ fresh.old.room }
+    ensures entries { fresh.new.entries ≡ fresh.old.entries ++ living_entries waits.now }
+    ensures left { fresh.old.room ≤ fresh.new.room + length (living_entries waits.now) }
 {
     for wait in waits {
         if wait.lives {
@@ -218,8 +218,8 @@ fn count_living(waits: &[Wait]) -> usize
 }
 
 // The number of a break or a lock.
-fn number_of(blocker: Blocker) -> u64
-    ensures { result ≡ number_of blocker }
+fn blocker_number(blocker: Blocker) -> u64
+    ensures { result ≡ blocker_number blocker }
 {
     match blocker {
         Blocker::Break(number) => number,
@@ -230,8 +230,8 @@ fn number_of(blocker: Blocker) -> u64
 // Takes all blockers of the call of this turn out: goes from the last one that has its slot to the one before it, and so
 // on.
 fn drop_each(waits: &mut Vec<Wait>, heads: &[usize], turn: u64)
-    requires { AreLinked heads.now (slots_of by_turn (length heads.now) waits.old.items) (links_of turn_link_of waits.old.items) }
-    ensures entries { entries_of waits.new.items ≡ filter (λ entry. not (is_turn turn entry)) (entries_of waits.old.items) }
+    requires { AreLinked heads.now (slots_of by_turn (length heads.now) waits.old.items) (wait_links turn_link_of waits.old.items) }
+    ensures entries { living_entries waits.new.items ≡ filter (λ entry. not (is_turn turn entry)) (living_entries waits.old.items) }
     ensures bare { map bare waits.new.items ≡ map bare waits.old.items }
     ensures len { vec_len waits.new ≡ vec_len waits.old }
     ensures room { vec_capacity waits.new ≡ vec_capacity waits.old }
@@ -247,7 +247,7 @@ fn drop_each(waits: &mut Vec<Wait>, heads: &[usize], turn: u64)
 
 // It lives no more where it is this turn's.
 fn without_turn(wait: Wait, turn: u64) -> Wait
-    ensures { result ≡ over (is_turn turn) wait }
+    ensures { result ≡ ended_where (is_turn turn) wait }
 {
     Wait {
         turn: wait.turn,
@@ -277,21 +277,21 @@ fn end_each(
     ready: &mut Vec<u64>,
     blocker: Blocker,
 )
-    requires linked { AreLinked heads.now (slots_of by_blocker (length heads.now) waits.old.items) (links_of link_of waits.old.items) }
+    requires linked { AreLinked heads.now (slots_of by_blocker (length heads.now) waits.old.items) (wait_links link_of waits.old.items) }
     requires differ { AllPairs (λ a b. (a.0 == b.0) ≡ false) calls.old.items }
     requires ready { ready.old.items ≡ sorted (ready_turns calls.old.items) }
     requires places { length calls.old.items ≤ vec_capacity ready.old }
-    ensures entries { entries_of waits.new.items ≡ filter (λ entry. not (is_same blocker entry.1)) (entries_of waits.old.items) }
+    ensures entries { living_entries waits.new.items ≡ filter (λ entry. not (is_same blocker entry.1)) (living_entries waits.old.items) }
     ensures bare { map bare waits.new.items ≡ map bare waits.old.items }
     ensures waits_len { vec_len waits.new ≡ vec_len waits.old }
     ensures waits_room { vec_capacity waits.new ≡ vec_capacity waits.old }
-    ensures calls { calls.new.items ≡ discounted blocker (entries_of waits.old.items) calls.old.items }
+    ensures calls { calls.new.items ≡ discounted blocker (living_entries waits.old.items) calls.old.items }
     ensures len { vec_len calls.new ≡ vec_len calls.old }
     ensures room { vec_capacity calls.new ≡ vec_capacity calls.old }
     ensures ready { ready.new.items ≡ sorted (ready_turns calls.new.items) }
     ensures places { vec_capacity ready.old ≤ vec_capacity ready.new }
 {
-    let mut end = end_of(heads, slot_of(heads.len(), number_of(blocker)), waits.len());
+    let mut end = end_of(heads, slot_of(heads.len(), blocker_number(blocker)), waits.len());
     while end > 0 {
         let place = end - 1;
         let link = waits[place].link;
@@ -315,7 +315,7 @@ fn end_at(
     ensures items { waits.new.items ≡ over_at (is_blocker blocker) waits.old.items place }
     ensures waits_len { vec_len waits.new ≡ vec_len waits.old }
     ensures waits_room { vec_capacity waits.new ≡ vec_capacity waits.old }
-    ensures calls { calls.new.items ≡ discounted blocker (entries_of (get_or waits.old.items place nothing ∷ [])) calls.old.items }
+    ensures calls { calls.new.items ≡ discounted blocker (living_entries (get_or waits.old.items place nothing ∷ [])) calls.old.items }
     ensures turns { turns_of calls.new.items ≡ turns_of calls.old.items }
     ensures len { vec_len calls.new ≡ vec_len calls.old }
     ensures room { vec_capacity calls.new ≡ vec_capacity calls.old }

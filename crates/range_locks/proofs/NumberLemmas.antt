@@ -10,19 +10,19 @@ use Rattle.std.proofs.lemmas.List.Quantifiers.{all_pairs_push, position-Some}
 use Rattle.fsa_types.specs.Ranges.{without_first}
 use Rattle.fsa_types.specs.declared.reply.Blocker.TheVariants.{Lock as LockOf}
 use Rattle.key_index.proofs.RowLaws.{without_first-other}
-use Rattle.range_locks.specs.RangeTable.{AreNumbered, AreSameByPlace, begins_at, first_id, is_behind, is_of, is_range, least_from, lesser, lock_blocker, with_lesser}
+use Rattle.range_locks.specs.RangeTable.{AreRisingRanges, AreSameByPlace, begins_at, first_id, is_behind, is_range_of, is_range, least_from, lesser_number, lock_blocker, with_lesser}
 use Rattle.range_locks.specs.declared.range.Range.{Range}
 use Rattle.range_locks.proofs.FirstLemmas.{HasFirst-position, HasNone-position}
 
 -- ---- numbers that rise
 
-pub numbers-rise : (xs : List Range) → AreNumbered xs → IsNonDecreasingBy (λ range. range.id) xs
+pub numbers-rise : (xs : List Range) → AreRisingRanges xs → IsNonDecreasingBy (λ range. range.id) xs
 numbers-rise xs numbered i j d le within = elim (cases_lt i j) [
   | inl less ↦ (let below : (get_or xs i d).id < (get_or xs j d).id = numbered i j d less within in omega arith)
   | inr past ↦ (let same : i ≡ j = omega arith in rw same (omega arith))
 ]
 
-pub numbered-push : (xs : List Range) (y : Range) → AreNumbered xs → ((d : Range) → 0 < length xs → (get_or xs (length xs - 1) d).id < y.id) → AreNumbered (xs ++ y ∷ [])
+pub numbered-push : (xs : List Range) (y : Range) → AreRisingRanges xs → ((d : Range) → 0 < length xs → (get_or xs (length xs - 1) d).id < y.id) → AreRisingRanges (xs ++ y ∷ [])
 numbered-push xs y numbered behind = all_pairs_push (λ one other. one.id < other.id) xs y numbered (λ k d within. elim (cases_lt k (length xs - 1)) [
   | inl less ↦ (
       let first : (get_or xs k d).id < (get_or xs (length xs - 1) d).id = numbered k (length xs - 1) d less (omega arith) in
@@ -31,7 +31,7 @@ numbered-push xs y numbered behind = all_pairs_push (λ one other. one.id < othe
   | inr past ↦ (let same : k ≡ length xs - 1 = omega arith in rw same (behind d (omega arith)))
 ])
 
-numbered-rest : (x : Range) (xs : List Range) → AreNumbered (x ∷ xs) → AreNumbered xs
+numbered-rest : (x : Range) (xs : List Range) → AreRisingRanges (x ∷ xs) → AreRisingRanges xs
 numbered-rest x xs numbered i j d less within = numbered (suc i) (suc j) d (omega arith) (omega arith)
 
 -- ---- what stands in a list
@@ -47,7 +47,7 @@ has-above x (z ∷ xs) y above has = elim has [
   | inr more ↦ has-above x xs y (λ k d within. above (suc k) d (omega arith)) more
 ]
 
-has-later : (x : Range) (xs : List Range) (y : Range) → AreNumbered (x ∷ xs) → Has xs y → x.id < y.id
+has-later : (x : Range) (xs : List Range) (y : Range) → AreRisingRanges (x ∷ xs) → Has xs y → x.id < y.id
 has-later x xs y numbered has = has-above x xs y (λ k d within. numbered 0 (suc k) d (omega arith) (omega arith)) has
 
 has-filter : (p : Range → Bool) (xs : List Range) (y : Range) → Has xs y → p y ≡ true → Has (filter p xs) y
@@ -86,21 +86,21 @@ abbrev From : (Range → Bool) → List Range → Option ℕ → Type 0
 From p xs o = (y : Range) × (Has xs y × ((p y ≡ true) × (o ≡ Some y.id)))
 
 module _ (p : Range → Bool) where
-  lesser-old : (least : Option ℕ) (id n : ℕ) → Within least n → Within (Some (lesser least id)) n
+  lesser-old : (least : Option ℕ) (id n : ℕ) → Within least n → Within (Some (lesser_number least id)) n
   lesser-old None id n within = absurd within
   lesser-old (Some least) id n within = elim (cases_Bool (nat_lt id least)) [
     | inl less ↦ (let below = ltb-true id least less in rw less (omega arith))
     | inr past ↦ rw past within
   ]
 
-  lesser-new : (least : Option ℕ) (id : ℕ) → Within (Some (lesser least id)) id
+  lesser-new : (least : Option ℕ) (id : ℕ) → Within (Some (lesser_number least id)) id
   lesser-new None id = omega arith
   lesser-new (Some least) id = elim (cases_Bool (nat_lt id least)) [
     | inl less ↦ rw less (omega arith)
     | inr past ↦ (let above = ltb-false id least past in rw past above)
   ]
 
-  lesser-is : (least : Option ℕ) (id : ℕ) → (Some (lesser least id) ≡ least) ⊎ (Some (lesser least id) ≡ Some id)
+  lesser-is : (least : Option ℕ) (id : ℕ) → (Some (lesser_number least id) ≡ least) ⊎ (Some (lesser_number least id) ≡ Some id)
   lesser-is None id = inr refl
   lesser-is (Some least) id = elim (cases_Bool (nat_lt id least)) [
     | inl less ↦ rw less (inr refl)
@@ -110,7 +110,7 @@ module _ (p : Range → Bool) where
   least-old : (xs : List Range) (least : Option ℕ) (n : ℕ) → Within least n → Within (least_from p least xs) n
   least-old [] least n within = within
   least-old (x ∷ xs) least n within = elim (cases_Bool (p x)) [
-    | inl passes ↦ rw passes (least-old xs (Some (lesser least x.id)) n (lesser-old least x.id n within))
+    | inl passes ↦ rw passes (least-old xs (Some (lesser_number least x.id)) n (lesser-old least x.id n within))
     | inr fails ↦ rw fails (least-old xs least n within)
   ]
 
@@ -119,14 +119,14 @@ module _ (p : Range → Bool) where
   least-all (x ∷ xs) least y has passes = elim has [
     | inl is ↦ (
         let here : p x ≡ true = rw is passes in
-        rw here (least-old xs (Some (lesser least x.id)) y.id (rw (← is) (lesser-new least x.id))))
+        rw here (least-old xs (Some (lesser_number least x.id)) y.id (rw (← is) (lesser-new least x.id))))
     | inr more ↦ least-all xs (with_lesser p least x) y more passes
   ]
 
   least-is : (xs : List Range) (least : Option ℕ) → (least_from p least xs ≡ least) ⊎ From p xs (least_from p least xs)
   least-is [] least = inl refl
   least-is (x ∷ xs) least = elim (cases_Bool (p x)) [
-    | inl passes ↦ rw passes (elim (least-is xs (Some (lesser least x.id))) [
+    | inl passes ↦ rw passes (elim (least-is xs (Some (lesser_number least x.id))) [
       | inl same ↦ elim (lesser-is least x.id) [
         | inl old ↦ inl (same ∙ old)
         | inr new ↦ inr (x, (inl refl, (passes, same ∙ new)))
@@ -140,7 +140,7 @@ module _ (p : Range → Bool) where
   ]
 
   -- where numbers rise, the least of those that pass is the first one's
-  first-least : (xs : List Range) (o : Option ℕ) → AreNumbered xs → ((y : Range) → Has xs y → p y ≡ true → Within o y.id) → (o ≡ None) ⊎ From p xs o → o ≡ first_id p xs
+  first-least : (xs : List Range) (o : Option ℕ) → AreRisingRanges xs → ((y : Range) → Has xs y → p y ≡ true → Within o y.id) → (o ≡ None) ⊎ From p xs o → o ≡ first_id p xs
   first-least [] o numbered all from = elim from [
     | inl none ↦ none
     | inr some ↦ absurd some.1.0
@@ -172,7 +172,7 @@ module _ (p : Range → Bool) where
 abbrev pub behind : (Range → Bool) → Option ℕ → Range → Bool
 behind p last range = p range && is_behind last range.id
 
-pub least-near : (p : Range → Bool) (near ranges : List Range) (last : Option ℕ) → AreNumbered ranges → AreSameByPlace (filter p near) (filter p ranges)
+pub least-near : (p : Range → Bool) (near ranges : List Range) (last : Option ℕ) → AreRisingRanges ranges → AreSameByPlace (filter p near) (filter p ranges)
     → least_from (behind p last) None near ≡ first_id (behind p last) ranges
 least-near p near ranges last numbered same =
     let first : (y : Range) → behind p last y ≡ true → p y ≡ true = λ y passes. (and_parts (p y) (is_behind last y.id) passes).0 in
@@ -223,7 +223,7 @@ behind-more : (last : Option ℕ) (one other : ℕ) → is_behind last one ≡ t
 behind-more None one other is less = refl
 behind-more (Some last) one other is less = let below = ltb-true last one is in lt-ltb last other (omega arith)
 
-pub next-behind : (p : Range → Bool) (last : Option ℕ) (xs : List Range) (id : ℕ) → AreNumbered xs → first_id (behind p last) xs ≡ Some id
+pub next-behind : (p : Range → Bool) (last : Option ℕ) (xs : List Range) (id : ℕ) → AreRisingRanges xs → first_id (behind p last) xs ≡ Some id
     → map lock_blocker (filter (behind p last) xs) ≡ LockOf id ∷ map lock_blocker (filter (behind p (Some id)) xs)
 next-behind p last [] id numbered some = absurd (cc)
 next-behind p last (x ∷ xs) id numbered some = elim (cases_Bool (behind p last x)) [
@@ -252,7 +252,7 @@ option_or_none : {X : Type 0} (o : Option X) → (o ≡ None) ⊎ ((x : X) × (o
 option_or_none None = inl refl
 option_or_none (Some x) = inr (x, refl)
 
-pub place-of-number : (p : Range → Bool) (xs : List Range) (id i : ℕ) → AreNumbered xs → first_id p xs ≡ Some id
+pub place-of-number : (p : Range → Bool) (xs : List Range) (id i : ℕ) → AreRisingRanges xs → first_id p xs ≡ Some id
     → IsPartitionPoint (λ range. range.id < id) (λ range. id ≤ range.id) xs i → position p xs ≡ Some i
 place-of-number p xs id i numbered first point = elim (option_or_none (find p xs)) [
   | inl none ↦ (let wrong : None ≡ Some id = rw none at first in cc)
@@ -285,24 +285,24 @@ is-itself r =
     let long : (r.count == r.count) ≡ true = eq-eqb r.count r.count refl in
     rw (own, here, long) refl
 
-find-own : (handle : ℕ) (xs : List Range) (r : Range) → find (is_of handle) xs ≡ Some r → r.handle ≡ handle
+find-own : (handle : ℕ) (xs : List Range) (r : Range) → find (is_range_of handle) xs ≡ Some r → r.handle ≡ handle
 find-own handle [] r found = absurd (cc)
-find-own handle (x ∷ xs) r found = elim (cases_Bool (is_of handle x)) [
+find-own handle (x ∷ xs) r found = elim (cases_Bool (is_range_of handle x)) [
   | inl own ↦ (let is : Some x ≡ Some r = rw own at found in let same : x ≡ r = cc in rw (← same) (eqb-true x.handle handle own))
-  | inr another ↦ (let rest : find (is_of handle) xs ≡ Some r = rw another at found in find-own handle xs r rest)
+  | inr another ↦ (let rest : find (is_range_of handle) xs ≡ Some r = rw another at found in find-own handle xs r rest)
 ]
 
-pub any-first : (handle : ℕ) (xs : List Range) (r : Range) → find (is_of handle) xs ≡ Some r
-    → (find (is_range r.handle r.at r.count) xs ≡ Some r) × (without_first (is_range r.handle r.at r.count) xs ≡ without_first (is_of handle) xs)
+pub any-first : (handle : ℕ) (xs : List Range) (r : Range) → find (is_range_of handle) xs ≡ Some r
+    → (find (is_range r.handle r.at r.count) xs ≡ Some r) × (without_first (is_range r.handle r.at r.count) xs ≡ without_first (is_range_of handle) xs)
 any-first handle [] r found = absurd (cc)
-any-first handle (x ∷ xs) r found = elim (cases_Bool (is_of handle x)) [
+any-first handle (x ∷ xs) r found = elim (cases_Bool (is_range_of handle x)) [
   | inl own ↦ (
       let is : Some x ≡ Some r = rw own at found in
       let same : x ≡ r = cc in
       let itself : is_range r.handle r.at r.count x ≡ true = rw same (is-itself r) in
       rw (itself, own) (ap Some same, refl))
   | inr another ↦ (
-      let rest : find (is_of handle) xs ≡ Some r = rw another at found in
+      let rest : find (is_range_of handle) xs ≡ Some r = rw another at found in
       let more = any-first handle xs r rest in
       let own : r.handle ≡ handle = find-own handle xs r rest in
       let other : is_range r.handle r.at r.count x ≡ false = rw own (and_left ((x.handle == handle) && (x.at == r.at)) (x.count == r.count) (and_left (x.handle == handle) (x.at == r.at) another)) in
@@ -311,11 +311,11 @@ any-first handle (x ∷ xs) r found = elim (cases_Bool (is_of handle x)) [
 
 -- ---- no range of a handle
 
-pub none-of : (handle : ℕ) (xs : List Range) → list_any (is_of handle) xs ≡ false → filter (λ range. not (is_of handle range)) xs ≡ xs
+pub none-of : (handle : ℕ) (xs : List Range) → list_any (is_range_of handle) xs ≡ false → filter (λ range. not (is_range_of handle range)) xs ≡ xs
 none-of handle [] none = refl
-none-of handle (x ∷ xs) none = elim (cases_Bool (is_of handle x)) [
+none-of handle (x ∷ xs) none = elim (cases_Bool (is_range_of handle x)) [
   | inl own ↦ (let wrong : true ≡ false = rw own at none in absurd (false≢true (sym wrong)))
-  | inr another ↦ (let rest : list_any (is_of handle) xs ≡ false = rw another at none in rw another (ap (λ (rest : List Range). x ∷ rest) (none-of handle xs rest)))
+  | inr another ↦ (let rest : list_any (is_range_of handle) xs ≡ false = rw another at none in rw another (ap (λ (rest : List Range). x ∷ rest) (none-of handle xs rest)))
 ]
 
 -- ---- as many
@@ -369,7 +369,7 @@ all-without p P (x ∷ xs) all = elim (cases_Bool (p x)) [
   | inr fails ↦ rw fails (All-cons P x (without_first p xs) (All-head P x xs all) (all-without p P xs (All-tail P x xs all)))
 ]
 
-pub numbered-without : (p : Range → Bool) (xs : List Range) → AreNumbered xs → AreNumbered (without_first p xs)
+pub numbered-without : (p : Range → Bool) (xs : List Range) → AreRisingRanges xs → AreRisingRanges (without_first p xs)
 numbered-without p [] numbered = numbered
 numbered-without p (x ∷ xs) numbered = elim (cases_Bool (p x)) [
   | inl passes ↦ rw passes (numbered-rest x xs numbered)

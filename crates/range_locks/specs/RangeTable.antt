@@ -33,16 +33,16 @@ abbrev pub is_range : ℕ → ℕ → ℕ → Range → Bool
 is_range handle at count range = is_exactly handle at count (lock_of range)
 
 -- a range is this handle's
-abbrev pub is_of : ℕ → Range → Bool
-is_of handle range = range.handle == handle
+abbrev pub is_range_of : ℕ → Range → Bool
+is_range_of handle range = range.handle == handle
 
 -- the number of the first range that passes the test
 abbrev pub first_id : (Range → Bool) → List Range → Option ℕ
 first_id passes ranges = option_map (λ range. range.id) (find passes ranges)
 
 -- all ranges that pass the test, as what a call waits for
-abbrev pub blockers_of : (Range → Bool) → List Range → List Blocker
-blockers_of passes ranges = map lock_blocker (filter passes ranges)
+abbrev pub range_blockers : (Range → Bool) → List Range → List Blocker
+range_blockers passes ranges = map lock_blocker (filter passes ranges)
 
 -- a range begins at this place
 abbrev pub begins_at : ℕ → Range → Bool
@@ -53,8 +53,8 @@ abbrev pub AreSameByPlace : List Range → List Range → Type 0
 AreSameByPlace one other = (at : ℕ) → filter (begins_at at) one ≡ filter (begins_at at) other
 
 -- each number is less than those behind it
-abbrev pub AreNumbered : List Range → Type 0
-AreNumbered ranges = AllPairs (λ one other. one.id < other.id) ranges
+abbrev pub AreRisingRanges : List Range → Type 0
+AreRisingRanges ranges = AllPairs (λ one other. one.id < other.id) ranges
 
 -- a number is greater than the last one, where there is one
 abbrev pub is_behind : Option ℕ → ℕ → Bool
@@ -62,13 +62,13 @@ is_behind None id = true
 is_behind (Some last) id = nat_lt last id
 
 -- the lesser of a number, where there is one, and another
-abbrev pub lesser : Option ℕ → ℕ → ℕ
-lesser None id = id
-lesser (Some least) id = if nat_lt id least then id else least
+abbrev pub lesser_number : Option ℕ → ℕ → ℕ
+lesser_number None id = id
+lesser_number (Some least) id = if nat_lt id least then id else least
 
 -- the lesser of a number, where there is one, and that of a range that passes the test
 abbrev pub with_lesser : (Range → Bool) → Option ℕ → Range → Option ℕ
-with_lesser passes least range = if passes range then Some (lesser least range.id) else least
+with_lesser passes least range = if passes range then Some (lesser_number least range.id) else least
 
 -- the least of a number, where there is one, and those of the ranges that pass the test
 abbrev pub least_from : (Range → Bool) → Option ℕ → List Range → Option ℕ

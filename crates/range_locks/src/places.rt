@@ -4,7 +4,7 @@ ghost use Rattle.std.specs.Prelude.{ℕ, Bool, List, ◌≡◌, ◌≤◌, ◌<�
 ghost use Rattle.std.specs.List.{AllWithin};
 ghost use Rattle.std.specs.List.Sorted.{IsNonDecreasingBy, IsPartitionPoint};
 ghost use Rattle.fsa_types.specs.Ranges.{meets, without_first};
-ghost use Rattle.range_locks.specs.RangeTable.{AreSameByPlace, is_of, is_range, lock_of};
+ghost use Rattle.range_locks.specs.RangeTable.{AreSameByPlace, is_range_of, is_range, lock_of};
 ghost use Rattle.range_locks.specs.declared.range.Range.{Range};
 
 use crate::range::Range;
@@ -88,7 +88,7 @@ impl RangesByPlace {
 
     /// Takes all ranges of this handle out. It takes no memory, and leaves the room as it was or larger.
     pub(crate) fn remove_all_of(&mut self, handle: u64)
-        ensures ranges { self.new.ranges ≡ filter (λ range. not (is_of handle range)) self.old.ranges }
+        ensures ranges { self.new.ranges ≡ filter (λ range. not (is_range_of handle range)) self.old.ranges }
         ensures room { self.old.room ≤ self.new.room }
     {
         remove_all_of(&mut self.ranges, handle);
@@ -97,7 +97,7 @@ impl RangesByPlace {
 
 /// Takes all ranges of this handle out.
 pub(crate) fn remove_all_of(ranges: &mut ShiftList<Range>, handle: u64)
-    ensures ranges { ranges.new.items ≡ filter (λ range. not (is_of handle range)) ranges.old.items }
+    ensures ranges { ranges.new.items ≡ filter (λ range. not (is_range_of handle range)) ranges.old.items }
     ensures room { ranges.old.room ≤ ranges.new.room }
 {
     ranges.retain(|range| range.handle != handle);

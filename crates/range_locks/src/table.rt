@@ -5,7 +5,7 @@ ghost use Rattle.std.specs.List.{list_any};
 ghost use Rattle.std.specs.List.Sorted.{IsPartitionPoint};
 ghost use Rattle.fsa_types.specs.Ranges.{without_first};
 ghost use Rattle.fsa_types.specs.BoundedList.{full};
-ghost use Rattle.range_locks.specs.RangeTable.{AreNumbered, AreSameByPlace, conflicts, is_range, is_of, is_behind, lesser, least_from, first_id, blockers_of};
+ghost use Rattle.range_locks.specs.RangeTable.{AreRisingRanges, AreSameByPlace, conflicts, is_range, is_range_of, is_behind, lesser_number, least_from, first_id, range_blockers};
 ghost use Rattle.range_locks.specs.declared.range.Range.{Range};
 
 use crate::places::{RangesByPlace, place_in, remove_all_of};
@@ -26,14 +26,14 @@ pub struct RangeTable {
 }
 
 impl Model for RangeTable {
-    ghost use Rattle.range_locks.specs.RangeTable.{AreNumbered, AreSameByPlace, Ranges};
+    ghost use Rattle.range_locks.specs.RangeTable.{AreRisingRanges, AreSameByPlace, Ranges};
     ghost use Rattle.std.specs.Prelude.{◌≡◌, min, true};
 
     ghost Value = { Ranges };
 
     ghost view = { λ t. record { ranges = t.ranges.items; room = min t.ranges.room t.by_place.room } };
 
-    ghost invariant = { λ t. AreSameByPlace t.by_place.ranges t.ranges.items × (t.rising ≡ true → AreNumbered t.ranges.items) };
+    ghost invariant = { λ t. AreSameByPlace t.by_place.ranges t.ranges.items × (t.rising ≡ true → AreRisingRanges t.ranges.items) };
 }
 
 impl RangeTable {
@@ -85,7 +85,7 @@ impl RangeTable {
         at: u64,
         count: u64,
     ) -> Result<BlockerList, NoMemory>
-        ensures { IfOk result (λ list. list ≡ full (blockers_of (conflicts want handle at count) self.now.ranges)) }
+        ensures { IfOk result (λ list. list ≡ full (range_blockers (conflicts want handle at count) self.now.ranges)) }
     {
         let near = self.by_place.near(at, count);
         if goes_by_place(self.rising, near.len(), self.ranges.len()) {
@@ -143,8 +143,8 @@ impl RangeTable {
     /// Takes the first range of this handle out, and gives its number; `None` exactly where it
     /// has none. It takes no memory, and leaves the spare room as it was or larger.
     pub fn remove_any_of(&mut self, handle: u64) -> Option<u64>
-        ensures id { result ≡ first_id (is_of handle) self.old.ranges }
-        ensures ranges { self.new.ranges ≡ without_first (is_of handle) self.old.ranges }
+        ensures id { result ≡ first_id (is_range_of handle) self.old.ranges }
+        ensures ranges { self.new.ranges ≡ without_first (is_range_of handle) self.old.ranges }
         ensures room { self.old.room ≤ self.new.room }
     {
         match first_of_handle(self.ranges.as_slice(), handle) {
@@ -156,7 +156,7 @@ impl RangeTable {
     /// Takes all ranges of this handle out. It takes no memory, and leaves the spare room as it was or
     /// larger.
     pub fn remove_all_of(&mut self, handle: u64)
-        ensures ranges { self.new.ranges ≡ filter (λ range. not (is_of handle range)) self.old.ranges }
+        ensures ranges { self.new.ranges ≡ filter (λ range. not (is_range_of handle range)) self.old.ranges }
         ensures room { self.old.room ≤ self.new.room }
     {
         if has_any_of(self.ranges.as_slice(), handle) {
@@ -233,7 +233,7 @@ fn is_behind(last: Option<u64>, id: u64) -> bool
 
 // The lesser of a number, where there is one, and another that passes.
 fn with_lesser(passes: bool, least: Option<u64>, id: u64) -> Option<u64>
-    ensures { result ≡ (if passes then Some (lesser least id) else least) }
+    ensures { result ≡ (if passes then Some (lesser_number least id) else least) }
 {
     if !passes {
         return least;
@@ -266,9 +266,9 @@ fn listed_near(
     at: u64,
     count: u64,
 ) -> Result<BlockerList, NoMemory>
-    requires numbered { AreNumbered ranges.now }
+    requires numbered { AreRisingRanges ranges.now }
     requires near { AreSameByPlace (filter (conflicts want handle at count) near.now) (filter (conflicts want handle at count) ranges.now) }
-    ensures { IfOk result (λ list. list ≡ full (blockers_of (conflicts want handle at count) ranges.now)) }
+    ensures { IfOk result (λ list. list ≡ full (range_blockers (conflicts want handle at count) ranges.now)) }
 {
     let found = count_of_conflicts(near, want, handle, at, count);
     if found.saturating_mul(near.len()) <= ranges.len() {
@@ -299,7 +299,7 @@ fn listed_by_number(
     found: usize,
 ) -> Result<BlockerList, NoMemory>
     requires { found ≡ count_by (conflicts want handle at count) near.now }
-    ensures { (ranges : List Range) → AreNumbered ranges → AreSameByPlace (filter (conflicts want handle at count) near.now) (filter (conflicts want handle at count) ranges)
+    ensures { (ranges : List Range) → AreRisingRanges ranges → AreSameByPlace (filter (conflicts want handle at count) near.now) (filter (conflicts want handle at count) ranges)
         → IfOk result (λ list. list ≡ full (blockers_of (conflicts want handle at count) ranges)) }
 {
     let mut list = list_for(alloc, found)?;
@@ -323,7 +323,7 @@ fn listed(
     at: u64,
     count: u64,
 ) -> Result<BlockerList, NoMemory>
-    ensures { IfOk result (λ list. list ≡ full (blockers_of (conflicts want handle at count) ranges.now)) }
+    ensures { IfOk result (λ list. list ≡ full (range_blockers (conflicts want handle at count) ranges.now)) }
 {
     let found = count_of_conflicts(ranges, want, handle, at, count);
     listed_all(alloc, ranges, want, handle, at, count, found)
@@ -341,7 +341,7 @@ fn listed_all(
     found: usize,
 ) -> Result<BlockerList, NoMemory>
     requires { found ≡ count_by (conflicts want handle at count) ranges.now }
-    ensures { IfOk result (λ list. list ≡ full (blockers_of (conflicts want handle at count) ranges.now)) }
+    ensures { IfOk result (λ list. list ≡ full (range_blockers (conflicts want handle at count) ranges.now)) }
 {
     let mut list = list_for(alloc, found)?;
     for range in ranges {
@@ -357,7 +357,7 @@ fn listed_all(
 
 // Takes the first range of this handle with exactly this place and count out, which has this number.
 fn remove(ranges: &mut ShiftList<Range>, handle: u64, at: u64, count: u64, id: u64, rising: bool)
-    requires numbered { rising ≡ true → AreNumbered ranges.old.items }
+    requires numbered { rising ≡ true → AreRisingRanges ranges.old.items }
     requires first { first_id (is_range handle at count) ranges.old.items ≡ Some id }
     ensures ranges { ranges.new.items ≡ without_first (is_range handle at count) ranges.old.items }
     ensures room { ranges.old.room ≤ ranges.new.room }
@@ -368,7 +368,7 @@ fn remove(ranges: &mut ShiftList<Range>, handle: u64, at: u64, count: u64, id: u
 
 // The place of the first range of this handle with exactly this place and count, which has this number.
 fn place_of(ranges: &[Range], handle: u64, at: u64, count: u64, id: u64, rising: bool) -> usize
-    requires numbered { rising ≡ true → AreNumbered ranges.now }
+    requires numbered { rising ≡ true → AreRisingRanges ranges.now }
     requires first { first_id (is_range handle at count) ranges.now ≡ Some id }
     ensures { position (is_range handle at count) ranges.now ≡ Some result }
 {
@@ -383,7 +383,7 @@ fn place_of(ranges: &[Range], handle: u64, at: u64, count: u64, id: u64, rising:
 
 // Where the ranges of lesser numbers end.
 fn begin_of_number(ranges: &[Range], id: u64) -> usize
-    requires rising { AreNumbered ranges.now }
+    requires rising { AreRisingRanges ranges.now }
     ensures bound { result ≤ length ranges.now }
     ensures point { IsPartitionPoint (λ range. range.id < id) (λ range. id ≤ range.id) ranges.now result }
 {
@@ -392,7 +392,7 @@ fn begin_of_number(ranges: &[Range], id: u64) -> usize
 
 // The first range of this handle.
 fn first_of_handle(ranges: &[Range], handle: u64) -> Option<Range>
-    ensures { result ≡ find (is_of handle) ranges.now }
+    ensures { result ≡ find (is_range_of handle) ranges.now }
 {
     match place_of_handle(ranges, handle) {
         None => None,
@@ -402,14 +402,14 @@ fn first_of_handle(ranges: &[Range], handle: u64) -> Option<Range>
 
 // The place of the first range of this handle.
 fn place_of_handle(ranges: &[Range], handle: u64) -> Option<usize>
-    ensures { result ≡ position (is_of handle) ranges.now }
+    ensures { result ≡ position (is_range_of handle) ranges.now }
 {
     ranges.iter().position(|range| range.handle == handle)
 }
 
 // Whether there is a range of this handle.
 fn has_any_of(ranges: &[Range], handle: u64) -> bool
-    ensures { result ≡ list_any (is_of handle) ranges.now }
+    ensures { result ≡ list_any (is_range_of handle) ranges.now }
 {
     ranges.iter().any(|range| range.handle == handle)
 }

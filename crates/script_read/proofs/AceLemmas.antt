@@ -7,7 +7,7 @@ use Rattle.std.proofs.lemmas.List.Recursion.{is_count_by}
 use Rattle.std.proofs.lemmas.Bool.{cases_Bool}
 use Rattle.fsa_types.specs.declared.request.Ace.{Ace}
 use Rattle.fsa_model.specs.Fault.{Kind, BadSyntax}
-use Rattle.fsa_model.specs.InformationLines.{ace_of, entry_of, after_entry, ace_onto, aces_of}
+use Rattle.fsa_model.specs.InformationLines.{ace_of, before_comma, after_entry, ace_onto, aces_of}
 use Rattle.script_read.specs.declared.fault.LineFault.{LineFault}
 use Rattle.script_read.specs.declared.fault.LineFault.TheVariants as line
 use Rattle.script_read.specs.ReadsAs.{Fails, kind_of}
@@ -15,12 +15,12 @@ use Rattle.script_read.proofs.ReadLemmas.{ahead, ahead-fault}
 
 -- ---- the entry at the front
 
-pub aces-more : (bytes more : List ℕ) (ace : Ace) → bytes ≡ 44 ∷ more → ace_of (entry_of more) ≡ Ok ace
+pub aces-more : (bytes more : List ℕ) (ace : Ace) → bytes ≡ 44 ∷ more → ace_of (before_comma more) ≡ Ok ace
     → (most : ℕ) → aces_of (suc most) bytes ≡ ace_onto ace (aces_of most (after_entry more))
 unfolding aces_of
 aces-more bytes more ace splits is most = rw (splits, is) refl
 
-pub aces-bad : (bytes more : List ℕ) (fault : LineFault) → bytes ≡ 44 ∷ more → Fails fault (ace_of (entry_of more))
+pub aces-bad : (bytes more : List ℕ) (fault : LineFault) → bytes ≡ 44 ∷ more → Fails fault (ace_of (before_comma more))
     → (most : ℕ) → Fails fault (aces_of (suc most) bytes)
 unfolding aces_of
 aces-bad bytes more line.NoMemory splits fails most = tt

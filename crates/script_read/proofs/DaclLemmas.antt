@@ -13,7 +13,7 @@ use Rattle.fsa_types.specs.declared.request.DaclChange.{DaclChange}
 use Rattle.fsa_types.specs.declared.request.DaclChange.TheVariants.{Keep, Remove, Put}
 use Rattle.fsa_model.specs.Numbers.{glyph, spelled, written_number}
 use Rattle.fsa_model.specs.Words.{same, most_id}
-use Rattle.fsa_model.specs.InformationLines.{most_aces, owner_at, ace_with, ace_of, entry_of, after_entry, aces_of, dacl_of, dacl_at, owner_text, ace_text, dacl_text, is_ace, is_dacl}
+use Rattle.fsa_model.specs.InformationLines.{most_aces, owner_at, ace_with, ace_of, before_comma, after_entry, aces_of, dacl_of, dacl_at, owner_text, ace_text, dacl_text, is_ace, is_dacl}
 use Rattle.script_read.proofs.SpellLemmas.{both, at_most, same-eq, unless, Lacks, EndsAt, NoSpace, EndsWord, Lacks-append, first_at, before-again, from-again, field_at-again, number_of-spelled, Lacks-spelled, NoSpace-spelled, mask_of-again}
 
 -- ---- owners
@@ -102,7 +102,7 @@ aces_of-again (suc most) (ace ∷ aces) few fit =
     let parts = both (is_ace ace) (list_all is_ace aces) fit in
     let bounds = both (nat_le ace.sid most_id) (nat_le ace.mask 4294967295) parts.0 in
     let rest = flat_map ace_text aces in
-    let entry : entry_of (signed ace ++ rest) ≡ signed ace = before-again 44 (signed ace) rest (NoComma-signed ace) (EndsAt-aces aces) in
+    let entry : before_comma (signed ace ++ rest) ≡ signed ace = before-again 44 (signed ace) rest (NoComma-signed ace) (EndsAt-aces aces) in
     let after : after_entry (signed ace ++ rest) ≡ rest = from-again 44 (signed ace) rest (NoComma-signed ace) (EndsAt-aces aces) in
     let read : ace_of (signed ace) ≡ Ok ace = ace_of-again ace.allow ace.sid ace.mask (at_most ace.sid most_id bounds.0) (at_most ace.mask 4294967295 bounds.1) in
     rw (entry, after, read, aces_of-again most aces (omega arith) parts.1) refl

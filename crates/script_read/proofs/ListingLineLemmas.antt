@@ -8,7 +8,7 @@ use Rattle.fsa_types.specs.declared.request.What.TheVariants.{Ask}
 use Rattle.fsa_types.specs.declared.request.Request.TheVariants.{QueryDir, Notify}
 use Rattle.fsa_model.specs.Words.{most_id, most_mask, most_bytes}
 use Rattle.fsa_model.specs.FieldText.{number_text, mask_text, text_text, choice_text}
-use Rattle.fsa_model.specs.ListingLines.{dir_kind_at, dir_kind_text, query_dir_fields, listing_end_text, query_dir_text, is_query_dir, notify_fields, notify_text, is_notify}
+use Rattle.fsa_model.specs.ListingLines.{dir_kind_at, dir_kind_text, query_dir_fields, listing_end_text, query_dir_text, is_query_dir_line, notify_fields, notify_text, is_notify}
 use Rattle.fsa_model.specs.Spelled.{SpellsUnits}
 use Rattle.script_read.proofs.SpellLemmas.{both, at_most, EndsWord, field_at-again, number_at-again, number_at-last, mask_at-again, choice_at-again}
 use Rattle.script_read.proofs.TextLemmas.{text_at-again, text_at-spelled}
@@ -20,7 +20,7 @@ dir_kind_at-again Dir rest ends = rw (field_at-again (100 ∷ 105 ∷ 114 ∷ []
 dir_kind_at-again Full rest ends = rw (field_at-again (102 ∷ 117 ∷ 108 ∷ 108 ∷ []) rest (refl, (refl, (refl, (refl, tt)))) ends) refl
 dir_kind_at-again IdFull rest ends = rw (field_at-again (105 ∷ 100 ∷ 102 ∷ 117 ∷ 108 ∷ 108 ∷ []) rest (refl, (refl, (refl, (refl, (refl, (refl, tt)))))) ends) refl
 
-pub query_dir_fields-again : (handle : ℕ) (kind : DirKind) (expression : List ℕ) (restart : Bool) (room : ℕ) → is_query_dir handle expression room ≡ true
+pub query_dir_fields-again : (handle : ℕ) (kind : DirKind) (expression : List ℕ) (restart : Bool) (room : ℕ) → is_query_dir_line handle expression room ≡ true
     → query_dir_fields (query_dir_text handle kind expression restart room) ≡ Ok (Ask (QueryDir handle kind expression restart room))
 unfolding query_dir_fields
 query_dir_fields-again handle kind expression restart room fits =
@@ -36,7 +36,7 @@ query_dir_fields-again handle kind expression restart room fits =
       number_at-last 16384 room (at_most room most_bytes outer.1),
     ) refl
 
-pub query_dir_fields-spelled : (handle : ℕ) (kind : DirKind) (expression text : List ℕ) (restart : Bool) (room : ℕ) → SpellsUnits expression text → is_query_dir handle expression room ≡ true
+pub query_dir_fields-spelled : (handle : ℕ) (kind : DirKind) (expression text : List ℕ) (restart : Bool) (room : ℕ) → SpellsUnits expression text → is_query_dir_line handle expression room ≡ true
     → query_dir_fields (number_text handle ++ (dir_kind_text kind ++ (32 ∷ 61 ∷ (text ++ listing_end_text restart room)))) ≡ Ok (Ask (QueryDir handle kind expression restart room))
 unfolding query_dir_fields
 query_dir_fields-spelled handle kind expression text restart room spells fits =

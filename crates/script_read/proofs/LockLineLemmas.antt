@@ -5,10 +5,10 @@ use Rattle.fsa_types.specs.declared.request.What.TheVariants.{Ask}
 use Rattle.fsa_types.specs.declared.request.Request.TheVariants.{Lock, Unlock}
 use Rattle.fsa_model.specs.Words.{most_id, most_place}
 use Rattle.fsa_model.specs.FieldText.{number_text, choice_text}
-use Rattle.fsa_model.specs.LockLines.{lock_fields, lock_text, unlock_fields, unlock_text, is_range}
+use Rattle.fsa_model.specs.LockLines.{lock_fields, lock_text, unlock_fields, unlock_text, is_range_line}
 use Rattle.script_read.proofs.SpellLemmas.{both, at_most, number_at-again, number_at-last, choice_at-again, choice_at-last}
 
-pub lock_fields-again : (handle place count : ℕ) (exclusive wait : Bool) → is_range handle place count ≡ true
+pub lock_fields-again : (handle place count : ℕ) (exclusive wait : Bool) → is_range_line handle place count ≡ true
     → lock_fields (lock_text handle place count exclusive wait) ≡ Ok (Ask (Lock handle place count exclusive wait))
 unfolding lock_fields
 lock_fields-again handle place count exclusive wait fits =
@@ -25,7 +25,7 @@ lock_fields-again handle place count exclusive wait fits =
       choice_at-last (codes "wait") (codes "now") wait (refl, (refl, (refl, (refl, tt)))) (refl, (refl, (refl, tt))) refl refl refl,
     ) refl
 
-pub unlock_fields-again : (handle place count : ℕ) → is_range handle place count ≡ true → unlock_fields (unlock_text handle place count) ≡ Ok (Ask (Unlock handle place count))
+pub unlock_fields-again : (handle place count : ℕ) → is_range_line handle place count ≡ true → unlock_fields (unlock_text handle place count) ≡ Ok (Ask (Unlock handle place count))
 unfolding unlock_fields
 unlock_fields-again handle place count fits =
     let outer = both (nat_le handle most_id && nat_le place most_place) (nat_le count most_place) fits in

@@ -6,12 +6,12 @@ use Rattle.fsa_types.specs.declared.request.What.TheVariants.{Ask}
 use Rattle.fsa_types.specs.declared.request.Request.TheVariants.{Rename, Link, SetDisposition}
 use Rattle.fsa_model.specs.Words.{most_id}
 use Rattle.fsa_model.specs.FieldText.{number_text, text_text, choice_text}
-use Rattle.fsa_model.specs.NameLines.{rename_fields, link_fields, naming_text, set_disposition_fields, set_disposition_text, is_naming}
+use Rattle.fsa_model.specs.NameLines.{rename_fields, link_fields, naming_text, set_disposition_fields, set_disposition_text, is_naming_line}
 use Rattle.fsa_model.specs.Spelled.{SpellsUnits}
 use Rattle.script_read.proofs.SpellLemmas.{both, at_most, number_at-again, choice_at-last}
 use Rattle.script_read.proofs.TextLemmas.{text_at-again, text_at-spelled}
 
-pub rename_fields-again : (handle : ℕ) (path : List ℕ) (replace : Bool) → is_naming handle path ≡ true
+pub rename_fields-again : (handle : ℕ) (path : List ℕ) (replace : Bool) → is_naming_line handle path ≡ true
     → rename_fields (naming_text handle path replace) ≡ Ok (Ask (Rename handle path replace))
 unfolding rename_fields
 rename_fields-again handle path replace fits =
@@ -23,7 +23,7 @@ rename_fields-again handle path replace fits =
       choice_at-last (codes "replace") (codes "keep") replace (refl, (refl, (refl, (refl, (refl, (refl, (refl, tt))))))) (refl, (refl, (refl, (refl, tt)))) refl refl refl,
     ) refl
 
-pub rename_fields-spelled : (handle : ℕ) (path text : List ℕ) (replace : Bool) → SpellsUnits path text → is_naming handle path ≡ true
+pub rename_fields-spelled : (handle : ℕ) (path text : List ℕ) (replace : Bool) → SpellsUnits path text → is_naming_line handle path ≡ true
     → rename_fields (number_text handle ++ (32 ∷ 61 ∷ (text ++ choice_text (codes "replace") (codes "keep") replace))) ≡ Ok (Ask (Rename handle path replace))
 unfolding rename_fields
 rename_fields-spelled handle path text replace spells fits =
@@ -35,7 +35,7 @@ rename_fields-spelled handle path text replace spells fits =
       choice_at-last (codes "replace") (codes "keep") replace (refl, (refl, (refl, (refl, (refl, (refl, (refl, tt))))))) (refl, (refl, (refl, (refl, tt)))) refl refl refl,
     ) refl
 
-pub link_fields-again : (handle : ℕ) (path : List ℕ) (replace : Bool) → is_naming handle path ≡ true
+pub link_fields-again : (handle : ℕ) (path : List ℕ) (replace : Bool) → is_naming_line handle path ≡ true
     → link_fields (naming_text handle path replace) ≡ Ok (Ask (Link handle path replace))
 unfolding link_fields
 link_fields-again handle path replace fits =
@@ -47,7 +47,7 @@ link_fields-again handle path replace fits =
       choice_at-last (codes "replace") (codes "keep") replace (refl, (refl, (refl, (refl, (refl, (refl, (refl, tt))))))) (refl, (refl, (refl, (refl, tt)))) refl refl refl,
     ) refl
 
-pub link_fields-spelled : (handle : ℕ) (path text : List ℕ) (replace : Bool) → SpellsUnits path text → is_naming handle path ≡ true
+pub link_fields-spelled : (handle : ℕ) (path text : List ℕ) (replace : Bool) → SpellsUnits path text → is_naming_line handle path ≡ true
     → link_fields (number_text handle ++ (32 ∷ 61 ∷ (text ++ choice_text (codes "replace") (codes "keep") replace))) ≡ Ok (Ask (Link handle path replace))
 unfolding link_fields
 link_fields-spelled handle path text replace spells fits =

@@ -10,7 +10,7 @@ use Rattle.script_read.proofs.LineLemmas.{line_of-spelled}
 use Rattle.script_read.specs.declared.fault.ReadFault.{ReadFault}
 use Rattle.script_read.specs.declared.fault.ReadFault.TheVariants as read
 use Rattle.script_read.specs.declared.script.Script.{Script as ReadScript}
-use Rattle.script_read.specs.ReadsAs.{fault_of}
+use Rattle.script_read.specs.ReadsAs.{script_fault_of}
 use Rattle.script_read.specs.ScriptView.{contents, GivesScript, GivesSpelled}
 
 pub script_of-bytes : (bytes : List ℕ) (script : Script) → SpellsScript bytes script → script_of bytes ≡ Ok script
@@ -27,7 +27,7 @@ no_script bytes fault script fails spells = never script fault (sym (script_of-b
 pub gives_spelled : (bytes : List ℕ) (result : Result ReadScript ReadFault) → GivesScript result (script_of bytes) → GivesSpelled result bytes
 gives_spelled bytes (Ok script) gives = script_of-spelled bytes (contents script) gives
 gives_spelled bytes (Err read.NoMemory) gives = tt
-gives_spelled bytes (Err (read.Bad fault)) gives = λ script. no_script bytes (fault_of fault) script gives
+gives_spelled bytes (Err (read.Bad fault)) gives = λ script. no_script bytes (script_fault_of fault) script gives
 
 -- the same, where the reader went over the lines
 pub lines_spelled : (bytes : List ℕ) (result : Result ReadScript ReadFault) → (length bytes == 0) ≡ false → GivesScript result (lines_from 1 nothing_read (pieces bytes)) → GivesSpelled result bytes

@@ -16,8 +16,8 @@ kind_of Syntax = BadSyntax
 kind_of Client = BadClient
 kind_of Number = BadNumber
 
-abbrev pub fault_of : ScriptFault → Fault
-fault_of fault = record { line = fault.line; kind = kind_of fault.kind }
+abbrev pub script_fault_of : ScriptFault → Fault
+script_fault_of fault = record { line = fault.line; kind = kind_of fault.kind }
 
 -- an error that a line's reader answers is the fault of the definition, or want of memory
 abbrev pub Fails : {Y : Type 0} → LineFault → Result Y Kind → Type 0
@@ -39,4 +39,4 @@ ReadsOr (Err fault) defined = (other : Result What Kind) → Fails fault (define
 -- the same of a whole script
 abbrev pub FailsScript : {Y : Type 0} → ReadFault → Result Y Fault → Type 0
 FailsScript read.NoMemory defined = Unit {0}
-FailsScript (read.Bad fault) defined = defined ≡ Err (fault_of fault)
+FailsScript (read.Bad fault) defined = defined ≡ Err (script_fault_of fault)

@@ -2,7 +2,7 @@
 
 ghost use Rattle.std.specs.Prelude.{◌≡◌, ℕ, suc, ◌==◌, ◌+◌, ◌<◌, ◌≤◌, IfOk, IfErr, length, count_by, min};
 ghost use Rattle.fsa_types.specs.BoundedList.{full};
-ghost use Rattle.fsa_model.specs.InformationLines.{sid_of, owner_at, ace_with, ace_of, entry_of, after_entry, ace_onto, aces_of, most_aces, dacl_of, dacl_at};
+ghost use Rattle.fsa_model.specs.InformationLines.{sid_of, owner_at, ace_with, ace_of, before_comma, after_entry, ace_onto, aces_of, most_aces, dacl_of, dacl_at};
 ghost use Rattle.script_read.specs.ReadsAs.{ReadsAs, Fails};
 
 use crate::fault::{LineFault, SYNTAX};
@@ -59,7 +59,7 @@ fn ace_of(bytes: &[u8]) -> Result<Ace, LineFault>
 
 // The entry up to the next comma, and what follows it, from that comma on.
 fn split_entry(bytes: &[u8]) -> (&[u8], &[u8])
-    ensures entry { result.0.now ≡ entry_of bytes.now }
+    ensures entry { result.0.now ≡ before_comma bytes.now }
     ensures rest { result.1.now ≡ after_entry bytes.now }
     ensures shorter { length result.1.now ≤ length bytes.now }
 {

@@ -2,7 +2,7 @@
 
 ghost use Rattle.std.specs.Prelude.{◌≡◌};
 ghost use Rattle.fsa_types.specs.Request.{level_fits};
-ghost use Rattle.fsa_model.specs.OplockLines.{level_of, level_at, oplock_fields, ack_fields};
+ghost use Rattle.fsa_model.specs.OplockLines.{level_of_word, level_at, oplock_fields, ack_fields};
 ghost use Rattle.fsa_model.specs.Requests.{oplock_line};
 ghost use Rattle.script_read.specs.ReadsAs.{ReadsAs, ReadsOr};
 
@@ -11,8 +11,8 @@ use crate::word::{ended, field_at, id_at};
 use fsa_types::{Level, Request, What};
 
 // The level that a word names.
-fn level_of(word: &[u8]) -> Result<Level, LineFault>
-    ensures { ReadsAs (λ level. level) result (level_of word.now) }
+fn level_of_word(word: &[u8]) -> Result<Level, LineFault>
+    ensures { ReadsAs (λ level. level) result (level_of_word word.now) }
 {
     if word == b"none".as_slice() {
         Ok(Level::Nil)
@@ -35,7 +35,7 @@ fn level_at(bytes: &[u8]) -> Result<(Level, &[u8]), LineFault>
     ensures { ReadsAs (λ level. (level.0, level.1.now)) result (level_at bytes.now) }
 {
     let (word, rest) = field_at(bytes)?;
-    let level = level_of(word)?;
+    let level = level_of_word(word)?;
     Ok((level, rest))
 }
 

@@ -20,20 +20,20 @@ use Rattle.fsa_model.specs.Waiting.{is_wait}
 use Rattle.fsa_model.proofs.CountLaws.{and_left, and_right}
 use Rattle.fsa_model.proofs.RowLaws.{any-weaker, find-any, option_cases}
 use Rattle.fsa_model.proofs.WaitLaws.{find-passes}
-use Rattle.fsa_machine.specs.MachineView.{CallsNumbered, calls_in}
+use Rattle.fsa_machine.specs.MachineView.{CallsNumbered, calls_of_entries}
 use Rattle.fsa_model.specs.Ended.{ended_with_list, holds_list, reply_in}
 use Rattle.history_laws.specs.CallAnswers.{EndedWithList, HasEnded}
-use Rattle.history_laws.specs.WaitEnds.{cancels_in, ends_otherwise, is_nothing, is_wait_end, leaves_in, wait_may_end}
+use Rattle.history_laws.specs.WaitEnds.{cancels_in, ends_otherwise, gives_nothing, is_wait_end, leaves_in, wait_may_end}
 use Rattle.history_laws.proofs.WaitRuns.{waits-end}
 use Rattle.history_lock.specs.History.{calls_by}
 use Rattle.shared_volume.specs.Histories.{IsMachineHistory}
 use Rattle.shared_volume.proofs.HistoryLaws.{numbered-differ}
-use Rattle.shared_volume.specs.Shared.{EndsInWait, IsStatusOfWait, Known, OnlySees, call_of, client_of, has_leaving}
+use Rattle.shared_volume.specs.Shared.{EndsInWait, IsStatusOfWait, Known, OnlySees, entry_call, call_client, has_leaving}
 
 -- ---- the last call of a client in a history
 
 abbrev mine_in : ℕ → List HistoryEntry → List Call
-mine_in client entries = calls_by call_of client_of client entries
+mine_in client entries = calls_by entry_call call_client client entries
 
 record HasLast (client : ℕ) (entries : List HistoryEntry) (calls : List Call) (call : Call) : Type 0 where
   front : List HistoryEntry
@@ -125,7 +125,7 @@ status-of_wait setup seen mine client number reply history own last ended =
       | inl missing ↦ (let impossible : None ≡ Some reply = rw missing at is in cc)
       | inr some ↦ (let found : Some some.0.reply ≡ Some reply = rw some.1 at is in let same : some.0.reply ≡ reply = cc in
           elim (cases_Bool (is_wait_end (has_leaving mine) false reply)) [
-            | inl fine ↦ and_left (wait_may_end (has_leaving mine) false reply.status) (is_nothing reply.body) fine
+            | inl fine ↦ and_left (wait_may_end (has_leaving mine) false reply.status) (gives_nothing reply.body) fine
             | inr other ↦ absurd (let there = find-any (is_end client number) (λ end. is_end client number end && not (is_wait_end (has_leaving mine) false end.reply)) ends some.0 some.1
                 (rw (find-passes (is_end client number) ends some.0 some.1, same, other) refl) in let impossible : true ≡ false = sym there ∙ none in cc)
           ])
@@ -143,7 +143,7 @@ no-list_of_wait setup seen mine client number history own last list =
     never true = refl
     never false = refl
 
-    otherwise : (status : _) (body : Body) → holds_list body ≡ true → not (wait_may_end (has_leaving mine) false status && is_nothing body) ≡ true
+    otherwise : (status : _) (body : Body) → holds_list body ≡ true → not (wait_may_end (has_leaving mine) false status && gives_nothing body) ≡ true
     otherwise status (Got bytes) holds = never (wait_may_end (has_leaving mine) false status)
     otherwise status (Packed kind bytes) holds = never (wait_may_end (has_leaving mine) false status)
     otherwise status (Stopped tag bytes rest) holds = never (wait_may_end (has_leaving mine) false status)

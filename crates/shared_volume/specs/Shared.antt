@@ -40,11 +40,11 @@ Known = View Setup HistoryEntry Call
 abbrev pub IsPass : {machine : Ghosts Engine Setup HistoryEntry Call Out Why CallId (Option Reply)} → SharedVolume → Pass Engine Setup HistoryEntry Call Out Why CallId (Option Reply) machine → Type 0
 IsPass volume pass = IsPassOf setup_in_engine IsMachineHistory volume.lock pass
 
-abbrev pub call_of : HistoryEntry → Call
-call_of entry = entry.call
+abbrev pub entry_call : HistoryEntry → Call
+entry_call entry = entry.call
 
-abbrev pub client_of : Call → ℕ
-client_of call = call.client
+abbrev pub call_client : Call → ℕ
+call_client call = call.client
 
 -- the turn that the last entry stands for answered its own call so
 pub record LastTurnAnswered (setup : Setup) (seen : List HistoryEntry) (answer : Answer) : Type 0 where
@@ -54,7 +54,7 @@ pub record LastTurnAnswered (setup : Setup) (seen : List HistoryEntry) (answer :
 
 -- the client made its next call, which has this number and was answered so
 pub record Submits (setup : Setup) (what : What) (number : ℕ) (answer : Answer) (v w : Known) : Type 0 where
-  pub makes : Makes call_of (record { client = v.own.client; number = number; what = what }) v w
+  pub makes : Makes entry_call (record { client = v.own.client; number = number; what = what }) v w
   pub count : number ≡ length w.own.mine
   pub answers : LastTurnAnswered setup w.own.seen answer
 
@@ -85,7 +85,7 @@ pub record WaitsFor (setup : Setup) (number : ℕ) (status : Status) (v w : Know
   pub before : Known
   pub lost : v.lost ≤ before.lost
   pub is : before ≡ record v { lost = before.lost }
-  pub makes : Makes call_of (record { client = v.own.client; number = length v.own.mine + 1; what = WaitFor number }) before between
+  pub makes : Makes entry_call (record { client = v.own.client; number = length v.own.mine + 1; what = WaitFor number }) before between
   pub sees : OnlySees between w
   pub reply : Reply
   pub ended : HasEnded setup w.own.seen v.own.client (length v.own.mine + 1) reply

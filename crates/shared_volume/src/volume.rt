@@ -9,13 +9,13 @@ ghost use Rattle.history_lock.specs.Passes.{Refreshed, Waited};
 ghost use Rattle.history_lock.specs.Turns.{Sees, beaten};
 ghost use Rattle.history_laws.specs.CallAnswers.{CanAsk, EndedWithList, HasEnded, IfBusy, IfDid, IfDone, IfRefused, OnBusy, OnNoMemory, OnPending, Pends};
 ghost use Rattle.shared_volume.specs.Histories.{IsMachineHistory, MayRefuse};
-ghost use Rattle.shared_volume.specs.Shared.{EndsInWait, IsPass, IsStatusOfWait, OnlySees, Submits, WaitsFor, call_of, client_of, setup_at};
+ghost use Rattle.shared_volume.specs.Shared.{EndsInWait, IsPass, IsStatusOfWait, OnlySees, Submits, WaitsFor, entry_call, call_client, setup_at};
 
 use crate::engine::Engine;
 use crate::shared::SharedVolume;
 use fsa_machine::VolumeMachine;
 use fsa_types::{Answer, Call, CallId, NoMemory, Out, Poll, Setup, Status, Submitted, What, Why};
-use history_lock::{Looked, TurnLock, Turned};
+use history_lock::{Looked, TurnLock, TurnAnswer};
 use std::alloc::Global;
 use std::sync::Wait;
 
@@ -85,9 +85,9 @@ impl SharedVolume {
             what,
         };
         match self.lock.try_turn(alloc, pass, call) {
-            Turned::Did(out) => Submitted::Did(number, answer_of(out)),
-            Turned::Busy(call) => Submitted::Busy(what_of(call)),
-            Turned::Refused(call, why) => Submitted::Refused(what_of(call), why),
+            TurnAnswer::Did(out) => Submitted::Did(number, answer_of(out)),
+            TurnAnswer::Busy(call) => Submitted::Busy(what_of(call)),
+            TurnAnswer::Refused(call, why) => Submitted::Refused(what_of(call), why),
         }
     }
 
@@ -215,7 +215,7 @@ impl SharedVolume {
         requires passes { (i : ℕ) (p : _) → slice_get passes.items i ≡ Some p → IsPass self p × ((known p).own.client ≡ i) }
         ensures setup { result.setup ≡ setup_at self }
         ensures history { IsMachineHistory result.setup result.entries }
-        ensures each { (i : ℕ) (p : _) → slice_get passes.items i ≡ Some p → Sees call_of client_of result.entries (known p).own }
+        ensures each { (i : ℕ) (p : _) → slice_get passes.items i ≡ Some p → Sees entry_call call_client result.entries (known p).own }
         ensures no_others { All (λ entry. entry.call.client < length (setup_at self).clients) result.entries }
         ensures caching_is_coherent { CachingIsCoherent result.setup result.entries }
         ensures watches_report_exactly { WatchesReport result.setup result.entries }

@@ -9,33 +9,33 @@ use Rattle.std.proofs.lemmas.List.{get_or-take, get_or-drop, get_or_append_left,
 use Rattle.std.proofs.lemmas.Nat.{div-add-mod', mod_below}
 use Rattle.fsa_types.proofs.RowLemmas.{AreRising, row_of-at}
 use Rattle.fsa_types.specs.Rows.{row_of}
-use Rattle.stream_pages.specs.Pages.{HasPage, KeepsPages, byte_at, is_within, over, below}
+use Rattle.stream_pages.specs.Pages.{HasPage, KeepsPages, byte_at, is_in_piece, overlaid, below}
 use Rattle.fsa_types.specs.Places.{IsAt, StandsAt}
 use Rattle.stream_pages.proofs.PageLaws.{Rows}
 use Rattle.fsa_types.proofs.PlaceLemmas.{row_of-set_own, row_of-set_other, row_of-insert_own, row_of-insert_other, row_of-missing}
 
 -- ---- tests of a place
 
-pub within-yes : (at count place : ℕ) → at ≤ place → place < at + count → is_within at count place ≡ true
+pub within-yes : (at count place : ℕ) → at ≤ place → place < at + count → is_in_piece at count place ≡ true
 within-yes at count place from to = rw (le-leb at place from, lt-ltb place (at + count) to) refl
 
-pub within-before : (at count place : ℕ) → place < at → is_within at count place ≡ false
+pub within-before : (at count place : ℕ) → place < at → is_in_piece at count place ≡ false
 within-before at count place less = rw (lt-leb at place less) refl
 
-pub within-after : (at count place : ℕ) → at + count ≤ place → is_within at count place ≡ false
+pub within-after : (at count place : ℕ) → at + count ≤ place → is_in_piece at count place ≡ false
 within-after at count place more = elim (cases_Bool (nat_le at place)) [
   | inl from ↦ rw (from, le-ltb place (at + count) more) refl
   | inr less ↦ rw less refl
 ]
 
 -- a piece shows its bytes, and beside it are those that were there
-pub over-in : (byte : ℕ → ℕ) (at : ℕ) (piece : List ℕ) (place : ℕ) → at ≤ place → place < at + length piece → over byte at piece place ≡ get_or piece (place - at) 0
+pub over-in : (byte : ℕ → ℕ) (at : ℕ) (piece : List ℕ) (place : ℕ) → at ≤ place → place < at + length piece → overlaid byte at piece place ≡ get_or piece (place - at) 0
 over-in byte at piece place from to = rw (within-yes at (length piece) place from to) refl
 
-pub over-before : (byte : ℕ → ℕ) (at : ℕ) (piece : List ℕ) (place : ℕ) → place < at → over byte at piece place ≡ byte place
+pub over-before : (byte : ℕ → ℕ) (at : ℕ) (piece : List ℕ) (place : ℕ) → place < at → overlaid byte at piece place ≡ byte place
 over-before byte at piece place less = rw (within-before at (length piece) place less) refl
 
-pub over-after : (byte : ℕ → ℕ) (at : ℕ) (piece : List ℕ) (place : ℕ) → at + length piece ≤ place → over byte at piece place ≡ byte place
+pub over-after : (byte : ℕ → ℕ) (at : ℕ) (piece : List ℕ) (place : ℕ) → at + length piece ≤ place → overlaid byte at piece place ≡ byte place
 over-after byte at piece place more = rw (within-after at (length piece) place more) refl
 
 -- where a place lies
@@ -88,7 +88,7 @@ module _ (page : List ℕ) (blank : (k : ℕ) → get_or page k 0 ≡ 0) (xs : R
 
 -- a piece put over bytes, byte by byte
 pub get_or-pasted : (page : List ℕ) (at : ℕ) (piece : List ℕ) (place : ℕ) → at + length piece ≤ length page
-    → get_or (take at page ++ piece ++ drop (at + length piece) page) place 0 ≡ over (λ k. get_or page k 0) at piece place
+    → get_or (take at page ++ piece ++ drop (at + length piece) page) place 0 ≡ overlaid (λ k. get_or page k 0) at piece place
 get_or-pasted page at piece place fits = go (lies at (length piece) place)
   where
     front : length (take at page) ≡ at
@@ -97,7 +97,7 @@ get_or-pasted page at piece place fits = go (lies at (length piece) place)
     both : length (take at page ++ piece) ≡ at + length piece
     both = length-append (take at page) piece ∙ ap (λ n. n + length piece) (length-take-le at page (omega arith))
 
-    go : Lies at (length piece) place → get_or (take at page ++ piece ++ drop (at + length piece) page) place 0 ≡ over (λ k. get_or page k 0) at piece place
+    go : Lies at (length piece) place → get_or (take at page ++ piece ++ drop (at + length piece) page) place 0 ≡ overlaid (λ k. get_or page k 0) at piece place
     go (Before less) =
         get_or_append_left (take at page ++ piece) (drop (at + length piece) page) 0 place (omega (arith, both))
         ∙ get_or_append_left (take at page) piece 0 place (omega (arith, front))
@@ -119,13 +119,13 @@ place_is place number same = sym (div-add-mod' place 4096) ∙ ap (λ n. n * 409
 
 -- a piece within a page is one of the page's places
 over-page : (byte : ℕ → ℕ) (page : List ℕ) (number at : ℕ) (piece : List ℕ) (place : ℕ) → place / 4096 ≡ number → byte place ≡ get_or page (place % 4096) 0
-    → over (λ k. get_or page k 0) at piece (place % 4096) ≡ over byte (number * 4096 + at) piece place
+    → overlaid (λ k. get_or page k 0) at piece (place % 4096) ≡ overlaid byte (number * 4096 + at) piece place
 over-page byte page number at piece place same is = go (lies at (length piece) (place % 4096))
   where
     where_is : place ≡ number * 4096 + place % 4096
     where_is = place_is place number same
 
-    go : Lies at (length piece) (place % 4096) → over (λ k. get_or page k 0) at piece (place % 4096) ≡ over byte (number * 4096 + at) piece place
+    go : Lies at (length piece) (place % 4096) → overlaid (λ k. get_or page k 0) at piece (place % 4096) ≡ overlaid byte (number * 4096 + at) piece place
     go (Before less) = over-before (λ k. get_or page k 0) at piece (place % 4096) less ∙ sym is ∙ sym (over-before byte (number * 4096 + at) piece place (omega (arith, where_is)))
     go (Within from to) =
         over-in (λ k. get_or page k 0) at piece (place % 4096) from to
@@ -134,7 +134,7 @@ over-page byte page number at piece place same is = go (lies at (length piece) (
     go (After more) = over-after (λ k. get_or page k 0) at piece (place % 4096) more ∙ sym is ∙ sym (over-after byte (number * 4096 + at) piece place (omega (arith, where_is)))
 
 -- and none of another's
-over-other : (byte : ℕ → ℕ) (number at : ℕ) (piece : List ℕ) (place : ℕ) → (place / 4096 ≡ number → ⊥) → at + length piece ≤ 4096 → byte place ≡ over byte (number * 4096 + at) piece place
+over-other : (byte : ℕ → ℕ) (number at : ℕ) (piece : List ℕ) (place : ℕ) → (place / 4096 ≡ number → ⊥) → at + length piece ≤ 4096 → byte place ≡ overlaid byte (number * 4096 + at) piece place
 over-other byte number at piece place apart fits = go (lies (number * 4096 + at) (length piece) place)
   where
     where_is : place ≡ place / 4096 * 4096 + place % 4096
@@ -143,7 +143,7 @@ over-other byte number at piece place apart fits = go (lies (number * 4096 + at)
     rest : place % 4096 < 4096
     rest = mod_below place 4096 (omega arith)
 
-    go : Lies (number * 4096 + at) (length piece) place → byte place ≡ over byte (number * 4096 + at) piece place
+    go : Lies (number * 4096 + at) (length piece) place → byte place ≡ overlaid byte (number * 4096 + at) piece place
     go (Before less) = sym (over-before byte (number * 4096 + at) piece place less)
     go (Within from to) = absurd (apart (omega (arith, where_is, rest)))
     go (After more) = sym (over-after byte (number * 4096 + at) piece place more)
@@ -153,7 +153,7 @@ module _ (xs : Rows) (number i : ℕ) (rising : AreRising xs) (at_place : IsAt x
   row_of-here e read = row_of-at xs i e number rising at_place.within (at_place.here e) ∙ ap (λ (x : ℕ × List ℕ). Some x.1) (sym read)
 
   pub byte_at-put : (page piece : List ℕ) (at : ℕ) → row_of xs number ≡ Some page → length page ≡ 4096 → at + length piece ≤ 4096
-      → (place : ℕ) → byte_at (set xs i (number, take at page ++ piece ++ drop (at + length piece) page)) place ≡ over (byte_at xs) (number * 4096 + at) piece place
+      → (place : ℕ) → byte_at (set xs i (number, take at page ++ piece ++ drop (at + length piece) page)) place ≡ overlaid (byte_at xs) (number * 4096 + at) piece place
   byte_at-put page piece at row size fits place = elim (cases_eq (place / 4096) number) [
     | inl same ↦ (
         let was : byte_at xs place ≡ get_or page (place % 4096) 0 = rw (same, row) refl in
@@ -173,7 +173,7 @@ module _ (xs : Rows) (number i : ℕ) (rising : AreRising xs) (at_place : IsAt x
   ]
 
 -- zeros put over a page that isn't there change nothing
-pub byte_at-cleared : (xs : Rows) (number at count : ℕ) → row_of xs number ≡ None → at + count ≤ 4096 → (place : ℕ) → byte_at xs place ≡ over (byte_at xs) (number * 4096 + at) (replicate count 0) place
+pub byte_at-cleared : (xs : Rows) (number at count : ℕ) → row_of xs number ≡ None → at + count ≤ 4096 → (place : ℕ) → byte_at xs place ≡ overlaid (byte_at xs) (number * 4096 + at) (replicate count 0) place
 byte_at-cleared xs number at count missing fits place = elim (cases_eq (place / 4096) number) [
   | inl same ↦ (
       let was : byte_at xs place ≡ 0 = rw (same, missing) refl in
@@ -181,7 +181,7 @@ byte_at-cleared xs number at count missing fits place = elim (cases_eq (place / 
   | inr apart ↦ over-other (byte_at xs) number at (replicate count 0) place apart (omega (arith, length-replicate {A = ℕ} count 0))
 ]
   where
-    go : byte_at xs place ≡ 0 → Lies (number * 4096 + at) (length {A = ℕ} (replicate count 0)) place → byte_at xs place ≡ over (byte_at xs) (number * 4096 + at) (replicate count 0) place
+    go : byte_at xs place ≡ 0 → Lies (number * 4096 + at) (length {A = ℕ} (replicate count 0)) place → byte_at xs place ≡ overlaid (byte_at xs) (number * 4096 + at) (replicate count 0) place
     go was (Before less) = sym (over-before (byte_at xs) (number * 4096 + at) (replicate count 0) place less)
     go was (Within from to) = was ∙ sym (zero-byte count (place - (number * 4096 + at))) ∙ sym (over-in (byte_at xs) (number * 4096 + at) (replicate count 0) place from to)
     go was (After more) = sym (over-after (byte_at xs) (number * 4096 + at) (replicate count 0) place more)
@@ -208,13 +208,13 @@ pub keeps-dropped : (old new : Rows) (number : ℕ) → ((other : ℕ) → row_o
 keeps-dropped old new number rows other less there = let low : nat_lt other number ≡ true = lt-ltb other number less in rw (rows other, low) there
 
 -- zeros to the end of a page, and no page behind it
-pub below-cleared : (byte : ℕ → ℕ) (number at place : ℕ) → at < 4096 → below (over byte (number * 4096 + at) (replicate (4096 - at) 0)) (number * 4096 + 4096) place ≡ below byte (number * 4096 + at) place
+pub below-cleared : (byte : ℕ → ℕ) (number at place : ℕ) → at < 4096 → below (overlaid byte (number * 4096 + at) (replicate (4096 - at) 0)) (number * 4096 + 4096) place ≡ below byte (number * 4096 + at) place
 below-cleared byte number at place within = go (lies (number * 4096 + at) (4096 - at) place)
   where
     size : length {A = ℕ} (replicate (4096 - at) 0) ≡ 4096 - at
     size = length-replicate {A = ℕ} (4096 - at) 0
 
-    go : Lies (number * 4096 + at) (4096 - at) place → below (over byte (number * 4096 + at) (replicate (4096 - at) 0)) (number * 4096 + 4096) place ≡ below byte (number * 4096 + at) place
+    go : Lies (number * 4096 + at) (4096 - at) place → below (overlaid byte (number * 4096 + at) (replicate (4096 - at) 0)) (number * 4096 + 4096) place ≡ below byte (number * 4096 + at) place
     go (Before less) =
         let inner : nat_lt place (number * 4096 + 4096) ≡ true = lt-ltb place (number * 4096 + 4096) (omega arith) in
         let outer : nat_lt place (number * 4096 + at) ≡ true = lt-ltb place (number * 4096 + at) less in

@@ -10,7 +10,7 @@ use Rattle.std.proofs.lemmas.List.FromFn.{length-map-range_with_len, get_or-map-
 use Rattle.std.proofs.lemmas.Nat.{div-add-mod', mod_below, div-mul-add, mod-mul-add}
 use Rattle.fsa_types.specs.Rows.{row_of}
 use Rattle.fsa_types.specs.StreamBytes.{slice, put, cut}
-use Rattle.stream_pages.specs.Pages.{byte_at, bytes_from, is_within, over, below}
+use Rattle.stream_pages.specs.Pages.{byte_at, bytes_from, is_in_piece, overlaid, below}
 use Rattle.stream_pages.specs.Streams.{part_len, some_parts, parts_of}
 use Rattle.stream_pages.proofs.PageLaws.{Rows}
 use Rattle.stream_pages.proofs.ByteLaws.{Lies, Before, Within, After, lies, over-in, over-before, over-after, zero-byte}
@@ -75,7 +75,7 @@ length-put bytes at piece =
       front,
     )
 
-pub put-byte : (bytes : List ℕ) (at : ℕ) (piece : List ℕ) (i : ℕ) → get_or (put bytes at piece) i 0 ≡ over (λ k. get_or bytes k 0) at piece i
+pub put-byte : (bytes : List ℕ) (at : ℕ) (piece : List ℕ) (i : ℕ) → get_or (put bytes at piece) i 0 ≡ overlaid (λ k. get_or bytes k 0) at piece i
 put-byte bytes at piece i = go (lies at (length piece) i)
   where
     front : length (take at bytes ++ replicate (at - length bytes) 0) ≡ at
@@ -84,7 +84,7 @@ put-byte bytes at piece i = go (lies at (length piece) i)
     both : length (take at bytes ++ replicate (at - length bytes) 0 ++ piece) ≡ at + length piece
     both = length-append (take at bytes ++ replicate (at - length bytes) 0) piece ∙ ap (λ n. n + length piece) (length-front bytes at)
 
-    go : Lies at (length piece) i → get_or (put bytes at piece) i 0 ≡ over (λ k. get_or bytes k 0) at piece i
+    go : Lies at (length piece) i → get_or (put bytes at piece) i 0 ≡ overlaid (λ k. get_or bytes k 0) at piece i
     go (Before less) =
         get_or_append_left (take at bytes ++ replicate (at - length bytes) 0 ++ piece) (drop (at + length piece) bytes) 0 i (omega (arith, both))
         ∙ get_or_append_left (take at bytes ++ replicate (at - length bytes) 0) piece 0 i (omega (arith, front))
@@ -102,10 +102,10 @@ put-byte bytes at piece i = go (lies at (length piece) i)
 -- ---- what is put and cut
 
 -- a piece over two bytes that are one
-over-same : (f g : ℕ → ℕ) (at : ℕ) (piece : List ℕ) (i : ℕ) → f i ≡ g i → over f at piece i ≡ over g at piece i
-over-same f g at piece i same = ap (λ x. if is_within at (length piece) i then get_or piece (i - at) 0 else x) same
+over-same : (f g : ℕ → ℕ) (at : ℕ) (piece : List ℕ) (i : ℕ) → f i ≡ g i → overlaid f at piece i ≡ overlaid g at piece i
+over-same f g at piece i same = ap (λ x. if is_in_piece at (length piece) i then get_or piece (i - at) 0 else x) same
 
-pub put-shown : (old new : ℕ → ℕ) (len at : ℕ) (piece : List ℕ) (n : ℕ) → n ≡ max len (at + length piece) → ((i : ℕ) → len ≤ i → old i ≡ 0) → ((i : ℕ) → new i ≡ over old at piece i)
+pub put-shown : (old new : ℕ → ℕ) (len at : ℕ) (piece : List ℕ) (n : ℕ) → n ≡ max len (at + length piece) → ((i : ℕ) → len ≤ i → old i ≡ 0) → ((i : ℕ) → new i ≡ overlaid old at piece i)
     → bytes_from new 0 n ≡ put (bytes_from old 0 len) at piece
 put-shown old new len at piece n size blank shows =
     sym (from-list_all new n (put (bytes_from old 0 len) at piece)
@@ -113,7 +113,7 @@ put-shown old new len at piece n size blank shows =
     (λ i within. put-byte (bytes_from old 0 len) at piece i ∙ over-same (λ k. get_or (bytes_from old 0 len) k 0) old at piece i (from-all old len blank i) ∙ sym (shows i)))
 
 -- behind what was put there are zeros
-pub put-blank : (old new : ℕ → ℕ) (len at : ℕ) (piece : List ℕ) (n : ℕ) → len ≤ n → at + length piece ≤ n → ((i : ℕ) → len ≤ i → old i ≡ 0) → ((i : ℕ) → new i ≡ over old at piece i) → (i : ℕ) → n ≤ i → new i ≡ 0
+pub put-blank : (old new : ℕ → ℕ) (len at : ℕ) (piece : List ℕ) (n : ℕ) → len ≤ n → at + length piece ≤ n → ((i : ℕ) → len ≤ i → old i ≡ 0) → ((i : ℕ) → new i ≡ overlaid old at piece i) → (i : ℕ) → n ≤ i → new i ≡ 0
 put-blank old new len at piece n far long blank shows i beyond = shows i ∙ over-after old at piece i (omega arith) ∙ blank i (omega arith)
 
 -- cut short
@@ -221,8 +221,8 @@ parts-joined byte len at count within =
 
 -- ---- a piece put part by part
 
-pub over-more : (byte mid new : ℕ → ℕ) (at : ℕ) (piece : List ℕ) (done count : ℕ) → done + count ≤ length piece → ((i : ℕ) → mid i ≡ over byte at (take done piece) i)
-    → ((i : ℕ) → new i ≡ over mid (at + done) (take count (drop done piece)) i) → (i : ℕ) → new i ≡ over byte at (take (done + count) piece) i
+pub over-more : (byte mid new : ℕ → ℕ) (at : ℕ) (piece : List ℕ) (done count : ℕ) → done + count ≤ length piece → ((i : ℕ) → mid i ≡ overlaid byte at (take done piece) i)
+    → ((i : ℕ) → new i ≡ overlaid mid (at + done) (take count (drop done piece)) i) → (i : ℕ) → new i ≡ overlaid byte at (take (done + count) piece) i
 over-more byte mid new at piece done count within was is i = is i ∙ go (lies (at + done) count i)
   where
     first : length (take done piece) ≡ done
@@ -234,7 +234,7 @@ over-more byte mid new at piece done count within was is i = is i ∙ go (lies (
     all : length (take (done + count) piece) ≡ done + count
     all = omega (arith, length-take (done + count) piece)
 
-    go : Lies (at + done) count i → over mid (at + done) (take count (drop done piece)) i ≡ over byte at (take (done + count) piece) i
+    go : Lies (at + done) count i → overlaid mid (at + done) (take count (drop done piece)) i ≡ overlaid byte at (take (done + count) piece) i
     go (Before less) = over-before mid (at + done) (take count (drop done piece)) i less ∙ was i ∙ elim (cases_lt i at) [
       | inl low ↦ over-before byte at (take done piece) i low ∙ sym (over-before byte at (take (done + count) piece) i low)
       | inr high ↦
@@ -251,7 +251,7 @@ over-more byte mid new at piece done count within was is i = is i ∙ go (lies (
         ∙ sym (over-after byte at (take (done + count) piece) i (omega (arith, all)))
 
 -- the same where the place and the count are said in other words
-pub over-step : (byte mid new : ℕ → ℕ) (at : ℕ) (piece : List ℕ) (done count place n : ℕ) → done + count ≤ length piece → place ≡ at + done → n ≡ count → ((i : ℕ) → mid i ≡ over byte at (take done piece) i)
-    → ((i : ℕ) → new i ≡ over mid place (take n (drop done piece)) i) → (i : ℕ) → new i ≡ over byte at (take (done + count) piece) i
+pub over-step : (byte mid new : ℕ → ℕ) (at : ℕ) (piece : List ℕ) (done count place n : ℕ) → done + count ≤ length piece → place ≡ at + done → n ≡ count → ((i : ℕ) → mid i ≡ overlaid byte at (take done piece) i)
+    → ((i : ℕ) → new i ≡ overlaid mid place (take n (drop done piece)) i) → (i : ℕ) → new i ≡ overlaid byte at (take (done + count) piece) i
 over-step byte mid new at piece done count place n within here same was is =
-    over-more byte mid new at piece done count within was (λ i. is i ∙ ap (λ k. over mid k (take n (drop done piece)) i) here ∙ ap (λ k. over mid (at + done) (take k (drop done piece)) i) same)
+    over-more byte mid new at piece done count within was (λ i. is i ∙ ap (λ k. overlaid mid k (take n (drop done piece)) i) here ∙ ap (λ k. overlaid mid (at + done) (take k (drop done piece)) i) same)

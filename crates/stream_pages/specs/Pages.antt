@@ -14,12 +14,12 @@ abbrev pub bytes_from : (ℕ → ℕ) → ℕ → ℕ → List ℕ
 bytes_from byte at count = map byte (range_with_len at count)
 
 -- a place is one of `count` from `at` on
-abbrev pub is_within : ℕ → ℕ → ℕ → Bool
-is_within at count place = nat_le at place && nat_lt place (at + count)
+abbrev pub is_in_piece : ℕ → ℕ → ℕ → Bool
+is_in_piece at count place = nat_le at place && nat_lt place (at + count)
 
 -- the bytes with a piece put over them from `at` on
-abbrev pub over : (ℕ → ℕ) → ℕ → List ℕ → ℕ → ℕ
-over byte at piece place = if is_within at (length piece) place then get_or piece (place - at) 0 else byte place
+abbrev pub overlaid : (ℕ → ℕ) → ℕ → List ℕ → ℕ → ℕ
+overlaid byte at piece place = if is_in_piece at (length piece) place then get_or piece (place - at) 0 else byte place
 
 -- the bytes before `end`, and zeros from there on
 abbrev pub below : (ℕ → ℕ) → ℕ → ℕ → ℕ

@@ -2,7 +2,7 @@
 
 ghost use Rattle.std.specs.Prelude.{ℕ, AllPairs, ◌≡◌, ◌≤◌, ◌<◌, ◌+◌, ◌-◌, ◌*◌, ◌^◌, [], None, replicate, IfOk, IfErr, IfSome, OnOk, length, option_map, if◌then◌else◌, nat_lt};
 ghost use Rattle.fsa_types.specs.Rows.{row_of};
-ghost use Rattle.stream_pages.specs.Pages.{HasPage, KeepsPages, Splits, below, byte_at, over};
+ghost use Rattle.stream_pages.specs.Pages.{HasPage, KeepsPages, Splits, below, byte_at, overlaid};
 ghost use Rattle.fsa_types.specs.Places.{IsAt, StandsAt};
 
 use crate::page::{PAGE, Page, zeros};
@@ -78,7 +78,7 @@ impl Pages {
     pub(crate) fn put(&mut self, number: u64, at: usize, piece: &[u8])
         requires there { HasPage self.old number }
         requires within { at + length piece.now ≤ 4096 }
-        ensures bytes { (place : ℕ) → byte_at self.new place ≡ over (byte_at self.old) (number * 4096 + at) piece.now place }
+        ensures bytes { (place : ℕ) → byte_at self.new place ≡ overlaid (byte_at self.old) (number * 4096 + at) piece.now place }
         ensures kept { KeepsPages self.old self.new }
     {
         match place_of(&self.pages, number) {
@@ -91,7 +91,7 @@ impl Pages {
     fn put_at(&mut self, number: u64, place: usize, at: usize, piece: &[u8])
         requires there { IsAt self.old number place }
         requires within { at + length piece.now ≤ 4096 }
-        ensures bytes { (i : ℕ) → byte_at self.new i ≡ over (byte_at self.old) (number * 4096 + at) piece.now i }
+        ensures bytes { (i : ℕ) → byte_at self.new i ≡ overlaid (byte_at self.old) (number * 4096 + at) piece.now i }
         ensures kept { KeepsPages self.old self.new }
     {
         let entry = &mut self.pages[place];
@@ -118,7 +118,7 @@ impl Pages {
     // Puts zeros from this place of a page on, where it is there.
     fn clear_from(&mut self, number: u64, at: usize)
         requires { at ≤ 4096 }
-        ensures bytes { (place : ℕ) → byte_at self.new place ≡ over (byte_at self.old) (number * 4096 + at) (replicate (4096 - at) 0) place }
+        ensures bytes { (place : ℕ) → byte_at self.new place ≡ overlaid (byte_at self.old) (number * 4096 + at) (replicate (4096 - at) 0) place }
         ensures kept { KeepsPages self.old self.new }
     {
         match place_of(&self.pages, number) {

@@ -3,7 +3,7 @@
 ghost use Rattle.std.specs.Prelude.{ℕ, ◌≡◌, ◌≤◌, ◌<◌, ◌+◌, ◌-◌, ◌*◌, ◌^◌, ◌==◌, [], length, take, min, ◌↔◌, IsTrue, IsOk, OnOk, OnErr};
 ghost use Rattle.std.specs.List.{concat};
 ghost use Rattle.fsa_types.specs.StreamBytes.{cut, put, slice};
-ghost use Rattle.stream_pages.specs.Pages.{HasPages, KeepsPages, HasPage, byte_at, over};
+ghost use Rattle.stream_pages.specs.Pages.{HasPages, KeepsPages, HasPage, byte_at, overlaid};
 ghost use Rattle.stream_pages.specs.Streams.{IsReserved};
 
 use crate::page::PAGE;
@@ -181,7 +181,7 @@ fn add_pages(pages: &mut Pages, first: u64, last: u64) -> Result<(), NoMemory>
 fn put_over(pages: &mut Pages, at: u64, piece: &[u8])
     requires fits { at + length piece.now ≤ 2 ^ 26 }
     requires there { HasPages pages.old at (at + length piece.now) }
-    ensures bytes { (place : ℕ) → byte_at pages.new place ≡ over (byte_at pages.old) at piece.now place }
+    ensures bytes { (place : ℕ) → byte_at pages.new place ≡ overlaid (byte_at pages.old) at piece.now place }
     ensures kept { KeepsPages pages.old pages.new }
 {
     let mut done = 0;

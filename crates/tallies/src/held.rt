@@ -9,36 +9,36 @@ use std::marker::Model;
 // The opens that are held, as pairs of access and share. It has no bytes, and its functions do
 // nothing when they run.
 #[derive(Debug, Drop)]
-pub(crate) struct Held {
+pub(crate) struct HeldOpens {
     ghost pairs: { List (ℕ × ℕ) },
 }
 
-impl Model for Held {
+impl Model for HeldOpens {
     ghost also_owns = { λ _. ftrue };
 }
 
 // It owns nothing.
-unsafe impl Send for Held {}
+unsafe impl Send for HeldOpens {}
 
-impl Held {
+impl HeldOpens {
     // No open is held.
-    pub(crate) fn none() -> Held
+    pub(crate) fn none() -> HeldOpens
         ensures { result.pairs ≡ [] }
     {
-        Held {}
+        HeldOpens {}
     }
 
     // One more open is held.
-    pub(crate) fn with(_before: &Held, _open: &(u32, u32)) -> Held
+    pub(crate) fn with(_before: &HeldOpens, _open: &(u32, u32)) -> HeldOpens
         ensures { result.pairs ≡ _before.now.pairs ++ _open.now ∷ [] }
     {
-        Held {}
+        HeldOpens {}
     }
 
     // One open with these masks is held no more.
-    pub(crate) fn without(_before: &Held, _open: &(u32, u32)) -> Held
+    pub(crate) fn without(_before: &HeldOpens, _open: &(u32, u32)) -> HeldOpens
         ensures { result.pairs ≡ without_open _before.now.pairs _open.now }
     {
-        Held {}
+        HeldOpens {}
     }
 }

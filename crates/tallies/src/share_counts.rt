@@ -6,7 +6,7 @@ ghost use Rattle.fsa_types.specs.Sharing.{clash, clashes, takes_part};
 ghost use Rattle.tallies.specs.Counts.{counts_of, meets_refusers, meets_users};
 ghost use Rattle.tallies.specs.Held.{without_open};
 
-use crate::held::Held;
+use crate::held::HeldOpens;
 use crate::sharing::{
     deletes, reads, refuses_delete, refuses_read, refuses_write, shares_delete, shares_read,
     shares_write, takes_part, writes,
@@ -20,7 +20,7 @@ use std::marker::Model;
 #[derive(Debug, Drop)]
 pub struct ShareCounts {
     // The list that contracts see.
-    held: Held,
+    held: HeldOpens,
     // All of them.
     opens: u64,
     // Those with each access.
@@ -51,7 +51,7 @@ impl ShareCounts {
         ensures { result ≡ [] }
     {
         ShareCounts {
-            held: Held::none(),
+            held: HeldOpens::none(),
             opens: 0,
             readers: 0,
             writers: 0,
@@ -82,7 +82,7 @@ impl ShareCounts {
         self.read_refusers += refuses_read(access, share) as u64;
         self.write_refusers += refuses_write(access, share) as u64;
         self.delete_refusers += refuses_delete(access, share) as u64;
-        self.held = Held::with(&self.held, &(access, share));
+        self.held = HeldOpens::with(&self.held, &(access, share));
     }
 
     /// Removes an open with these two masks, which has to be held. Of several that have them the
@@ -99,7 +99,7 @@ impl ShareCounts {
         self.read_refusers -= refuses_read(access, share) as u64;
         self.write_refusers -= refuses_write(access, share) as u64;
         self.delete_refusers -= refuses_delete(access, share) as u64;
-        self.held = Held::without(&self.held, &(access, share));
+        self.held = HeldOpens::without(&self.held, &(access, share));
     }
 
     /// Whether an open with this access mask, without generic rights, and this share mask clashes

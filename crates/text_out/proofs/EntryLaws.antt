@@ -6,7 +6,7 @@ use Rattle.fsa_types.specs.declared.reply.PackKind.{PackKind}
 use Rattle.fsa_model.specs.PackedText.{packed_text, read_entry, StartsWith}
 use Rattle.fsa_model.proofs.PackedLaws.{StartsWith-longer, StartsWith-read, packed_text-none, packed_text-step, read-StartsWith}
 use Rattle.fsa_model.proofs.RowLaws.{option_cases}
-use Rattle.pack_info.specs.Entries.{BeginsWithEntry, next_of}
+use Rattle.pack_info.specs.Entries.{BeginsWithEntry, next_distance}
 use Rattle.pack_info.specs.Walks.{StepsToEntry, WalkState, left_of, seen}
 use Rattle.pack_info.specs.declared.walk.Malformed.{Malformed}
 use Rattle.pack_info.specs.declared.walk.PackedEntry.{PackedEntry}
@@ -31,12 +31,12 @@ starts kind buffer e rest b = record {
     only = b.is_entry.only;
     name = b.is_entry.name;
     len = b.is_entry.len;
-    next = λ more. subst (λ (last : Bool). next_of kind (size_of kind e) last < 2 ^ 32) more b.is_entry.next;
+    next = λ more. subst (λ (last : Bool). next_distance kind (size_of kind e) last < 2 ^ 32) more b.is_entry.next;
   };
   spelled = b.spelled;
 }
 
-next-fits : (kind : PackKind) (size : ℕ) (last : Bool) → (last ≡ false → rounded kind size < 2 ^ 32) → next_of kind size last < 2 ^ 32
+next-fits : (kind : PackKind) (size : ℕ) (last : Bool) → (last ≡ false → rounded kind size < 2 ^ 32) → next_distance kind size last < 2 ^ 32
 next-fits kind size true fits = omega arith
 next-fits kind size false fits = fits refl
 

@@ -15,7 +15,7 @@ use Rattle.fsa_model.specs.Edits.{is_call}
 use Rattle.fsa_model.specs.Lookups.{number_of}
 use Rattle.fsa_model.specs.Volume.{Pending}
 use Rattle.fsa_model.proofs.RowLaws.{AllPairs-map, any-weaker, change_at, change_at-same, change_at-number, eqb-swap, none-all, number_of-none, option_cases}
-use Rattle.pending_queue.specs.PendingQueue.{held_among, with_held}
+use Rattle.pending_queue.specs.PendingQueue.{held_among, with_call_held}
 use Rattle.pending_queue.proofs.HeldLaws.{IsHeldUnder, among-held, among-waits, among-held_anew, among-removed}
 use Rattle.volume_breaks.specs.Calls.{AreCalls, is_held_under}
 
@@ -143,7 +143,7 @@ AreCalls-push pending turn row are new_turn new_call = record {
 }
 
 pub held-push : (alive : Blocker → Bool) (pending : List (ℕ × Pending)) (turn : ℕ) (call : Call) (blockers : List Blocker) → lives pending turn ≡ false → All (λ b. alive b ≡ true) blockers
-    → (if length blockers == 0 then held_among alive pending else with_held (held_among alive pending) turn blockers)
+    → (if length blockers == 0 then held_among alive pending else with_call_held (held_among alive pending) turn blockers)
     ≡ held_among alive (pending ++ (turn, record { call = call; blockers = blockers }) ∷ [])
 held-push alive pending turn call blockers new living =
     elim (cases_Bool (length blockers == 0)) [
@@ -188,7 +188,7 @@ held-lives pending turn held = any-weaker (λ (e : ℕ × Pending). e.0 == turn 
 
 pub held-changed : (alive : Blocker → Bool) (pending : List (ℕ × Pending)) (turn : ℕ) (blockers : List Blocker) → AreCalls pending → is_held_under pending turn ≡ true
     → (length blockers == 0) ≡ false → All (λ b. alive b ≡ true) blockers
-    → with_held (held_among alive pending) turn blockers ≡ held_among alive (with_row_changed (λ row. record row { blockers = blockers }) pending turn)
+    → with_call_held (held_among alive pending) turn blockers ≡ held_among alive (with_row_changed (λ row. record row { blockers = blockers }) pending turn)
 held-changed alive pending turn blockers are held some living =
     sym (among-held_anew alive pending turn blockers (held-lives pending turn held) (held-under pending turn are.turns_differ held) some living)
 

@@ -14,7 +14,8 @@ use Rattle.fsa_types.specs.Rows.{with_row_changed}
 use Rattle.fsa_types.specs.declared.reply.Blocker.{Blocker}
 use Rattle.fsa_model.specs.Volume.{Pending}
 use Rattle.fsa_model.proofs.RowLaws.{AllPairs-map, change_at, change_at-number}
-use Rattle.volume_breaks.specs.Calls.{AreInOrder, IsBehind, is_next_turn}
+use Rattle.pending_queue.specs.Lists.{AreInOrder, IsBehind}
+use Rattle.volume_breaks.specs.Calls.{is_next_turn}
 use denote.Param.Members.{Mut}
 
 -- a fact of the closure that each call keeps tells what each call answers

@@ -9,7 +9,7 @@ use Rattle.std.proofs.lemmas.Bool.{cases_lt, eqb-false, eqb-true, false≢true, 
 use Rattle.std.proofs.lemmas.List.Quantifiers.{position-Some}
 use Rattle.std.proofs.lemmas.List.Sums.{fails_before_first, position_or_len_is, prefix_len-le-length}
 use Rattle.fsa_model.proofs.RowLaws.{eqb-swap}
-use Rattle.fsa_types.specs.OplockLists.{begun, lowered, number_of_break}
+use Rattle.fsa_types.specs.OplockLists.{break_begun, lowered, number_of_break}
 use Rattle.fsa_types.specs.Oplocks.{Oplock}
 use Rattle.fsa_types.specs.declared.request.Level.{Level}
 use Rattle.volume_breaks.specs.Oplocks.{is_handle_at}
@@ -110,20 +110,20 @@ changed-at change (o ∷ rows) handle (suc place) d own differ within here =
     ap (λ (first : Oplock). first ∷ set rows place (change (get_or rows place d))) same
     ∙ ap (λ rest. change o ∷ rest) (changed-at change rows handle place d own (differ-rest o rows differ) (omega arith) here)
 
-begun-own : (handle : ℕ) (level : Level) (number : ℕ) → IsOfHandle handle (begun handle level number)
+begun-own : (handle : ℕ) (level : Level) (number : ℕ) → IsOfHandle handle (break_begun handle level number)
 begun-own handle level number o other = rw other refl
 
 lowered-own : (handle : ℕ) (level : Level) → IsOfHandle handle (lowered handle level)
 lowered-own handle level o other = rw other refl
 
 pub begun-there : (rows : List Oplock) (handle place : ℕ) (level : Level) (number : ℕ) (d : Oplock) → HandlesDiffer rows → position (λ (o : Oplock). o.handle == handle) rows ≡ Some place
-    → set rows place (begun handle level number (get_or rows place d)) ≡ map (begun handle level number) rows
+    → set rows place (break_begun handle level number (get_or rows place d)) ≡ map (break_begun handle level number) rows
 begun-there rows handle place level number d differ found =
     let at = position-Some (λ (o : Oplock). o.handle == handle) rows place d found in
-    changed-at (begun handle level number) rows handle place d (begun-own handle level number) differ at.0 (eqb-true _ _ at.1)
+    changed-at (break_begun handle level number) rows handle place d (begun-own handle level number) differ at.0 (eqb-true _ _ at.1)
 
-pub begun-none : (rows : List Oplock) (handle : ℕ) (level : Level) (number : ℕ) → position (λ (o : Oplock). o.handle == handle) rows ≡ None → rows ≡ map (begun handle level number) rows
-begun-none rows handle level number none = changed-none (begun handle level number) rows handle (begun-own handle level number) (none-there rows handle none)
+pub begun-none : (rows : List Oplock) (handle : ℕ) (level : Level) (number : ℕ) → position (λ (o : Oplock). o.handle == handle) rows ≡ None → rows ≡ map (break_begun handle level number) rows
+begun-none rows handle level number none = changed-none (break_begun handle level number) rows handle (begun-own handle level number) (none-there rows handle none)
 
 pub lowered-there : (rows : List Oplock) (handle place : ℕ) (level : Level) (d : Oplock) → HandlesDiffer rows → position (λ (o : Oplock). o.handle == handle) rows ≡ Some place
     → set rows place (lowered handle level (get_or rows place d)) ≡ map (lowered handle level) rows

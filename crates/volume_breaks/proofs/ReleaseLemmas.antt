@@ -10,7 +10,7 @@ use Rattle.fsa_model.specs.Volume.{Lock, Oplock}
 use Rattle.fsa_model.specs.Waiting.{is_breaking}
 use Rattle.fsa_model.proofs.RowLaws.{or-false}
 use Rattle.key_index.proofs.RowLaws.{any-both}
-use Rattle.pending_queue.specs.PendingQueue.{is_same, with_ended}
+use Rattle.pending_queue.specs.PendingQueue.{is_same, with_blocker_ended}
 use Rattle.pending_queue.proofs.HeldLaws.{among-ended, among-same}
 use Rattle.volume_breaks.specs.Calls.{AreHeld, Calls, LoseBlockers, is_lock_of, is_break_of}
 
@@ -19,10 +19,10 @@ pub held-equal : (alive other : Blocker → Bool) (calls : Calls) → ((b : Bloc
 held-equal alive other calls same held = held ∙ among-same alive other calls.items (λ k d within i e inside. same _)
 
 -- one thing ends
-pub lose-one : (old : Calls) (blocker : Blocker) (gone : Blocker → Bool) → ((b : Blocker) → is_same blocker b ≡ gone b) → LoseBlockers gone old (record old { held = with_ended old.held blocker })
+pub lose-one : (old : Calls) (blocker : Blocker) (gone : Blocker → Bool) → ((b : Blocker) → is_same blocker b ≡ gone b) → LoseBlockers gone old (record old { held = with_blocker_ended old.held blocker })
 lose-one old blocker gone same = λ alive held.
     let step : (b : Blocker) → (alive b && not (is_same blocker b)) ≡ (alive b && not (gone b)) = λ b. ap (λ ends. alive b && not ends) (same b) in
-    ap (λ its. with_ended its blocker) held ∙ sym (among-ended alive old.items blocker)
+    ap (λ its. with_blocker_ended its blocker) held ∙ sym (among-ended alive old.items blocker)
     ∙ among-same (λ b. alive b && not (is_same blocker b)) (λ b. alive b && not (gone b)) old.items (λ k d within i e inside. step (get_or (get_or old.items k d).1.blockers i e))
 
 -- nothing ends
@@ -101,9 +101,9 @@ breaks-more old mid new oplocks place handle oplock within read before one =
     (λ b. ap (λ those. is_break_of those handle b) more ∙ breaks-append (take place oplocks) (oplock ∷ []) handle b)
 
 pub lose-lock : (old : Calls) (lock : ℕ × Lock) (handle : ℕ) → (lock.1.handle == handle) ≡ true
-    → LoseBlockers (is_lock_of (lock ∷ []) handle) old (record old { held = with_ended old.held (LockOf lock.0) })
+    → LoseBlockers (is_lock_of (lock ∷ []) handle) old (record old { held = with_blocker_ended old.held (LockOf lock.0) })
 lose-lock old lock handle its = lose-one old (LockOf lock.0) (is_lock_of (lock ∷ []) handle) (lock-same lock handle its)
 
 pub lose-break : (old : Calls) (oplock : Oplock) (handle : ℕ) → (oplock.handle == handle) ≡ true → is_some oplock.target ≡ true
-    → LoseBlockers (is_break_of (oplock ∷ []) handle) old (record old { held = with_ended old.held (Break oplock.number) })
+    → LoseBlockers (is_break_of (oplock ∷ []) handle) old (record old { held = with_blocker_ended old.held (Break oplock.number) })
 lose-break old oplock handle its breaks = lose-one old (Break oplock.number) (is_break_of (oplock ∷ []) handle) (break-same oplock handle its breaks)

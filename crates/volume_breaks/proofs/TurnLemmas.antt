@@ -12,17 +12,17 @@ use Rattle.fsa_model.specs.Close.{handle_named, names}
 use Rattle.fsa_model.specs.Edits.{is_call}
 use Rattle.fsa_model.specs.Volume.{Pending}
 use Rattle.fsa_model.proofs.RowLaws.{find-none, none-all, option_cases}
-use Rattle.volume_tables.specs.CallKey.{key_of}
+use Rattle.volume_tables.specs.CallKey.{call_key_of}
 use Rattle.volume_breaks.specs.CallIndex.{handle_in, is_naming, row_call_key, row_handle_key}
 use Rattle.volume_breaks.proofs.OrderLemmas.{AllRise}
 
 -- ---- keys
 
-pub call-only : (client number : ℕ) (row : Pending) → is_call client number row ≡ true → (row_call_key row == key_of client number) ≡ true
+pub call-only : (client number : ℕ) (row : Pending) → is_call client number row ≡ true → (row_call_key row == call_key_of client number) ≡ true
 call-only client number row is =
     let parts = and_parts (row.call.client == client) (row.call.number == number) is in
-    eq-eqb (row_call_key row) (key_of client number)
-    (ap (λ c. key_of c row.call.number) (eqb-true row.call.client client parts.0) ∙ ap (λ n. key_of client n) (eqb-true row.call.number number parts.1))
+    eq-eqb (row_call_key row) (call_key_of client number)
+    (ap (λ c. call_key_of c row.call.number) (eqb-true row.call.client client parts.0) ∙ ap (λ n. call_key_of client n) (eqb-true row.call.number number parts.1))
 
 named-is : (named : Option ℕ) (handle : ℕ) → option_map_or (λ h. h == handle) named false ≡ true → named ≡ Some handle
 named-is None handle is = absurd (false≢true is)
@@ -34,11 +34,11 @@ names-is (Tick ticks) handle is = absurd (false≢true is)
 names-is (WaitFor number) handle is = absurd (false≢true is)
 names-is Leave handle is = absurd (false≢true is)
 
-pub naming-only : (client handle : ℕ) (row : Pending) → is_naming client handle row ≡ true → (row_handle_key row == key_of client handle) ≡ true
+pub naming-only : (client handle : ℕ) (row : Pending) → is_naming client handle row ≡ true → (row_handle_key row == call_key_of client handle) ≡ true
 naming-only client handle row is =
     let parts = and_parts (row.call.client == client) (names row.call.what handle) is in
     let named : handle_in row.call.what ≡ Some handle = names-is row.call.what handle parts.1 in
-    rw named (eq-eqb (key_of row.call.client handle) (key_of client handle) (ap (λ c. key_of c handle) (eqb-true row.call.client client parts.0)))
+    rw named (eq-eqb (call_key_of row.call.client handle) (call_key_of client handle) (ap (λ c. call_key_of c handle) (eqb-true row.call.client client parts.0)))
 
 -- ---- rows whose turns rise are numbered
 

@@ -10,7 +10,8 @@ use Rattle.fsa_types.specs.declared.reply.Blocker.{Blocker}
 use Rattle.fsa_model.specs.Volume.{Pending}
 use Rattle.fsa_model.specs.Waiting.{is_wait}
 use Rattle.pending_queue.proofs.CountLemmas.{place-is, removed-at, row-at}
-use Rattle.volume_breaks.specs.Calls.{has_wait, is_at}
+use Rattle.pending_queue.specs.Lists.{is_at}
+use Rattle.volume_breaks.specs.Calls.{has_wait}
 use Rattle.volume_breaks.proofs.CallLemmas.{AllDiffer}
 
 -- ---- as a call comes, changes or goes

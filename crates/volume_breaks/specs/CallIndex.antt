@@ -7,7 +7,7 @@ use Rattle.fsa_types.specs.declared.request.What.{What}
 use Rattle.fsa_types.specs.declared.request.What.TheVariants.{Ask}
 use Rattle.fsa_model.specs.Close.{handle_named, names}
 use Rattle.fsa_model.specs.Volume.{Pending}
-use Rattle.volume_tables.specs.CallKey.{key_of}
+use Rattle.volume_tables.specs.CallKey.{call_key_of}
 
 -- the entries by calls and by handles; and how many more calls can be added without taking memory
 pub record IndexedCalls : Type 0 where
@@ -22,10 +22,10 @@ handle_in _ = None
 
 -- the key of a call by its client and number, and by its client and the handle that it names, 0 where it names none
 abbrev pub call_key : Call → ℕ
-call_key call = key_of call.client call.number
+call_key call = call_key_of call.client call.number
 
 abbrev pub handle_key : Call → ℕ
-handle_key call = option_map_or (λ handle. key_of call.client handle) (handle_in call.what) 0
+handle_key call = option_map_or (λ handle. call_key_of call.client handle) (handle_in call.what) 0
 
 abbrev pub row_call_key : Pending → ℕ
 row_call_key pending = call_key pending.call

@@ -1,7 +1,6 @@
 -- The pending calls as they are kept, with the queue of those that are held.
-use Rattle.std.specs.Prelude.{◌≡◌, ℕ, suc, Bool, true, false, List, ◌==◌, ◌&&◌, ◌≤◌, ◌<◌, length, nat_lt, not, AllPairs, get_or, slice_get}
+use Rattle.std.specs.Prelude.{◌≡◌, ℕ, Bool, false, List, ◌==◌, ◌&&◌, ◌≤◌, nat_lt, not, AllPairs}
 use Rattle.std.specs.List.{list_any}
-use Rattle.std.specs.Option.{option_map_or}
 use Rattle.fsa_types.specs.Pending.{is_held}
 use Rattle.fsa_types.specs.declared.reply.Blocker.{Blocker}
 use Rattle.fsa_types.specs.declared.reply.Blocker.TheVariants as blocker
@@ -27,21 +26,9 @@ pub record AreCalls (pending : List (ℕ × Pending)) : Type 0 where
 abbrev pub is_next_turn : List (ℕ × Pending) → ℕ → ℕ × Pending → Bool
 is_next_turn pending after entry = nat_lt after entry.0 && not (list_any (λ other. nat_lt after other.0 && nat_lt other.0 entry.0) pending)
 
--- where it is said so, the turns rise
-abbrev pub AreInOrder : Bool → List (ℕ × Pending) → Type 0
-AreInOrder rising pending = rising ≡ true → AllPairs (λ a b. a.0 < b.0) pending
-
 -- some call waits for another
 abbrev pub has_wait : List (ℕ × Pending) → Bool
 has_wait pending = list_any (λ entry. is_wait entry.1.call.what) pending
-
--- the row at this place is the one of this turn
-abbrev pub is_at : List (ℕ × Pending) → ℕ → ℕ → Bool
-is_at pending place turn = option_map_or (λ entry. entry.0 == turn) (slice_get pending place) false
-
--- the last of these has a lower turn
-abbrev pub IsBehind : List (ℕ × Pending) → ℕ → Type 0
-IsBehind pending turn = (k : ℕ) (d : ℕ × Pending) → suc k ≡ length pending → (get_or pending k d).0 < turn
 
 -- the list has places for the calls to come, and the queue for as many, and for their blockers
 pub record HasPlaces (room places calls blockers waited : ℕ) : Type 0 where

@@ -8,7 +8,7 @@ use Rattle.volume_breaks.specs.declared.telling.Told.{Told}
 -- the oplocks; copies of those that the last break chose, in order; whom it told, and the breaks that it
 -- waits for; the number of the last break that began; and how many more oplocks of each home can be put in
 -- without taking memory, none where it isn't told
-pub record Held : Type 0 where
+pub record OplocksView : Type 0 where
   pub rows : List Oplock
   pub chosen : List Oplock
   pub told : List Told
@@ -17,7 +17,7 @@ pub record Held : Type 0 where
   pub rooms : List (ℕ × ℕ)
 
 -- the oplocks, with the number of the last break that began
-abbrev pub state_of : Held → OplockState
+abbrev pub state_of : OplocksView → OplockState
 state_of held = record { oplocks = held.rows; last_break = held.last }
 
 -- the oplock at this place is of this handle

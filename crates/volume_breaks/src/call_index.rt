@@ -5,16 +5,16 @@ ghost use Rattle.fsa_types.specs.Rows.{row_of, without_row, IsNumbered};
 ghost use Rattle.fsa_types.specs.declared.reply.Blocker.{Blocker};
 ghost use Rattle.fsa_model.specs.Close.{handle_named, names};
 ghost use Rattle.fsa_model.specs.Volume.{Pending};
-ghost use Rattle.key_index.specs.Index.{entries_of};
+ghost use Rattle.key_index.specs.Index.{entries_under};
 ghost use Rattle.key_index.specs.RowsByKey.{IsIndexOf};
 ghost use Rattle.volume_breaks.specs.CallIndex.{call_key, handle_in, handle_key, row_call_key, row_handle_key};
-ghost use Rattle.volume_tables.specs.CallKey.{key_of};
+ghost use Rattle.volume_tables.specs.CallKey.{call_key_of};
 
 use fsa_types::{Call, NoMemory, Request, What};
 use key_index::KeyIndex;
 use std::alloc::Global;
 use std::marker::Model;
-use volume_tables::key_of;
+use volume_tables::call_key_of;
 
 /// The turns of pending calls, each under the client and number of its call, and under the client and the handle
 /// that the call names, with room for more of them.
@@ -88,16 +88,16 @@ impl CallIndex {
 
     /// The turn of this call of this client, as the second of an entry.
     pub fn of_call(&self, client: u32, number: u32) -> &[(u64, u64)]
-        ensures { result.now ≡ entries_of self.now.calls (key_of client number) }
+        ensures { result.now ≡ entries_under self.now.calls (call_key_of client number) }
     {
-        self.calls.of(key_of(client, number))
+        self.calls.of(call_key_of(client, number))
     }
 
     /// The calls of this client that name this handle, each with its turn as the second.
     pub fn of_handle(&self, client: u32, handle: u32) -> &[(u64, u64)]
-        ensures { result.now ≡ entries_of self.now.handles (key_of client handle) }
+        ensures { result.now ≡ entries_under self.now.handles (call_key_of client handle) }
     {
-        self.handles.of(key_of(client, handle))
+        self.handles.of(call_key_of(client, handle))
     }
 }
 
@@ -105,7 +105,7 @@ impl CallIndex {
 fn call_key(call: &Call) -> u64
     ensures { result ≡ call_key call.now }
 {
-    key_of(call.client, call.number)
+    call_key_of(call.client, call.number)
 }
 
 // The key of a call by its client and the handle that it names; 0 where it names none.
@@ -114,7 +114,7 @@ fn handle_key(call: &Call) -> u64
 {
     match handle_in(&call.what) {
         None => 0,
-        Some(handle) => key_of(call.client, handle),
+        Some(handle) => call_key_of(call.client, handle),
     }
 }
 

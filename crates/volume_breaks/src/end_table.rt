@@ -4,7 +4,7 @@ ghost use Rattle.std.specs.Prelude.{List, ℕ, ◌≡◌, ◌≤◌, ◌+◌, �
 ghost use Rattle.std.specs.Option.{option_copied};
 ghost use Rattle.fsa_types.specs.declared.reply.EndOf.{EndOf};
 ghost use Rattle.fsa_model.specs.Once.{is_end};
-ghost use Rattle.volume_breaks.specs.Ends.{AreFound};
+ghost use Rattle.volume_breaks.specs.Ends.{AreEndsFound};
 
 use fsa_types::{EndOf, NoMemory};
 use object_tables::Series;
@@ -30,13 +30,13 @@ impl Model for EndTable {
     ghost use Rattle.std.specs.Prelude.{◌≤◌};
     ghost use Rattle.fsa_types.specs.declared.reply.EndOf.{EndOf};
     ghost use Rattle.object_tables.specs.Series.{Items};
-    ghost use Rattle.volume_breaks.specs.Ends.{AreFound};
+    ghost use Rattle.volume_breaks.specs.Ends.{AreEndsFound};
 
     ghost Value = { Items EndOf };
 
     ghost view = { λ t. record { items = t.ends.items; room = t.room } };
 
-    ghost invariant = { λ t. AreFound t.heads.items t.links.items t.ends.items × t.room ≤ t.ends.room × t.room ≤ t.links.room };
+    ghost invariant = { λ t. AreEndsFound t.heads.items t.links.items t.ends.items × t.room ≤ t.ends.room × t.room ≤ t.links.room };
 }
 
 impl EndTable {
@@ -118,7 +118,7 @@ fn linked(
     ends: &[EndOf],
     room: usize,
 ) -> Result<(Vec<usize>, Series<usize>), NoMemory>
-    ensures found { IfOk result (λ made. AreFound made.0.items made.1.items ends.now) }
+    ensures found { IfOk result (λ made. AreEndsFound made.0.items made.1.items ends.now) }
     ensures room { IfOk result (λ made. room ≤ made.1.room) }
 {
     let Some(all) = room.checked_add(ends.len()) else {
@@ -133,9 +133,9 @@ fn linked(
 
 // Links all of these ends, where none was linked.
 fn link_all(heads: &mut Vec<usize>, links: &mut Series<usize>, ends: &[EndOf])
-    requires none { AreFound heads.old.items links.old.items [] }
+    requires none { AreEndsFound heads.old.items links.old.items [] }
     requires room { length ends.now ≤ links.old.room }
-    ensures found { AreFound heads.new.items links.new.items ends.now }
+    ensures found { AreEndsFound heads.new.items links.new.items ends.now }
     ensures left { links.old.room ≤ links.new.room + length ends.now }
 {
     for end in ends {
@@ -146,7 +146,7 @@ fn link_all(heads: &mut Vec<usize>, links: &mut Series<usize>, ends: &[EndOf])
 // Links one more end, of a call of this number, to the last one that has its slot. There has to be room for it.
 fn link(heads: &mut Vec<usize>, links: &mut Series<usize>, number: u32)
     requires { 1 ≤ links.old.room }
-    ensures found { (ends : List EndOf) (end : EndOf) → end.number ≡ number → AreFound heads.old.items links.old.items ends → AreFound heads.new.items links.new.items (ends ++ end ∷ []) }
+    ensures found { (ends : List EndOf) (end : EndOf) → end.number ≡ number → AreEndsFound heads.old.items links.old.items ends → AreEndsFound heads.new.items links.new.items (ends ++ end ∷ []) }
     ensures left { links.old.room ≤ links.new.room + 1 }
 {
     let own = slot_of(heads.len(), number as u64);
@@ -188,7 +188,7 @@ fn first_place(
     client: u32,
     number: u32,
 ) -> Option<usize>
-    requires { AreFound heads.now links.now ends.now }
+    requires { AreEndsFound heads.now links.now ends.now }
     ensures { option_and_then (slice_get ends.now) result ≡ find (is_end client number) ends.now }
 {
     let mut found = None;
@@ -209,7 +209,7 @@ fn first_end<'a>(
     client: u32,
     number: u32,
 ) -> Option<&'a EndOf>
-    requires { AreFound heads.now links.now ends.now }
+    requires { AreEndsFound heads.now links.now ends.now }
     ensures { option_copied result ≡ find (is_end client number) ends.now }
 {
     match first_place(ends, heads, links, client, number) {

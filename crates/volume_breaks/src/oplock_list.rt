@@ -3,12 +3,12 @@
 ghost use Rattle.std.specs.Prelude.{ℕ, ◌≡◌, ◌≤◌, ◌<◌, ◌+◌, ◌++◌, ◌∷◌, ◌^◌, ◌==◌, ◌-◌, not, true, false, All, AllPairs, [], length, map, filter, OnOk, max, slice_index_or};
 ghost use Rattle.fsa_types.specs.Sorting.{in_order};
 ghost use Rattle.fsa_types.specs.OplockGrants.{after_answer, as_answered, as_granted, is_of_key, switched_among};
-ghost use Rattle.fsa_types.specs.OplockLists.{awaited_among, begun, lowered, without_oplock_of, CanBegin, CanGoOn, IsCopy, IsSoundOplock};
+ghost use Rattle.fsa_types.specs.OplockLists.{awaited_among, break_begun, lowered, without_oplock_of, CanBegin, CanGoOn, IsCopy, IsSoundOplock};
 ghost use Rattle.fsa_model.specs.Breaks.{is_broken_before, is_chosen};
 ghost use Rattle.fsa_model.specs.Grant.{is_oplock_on};
 ghost use Rattle.fsa_model.specs.Waiting.{is_granted_under};
-ghost use Rattle.volume_breaks.specs.Marks.{is_marked, is_opened_before};
-ghost use Rattle.volume_breaks.specs.Oplocks.{Held};
+ghost use Rattle.volume_breaks.specs.Marks.{is_oplock_marked, is_opened_before};
+ghost use Rattle.volume_breaks.specs.Oplocks.{OplocksView};
 ghost use Rattle.volume_tables.specs.Rooms.{room_in};
 ghost use Rattle.std.specs.Vec.{vec_capacity};
 
@@ -47,10 +47,10 @@ impl Model for Oplocks {
     ghost use Rattle.std.specs.Prelude.{◌+◌};
     ghost use Rattle.std.specs.Vec.{vec_capacity, vec_len};
     ghost use Rattle.fsa_types.specs.OplockLists.{AreOplocks};
-    ghost use Rattle.volume_breaks.specs.Oplocks.{Held, IsRoomy};
+    ghost use Rattle.volume_breaks.specs.Oplocks.{OplocksView, IsRoomy};
     ghost use Rattle.volume_tables.specs.Rooms.{all_rooms};
 
-    ghost Value = { Held };
+    ghost Value = { OplocksView };
 
     ghost view = { λ o. record { rows = o.rows.items; chosen = o.chosen.items; told = o.told.items; waited = o.waited.items; last = o.last; rooms = o.rooms } };
 
@@ -163,7 +163,7 @@ impl Oplocks {
     /// Sets aside copies of those of marked handles, and of another key than the acting handle's, in the order in
     /// which their handles were opened.
     pub fn choose_marked(&mut self, marked: &[u64], acting: Option<u64>, key: u64)
-        ensures chosen { self.new ≡ record self.old { chosen = in_order is_opened_before (filter (is_marked marked.now acting key) self.old.rows) } }
+        ensures chosen { self.new ≡ record self.old { chosen = in_order is_opened_before (filter (is_oplock_marked marked.now acting key) self.old.rows) } }
         ensures few { length self.new.chosen ≤ length self.old.rows }
         ensures sound { All IsSoundOplock self.new.chosen }
         ensures copies { All (IsCopy self.old.rows) self.new.chosen }
@@ -293,7 +293,7 @@ impl Oplocks {
     pub fn begin_break(&mut self, handle: u64, level: Level)
         requires numbers { self.old.last + 1 < 2 ^ 64 }
         requires level { CanBegin level handle self.old.rows }
-        ensures { self.new ≡ record self.old { rows = map (begun handle level (self.old.last + 1)) self.old.rows; last = self.old.last + 1 } }
+        ensures { self.new ≡ record self.old { rows = map (break_begun handle level (self.old.last + 1)) self.old.rows; last = self.old.last + 1 } }
     {
         self.last += 1;
         begin_break(&mut self.rows, handle, level, self.last);
@@ -370,7 +370,7 @@ fn drop_granted(rows: &mut Vec<OplockRow>, turn: u64)
 
 // The oplock as it is once a break of this number to this level has begun, where it is this handle's.
 fn with_break_begun(oplock: OplockRow, handle: u64, level: Level, number: u64) -> OplockRow
-    ensures { result ≡ begun handle level number oplock }
+    ensures { result ≡ break_begun handle level number oplock }
 {
     if oplock.handle == handle {
         OplockRow {
@@ -389,7 +389,7 @@ fn with_break_begun(oplock: OplockRow, handle: u64, level: Level, number: u64) -
 // A break of this number to this level begins of the oplock of this handle.
 fn begin_break(rows: &mut [OplockRow], handle: u64, level: Level, number: u64)
     requires differ { AllPairs (λ a b. (a.handle == b.handle) ≡ false) rows.old }
-    ensures { rows.new ≡ map (begun handle level number) rows.old }
+    ensures { rows.new ≡ map (break_begun handle level number) rows.old }
 {
     if let Some(place) = place_of(rows, handle) {
         rows[place] = with_break_begun(rows[place], handle, level, number);

@@ -7,12 +7,13 @@ ghost use Rattle.fsa_types.specs.declared.reply.Blocker.{Blocker};
 ghost use Rattle.fsa_model.specs.Edits.{is_call};
 ghost use Rattle.fsa_model.specs.Lookups.{has_row, number_of};
 ghost use Rattle.fsa_model.specs.Waiting.{is_wait};
-ghost use Rattle.pending_queue.specs.PendingQueue.{next_ready, with_ended, with_held};
+ghost use Rattle.pending_queue.specs.PendingQueue.{next_ready, with_blocker_ended, with_call_held};
 ghost use Rattle.std.specs.List.{list_any};
 ghost use Rattle.std.specs.List.Sorted.{IsPartitionPoint};
 ghost use Rattle.key_index.specs.RowsByKey.{IsIndexOf, row_passes};
 ghost use Rattle.volume_breaks.specs.CallIndex.{is_first_naming, is_naming, row_call_key, row_handle_key};
-ghost use Rattle.volume_breaks.specs.Calls.{AreCalls, AreHeld, IsBehind, StayHeld, has_wait, is_at, is_held_under, is_next_turn};
+ghost use Rattle.pending_queue.specs.Lists.{IsBehind, is_at};
+ghost use Rattle.volume_breaks.specs.Calls.{AreCalls, AreHeld, StayHeld, has_wait, is_held_under, is_next_turn};
 
 use crate::call_index::{CallIndex, names};
 use fsa_types::{Blocker, BlockerList, Call, NoMemory, What};
@@ -47,7 +48,8 @@ impl Model for PendingCalls {
     ghost use Rattle.key_index.specs.RowsByKey.{IsIndexOf};
     ghost use Rattle.std.specs.Prelude.{true};
     ghost use Rattle.volume_breaks.specs.CallIndex.{row_call_key, row_handle_key};
-    ghost use Rattle.volume_breaks.specs.Calls.{Calls, AreCalls, AreInOrder, HasPlaces, has_wait};
+    ghost use Rattle.pending_queue.specs.Lists.{AreInOrder};
+    ghost use Rattle.volume_breaks.specs.Calls.{Calls, AreCalls, HasPlaces, has_wait};
 
     ghost Value = { Calls };
 
@@ -243,7 +245,7 @@ impl PendingCalls {
 
     /// A break or a lock has ended: no call waits for it any more.
     pub fn ended(&mut self, blocker: Blocker)
-        ensures { self.new ≡ record self.old { held = with_ended self.old.held blocker } }
+        ensures { self.new ≡ record self.old { held = with_blocker_ended self.old.held blocker } }
     {
         self.queue.ended(blocker);
     }
@@ -302,7 +304,7 @@ fn turn_at(rows: &[(u64, PendingRow)], place: usize) -> Option<u64>
 fn hold(queue: &mut PendingQueue, turn: u64, blockers: &[Blocker])
     requires room { 1 ≤ queue.old.room_for_calls }
     requires places { length blockers.now ≤ queue.old.room_for_blockers }
-    ensures held { queue.new.held ≡ (if length blockers.now == 0 then queue.old.held else with_held queue.old.held turn blockers.now) }
+    ensures held { queue.new.held ≡ (if length blockers.now == 0 then queue.old.held else with_call_held queue.old.held turn blockers.now) }
     ensures room { queue.old.room_for_calls ≤ queue.new.room_for_calls + 1 }
     ensures places { queue.old.room_for_blockers ≤ queue.new.room_for_blockers + length blockers.now }
 {

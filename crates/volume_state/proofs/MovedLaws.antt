@@ -11,7 +11,7 @@ use Rattle.fsa_model.specs.Sound.{IsSound}
 use Rattle.fsa_model.specs.Volume.{Link, Volume}
 use Rattle.fsa_model.proofs.MoveLaws.{never_above, never-next, unmoved-step}
 use Rattle.fsa_model.proofs.RowLaws.{option_cases, change_at}
-use Rattle.volume_state.specs.Paths.{units_above, dirs_above, units_in, dirs_in}
+use Rattle.volume_state.specs.Paths.{units_above, dirs_above, units_noted_in, dirs_in}
 use Rattle.volume_state.proofs.MarkLaws.{row_of-change}
 use Rattle.volume_state.proofs.OpenLaws.{find-passes, units_noted-found, dirs_noted-found}
 
@@ -42,7 +42,7 @@ dirs_above-moved (suc most) change links last link row dir file numbered found n
 
 pub units_noted-moved : (v : Volume) (link parent : ℕ) (name : List ℕ) (stream : Option ℕ) → IsSound v → is_directory v.files parent ≡ true
     → (is_directory v.files (linked_file v link) && is_at_or_below v.links (linked_file v link) parent) ≡ false
-    → units_noted (with_link_moved v link parent name) link stream ≤ units_in v parent (length name + length (stream_suffix v.streams stream))
+    → units_noted (with_link_moved v link parent name) link stream ≤ units_noted_in v parent (length name + length (stream_suffix v.streams stream))
 units_noted-moved v link parent name stream sound directory not_below =
     let change : Link → Link = λ row. record row { parent = parent; name = name } in
     let row_is = row_of-change change v.links link link in

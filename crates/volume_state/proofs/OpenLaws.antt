@@ -18,7 +18,7 @@ use Rattle.fsa_model.specs.Volume.{File, Link, Stream, Volume}
 use Rattle.fsa_model.proofs.MoveLaws.{is_at_or_below-all}
 use Rattle.fsa_model.proofs.RowLaws.{found-all, lives-found, find-any, any-weaker, lives-given, option_cases, or_right, or-false}
 use Rattle.volume_state.specs.Living.{is_link_to}
-use Rattle.volume_state.specs.Paths.{units_above, dirs_above, units_in, dirs_in}
+use Rattle.volume_state.specs.Paths.{units_above, dirs_above, units_noted_in, dirs_in}
 use Rattle.volume_state.proofs.PathLaws.{path_units-ancestors, length-ancestors, ancestors-push}
 
 pub find-no : {X : Type 0} (p : X → Bool) (xs : List X) → list_any p xs ≡ false → find p xs ≡ None
@@ -95,7 +95,7 @@ ancestors-new v parent row name sound up not_root =
     (ancestors-push (length v.links) (suc (length v.links)) (length v.links) v.links ((v.last_link + 1, row) ∷ []) parent name old new (omega arith) (omega arith) leads)
 
 pub units_noted-new : (v : Volume) (parent : ℕ) (name : List ℕ) (file : ℕ) (stream : Option ℕ) → IsSound v → LeadsUp v.links parent → (file == 1) ≡ false
-    → units_noted (with_link v parent name file) (v.last_link + 1) stream ≡ units_in v parent (length name + length (stream_suffix v.streams stream))
+    → units_noted (with_link v parent name file) (v.last_link + 1) stream ≡ units_noted_in v parent (length name + length (stream_suffix v.streams stream))
 units_noted-new v parent name file stream sound up not_root =
     let row : Link = record { parent = parent; name = name; file = file; deleted = false } in
     rw (

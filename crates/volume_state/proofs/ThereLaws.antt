@@ -24,7 +24,7 @@ use Rattle.fsa_model.proofs.CountLaws.{only-one, how_many-none}
 use Rattle.fsa_model.proofs.RowLaws.{any-same, eqb-swap, lives-given, or-false}
 use Rattle.fsa_model.proofs.SoundWaits.{IsSound-touched}
 use Rattle.fsa_model.proofs.WaitLaws.{HasOneOplockEach, is_of, with_breaks-lives, with_breaks-new}
-use Rattle.pending_queue.specs.PendingQueue.{held_among, is_same, next_ready, with_ended}
+use Rattle.pending_queue.specs.PendingQueue.{held_among, is_same, next_ready, with_blocker_ended}
 use Rattle.pending_queue.proofs.HeldLaws.{among-same, next_ready-among}
 use Rattle.volume_breaks.specs.Calls.{AreHeld, Calls, LoseBlockers, is_break_of, is_held_under, is_lock_of}
 use Rattle.volume_breaks.proofs.ReleaseLemmas.{held-equal, lose-one}
@@ -98,9 +98,9 @@ lives-without (lock ∷ locks) gone number =
     and_none false = refl
 
 pub held-without_lock : (oplocks : List Oplock) (locks : List (ℕ × Lock)) (calls : Calls) (gone : ℕ) → AreHeld (is_there oplocks locks) calls
-    → AreHeld (is_there oplocks (without_row locks gone)) (record calls { held = with_ended calls.held (LockOf gone) })
+    → AreHeld (is_there oplocks (without_row locks gone)) (record calls { held = with_blocker_ended calls.held (LockOf gone) })
 held-without_lock oplocks locks calls gone held =
-    held-equal (λ b. is_there oplocks locks b && not (is_same (LockOf gone) b)) (is_there oplocks (without_row locks gone)) (record calls { held = with_ended calls.held (LockOf gone) }) same
+    held-equal (λ b. is_there oplocks locks b && not (is_same (LockOf gone) b)) (is_there oplocks (without_row locks gone)) (record calls { held = with_blocker_ended calls.held (LockOf gone) }) same
     (lose-one calls (LockOf gone) (is_same (LockOf gone)) (λ b. refl) (is_there oplocks locks) held)
   where
     same : (b : Blocker) → (is_there oplocks locks b && not (is_same (LockOf gone) b)) ≡ is_there oplocks (without_row locks gone) b

@@ -5,7 +5,7 @@ use Rattle.fsa_types.specs.Rows.{lives, row_of}
 use Rattle.fsa_model.specs.Lookups.{child_of, has_row, is_directory, linked_file}
 use Rattle.fsa_model.specs.Sound.{LeadsUp}
 use Rattle.fsa_model.specs.Volume.{Link, Volume}
-use Rattle.volume_state.specs.Paths.{units_in, dirs_in}
+use Rattle.volume_state.specs.Paths.{units_noted_in, dirs_in}
 
 -- there is a link of this number, and it is one of this file
 abbrev pub is_link_to : List (ℕ × Link) → ℕ → ℕ → Bool
@@ -33,5 +33,5 @@ pub record StaysWithout (old new : Volume) (link : ℕ) : Type 0 where
   pub holds : (dir : ℕ) (name : List ℕ) → child_of old dir name ≡ Some link → CanHold old dir → CanHold new dir
   pub free : (dir : ℕ) (name : List ℕ) → child_of old dir name ≡ Some link → child_of new dir name ≡ None
   -- a note of a link that is to be made in a directory takes no more than it took
-  pub units : (dir units : ℕ) → IsTrue (is_directory old.files dir) → units_in new dir units ≤ units_in old dir units
+  pub units : (dir units : ℕ) → IsTrue (is_directory old.files dir) → units_noted_in new dir units ≤ units_noted_in old dir units
   pub dirs : (dir : ℕ) → IsTrue (is_directory old.files dir) → dirs_in new dir ≤ dirs_in old dir

@@ -13,7 +13,7 @@ abbrev pub key_of_handle : Volume → ℕ → ℕ
 key_of_handle v handle = option_map_or (λ row. row.key) (row_of v.handles handle) 0
 
 -- an oplock was granted exactly where it isn't refused, and else nothing has changed
-abbrev pub Grants : Volume → ℕ → ℕ → ℕ → Level → ℕ → Volume → Grant → Type 0
-Grants v handle key stream level turn new grant.Granted =
+abbrev pub GrantsOn : Volume → ℕ → ℕ → ℕ → Level → ℕ → Volume → Grant → Type 0
+GrantsOn v handle key stream level turn new grant.Granted =
     (is_not_granted v handle key stream level ≡ false) × (new ≡ with_granted v handle key stream level turn)
-Grants v handle key stream level turn new grant.Refused = (is_not_granted v handle key stream level ≡ true) × (new ≡ v)
+GrantsOn v handle key stream level turn new grant.Refused = (is_not_granted v handle key stream level ≡ true) × (new ≡ v)

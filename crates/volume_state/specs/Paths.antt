@@ -17,8 +17,8 @@ dirs_above (suc most) links dir =
     option_map_or (λ entry. 1 + dirs_above most links entry.1.parent) (link_of_file links dir) 0
 
 -- how many units and how many ancestors a change of so many units in this directory would note
-abbrev pub units_in : Volume → ℕ → ℕ → ℕ
-units_in v parent units = units + units_above (length v.links) v.links parent
+abbrev pub units_noted_in : Volume → ℕ → ℕ → ℕ
+units_noted_in v parent units = units + units_above (length v.links) v.links parent
 
 abbrev pub dirs_in : Volume → ℕ → ℕ
 dirs_in v parent = 1 + dirs_above (length v.links) v.links parent

@@ -9,7 +9,7 @@ ghost use Rattle.fsa_model.specs.Edits.{with_link, with_link_marked, with_link_m
 ghost use Rattle.fsa_model.specs.Lookups.{child_of, dir_link, has_child, has_row, is_at_or_below, is_directory, is_named, is_open_by, link_of_file, linked_file, links_of};
 ghost use Rattle.fsa_model.specs.Sound.{LeadsUp, is_link_of_directory};
 ghost use Rattle.volume_state.specs.Living.{StaysWithout, is_link_to};
-ghost use Rattle.volume_state.specs.Paths.{units_in, dirs_in};
+ghost use Rattle.volume_state.specs.Paths.{units_noted_in, dirs_in};
 ghost use Rattle.volume_state.specs.VolumeView.{room_for};
 
 use crate::growth::{part_of_file, resize};
@@ -99,7 +99,7 @@ impl Volume {
         ensures lives { IsTrue (lives self.new.content.links result) }
         ensures linked { IsTrue (is_link_to self.new.content.links result file) }
         ensures directory { is_directory self.old.content.files file ≡ true → IsTrue (is_link_of_directory self.new.content.files self.new.content.links result) }
-        ensures units { (stream : Option ℕ) → units_noted self.new.content result stream ≡ units_in self.old.content parent (length name + length (stream_suffix self.new.content.streams stream)) }
+        ensures units { (stream : Option ℕ) → units_noted self.new.content result stream ≡ units_noted_in self.old.content parent (length name + length (stream_suffix self.new.content.streams stream)) }
         ensures dirs { (stream : Option ℕ) → dirs_noted self.new.content result stream ≡ dirs_in self.old.content parent }
     {
         let row = LinkRow {
@@ -127,7 +127,7 @@ impl Volume {
         ensures kept { (dir : ℕ) → (dir == parent) ≡ false → room_for self.old.spare.links dir ≤ room_for self.new.spare.links dir }
 
         // A note of it takes no more than the room that was told for the parent.
-        ensures units { (stream : Option ℕ) → units_noted self.new.content link stream ≤ units_in self.old.content parent (length name + length (stream_suffix self.old.content.streams stream)) }
+        ensures units { (stream : Option ℕ) → units_noted self.new.content link stream ≤ units_noted_in self.old.content parent (length name + length (stream_suffix self.old.content.streams stream)) }
         ensures dirs { (stream : Option ℕ) → dirs_noted self.new.content link stream ≤ dirs_in self.old.content parent }
     {
         self.links.move_to(link, parent, name);

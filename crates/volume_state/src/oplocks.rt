@@ -19,13 +19,13 @@ ghost use Rattle.oplock_state.specs.Homes.{HomesFit};
 ghost use Rattle.oplock_state.specs.Tables.{AreSorted, AreThere};
 ghost use Rattle.volume_breaks.specs.Breaks.{with_held};
 ghost use Rattle.volume_breaks.specs.Calls.{StayHeld};
-ghost use Rattle.volume_state.specs.Oplocks.{Grants, key_of_handle};
+ghost use Rattle.volume_state.specs.Oplocks.{GrantsOn, key_of_handle};
 ghost use Rattle.volume_state.specs.Room.{KeepsEnds, stream_of_handle};
 ghost use Rattle.volume_state.specs.VolumeView.{room_for};
 
 use crate::volume::Volume;
 use fsa_types::{BlockerList, Class, HandleSet, Level};
-use oplock_state::{Asked, Grant, OplockTable};
+use oplock_state::{AskedOplock, Grant, OplockTable};
 use volume_breaks::{
     EndTable, PendingCalls, Tree, end_switched, end_told, push_breaks, release_breaks,
 };
@@ -95,7 +95,7 @@ impl Volume {
         requires stream { IsSome (stream_of_handle self.old.content handle) }
         requires room { ForSome (stream_of_handle self.old.content handle) (λ stream. 1 ≤ room_for self.old.spare.oplocks stream) }
         requires ends { ForSome (stream_of_handle self.old.content handle) (λ stream. length (switched self.old.content handle (key_of_handle self.old.content handle) stream) ≤ self.old.spare.ends) }
-        ensures grants { ForSome (stream_of_handle self.old.content handle) (λ stream. Grants self.old.content handle (key_of_handle self.old.content handle) stream level turn self.new.content result) }
+        ensures grants { ForSome (stream_of_handle self.old.content handle) (λ stream. GrantsOn self.old.content handle (key_of_handle self.old.content handle) stream level turn self.new.content result) }
         ensures numbers { self.new.content.last_break ≡ self.old.content.last_break }
         ensures beside { self.new.beside ≡ self.old.beside }
         ensures others { self.new.spare ≡ record self.old.spare { oplocks = self.new.spare.oplocks; ends = self.new.spare.ends } }
@@ -124,7 +124,7 @@ impl Volume {
     }
 
     // What is asked for, with what else there is on the stream.
-    fn asked(&self, opened: Opened, level: Level, turn: u64) -> Asked
+    fn asked(&self, opened: Opened, level: Level, turn: u64) -> AskedOplock
         ensures { result ≡ record { handle = opened.handle; key = opened.key; level = level; turn = turn; others = is_open_by_others self.now.content opened.handle opened.key opened.stream; locked = is_locked self.now.content opened.stream } }
     {
         let Opened {
@@ -134,7 +134,7 @@ impl Volume {
         } = opened;
         let others = self.handles.is_open_by_others(handle, key, stream);
         let locked = self.handles.locks_of(stream).len() != 0;
-        Asked {
+        AskedOplock {
             handle,
             key,
             level,
@@ -150,7 +150,7 @@ impl Volume {
         requires key { opened.key ≡ key_of_handle self.old.content opened.handle }
         requires room { 1 ≤ room_for self.old.spare.oplocks opened.stream }
         requires ends { length (switched self.old.content opened.handle opened.key opened.stream) ≤ self.old.spare.ends }
-        ensures grants { Grants self.old.content opened.handle opened.key opened.stream level turn self.new.content result }
+        ensures grants { GrantsOn self.old.content opened.handle opened.key opened.stream level turn self.new.content result }
         ensures numbers { self.new.content.last_break ≡ self.old.content.last_break }
         ensures beside { self.new.beside ≡ self.old.beside }
         ensures others { self.new.spare ≡ record self.old.spare { oplocks = self.new.spare.oplocks; ends = self.new.spare.ends } }

@@ -3,7 +3,7 @@
 ghost use Rattle.std.specs.Prelude.{ℕ, ◌≡◌, ◌≤◌, ◌<◌, ◌+◌, ◌-◌, ◌^◌, length, IfSome, IfNone};
 ghost use Rattle.fsa_model.specs.Changes.{units_noted, dirs_noted};
 ghost use Rattle.volume_rows.specs.Noting.{suffix_of};
-ghost use Rattle.volume_state.specs.Paths.{units_above, dirs_above, units_in, dirs_in};
+ghost use Rattle.volume_state.specs.Paths.{units_above, dirs_above, units_noted_in, dirs_in};
 
 use crate::notes::name_of_stream;
 use crate::volume::Volume;
@@ -39,10 +39,10 @@ impl Volume {
     /// many units being those of its name with its stream part. `None` exactly where all units are
     /// 2^64 or more.
     pub fn note_room_in(&self, parent: u64, units: u64) -> Option<NoteRoom>
-        ensures units { IfSome result (λ room. room.units ≡ units_in self.now.content parent units) }
+        ensures units { IfSome result (λ room. room.units ≡ units_noted_in self.now.content parent units) }
         ensures dirs { IfSome result (λ room. room.dirs ≡ dirs_in self.now.content parent) }
         ensures few { IfSome result (λ room. room.dirs ≤ 2 ^ 32) }
-        ensures none { IfNone result (2 ^ 64 ≤ units_in self.now.content parent units) }
+        ensures none { IfNone result (2 ^ 64 ≤ units_noted_in self.now.content parent units) }
     {
         room_above(self.links.by_file(), parent, units)
     }

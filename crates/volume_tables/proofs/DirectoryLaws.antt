@@ -23,7 +23,7 @@ use Rattle.link_index.specs.Beginnings.{name_key}
 use Rattle.volume_tables.specs.Directories.{AreByDirectory, HasLinksOf, index_at, index_of, links_by_name}
 use Rattle.link_index.specs.Heads.{link_head}
 use Rattle.volume_tables.specs.Rooms.{IsOneTaken, room_in}
-use Rattle.link_index.specs.Directory.{AreInNameOrder, IsNamePut, IsNameTaken, Listing, links_at}
+use Rattle.link_index.specs.Directory.{AreInNameOrder, IsNamePut, IsNameTaken, DirectoryView, links_at}
 use Rattle.volume_tables.proofs.DirectoryLemmas.{added-beside, added-here, child-listed, children-listed, differ-marked, differ-moved, differ-without, gone-beside, gone-here, index-ordered, kept-listed, links-listed, links-marked, listed-new, listed-ordered, listed-without, moved-beside, moved-here, other-named, without-named}
 use Rattle.link_index.proofs.NameLemmas.{Links}
 use Rattle.volume_tables.proofs.PlaceLemmas.{row_of-without}
@@ -31,32 +31,32 @@ use Rattle.volume_tables.proofs.ShareLemmas.{placed-inserted, placed-put, row-be
 
 -- ---- one index
 
-abbrev pub no_names : Listing
+abbrev pub no_names : DirectoryView
 no_names = record { numbers = []; heads = []; room = 0 }
 
 -- the index that a row tells
-abbrev pub index_in : Option Listing → Listing
-index_in row = option_map_or (λ (index : Listing). index) row no_names
+abbrev pub index_in : Option DirectoryView → DirectoryView
+index_in row = option_map_or (λ (index : DirectoryView). index) row no_names
 
-pub index_of-none : (dirs : List (ℕ × Listing)) (dir : ℕ) → row_of dirs dir ≡ None → index_of dirs dir ≡ no_names
+pub index_of-none : (dirs : List (ℕ × DirectoryView)) (dir : ℕ) → row_of dirs dir ≡ None → index_of dirs dir ≡ no_names
 index_of-none dirs dir none = ap index_in none
 
-pub index_of-some : (dirs : List (ℕ × Listing)) (dir : ℕ) (index : Listing) → row_of dirs dir ≡ Some index → index_of dirs dir ≡ index
+pub index_of-some : (dirs : List (ℕ × DirectoryView)) (dir : ℕ) (index : DirectoryView) → row_of dirs dir ≡ Some index → index_of dirs dir ≡ index
 index_of-some dirs dir index some = ap index_in some
 
 -- a directory that has none
-pub index-missing : (slab : Slab Listing) (places : List (ℕ × ℕ)) (dir i : ℕ) → ArePlaced (get slab) places (2 ^ 64) → StandsAt places dir i → index_of (rows_in slab places) dir ≡ no_names
+pub index-missing : (slab : Slab DirectoryView) (places : List (ℕ × ℕ)) (dir i : ℕ) → ArePlaced (get slab) places (2 ^ 64) → StandsAt places dir i → index_of (rows_in slab places) dir ≡ no_names
 index-missing slab places dir i placed at = index_of-none (rows_in slab places) dir (row-none (get slab) places (2 ^ 64) dir i placed at)
 
 -- one that has one
-pub index-there : (slab : Slab Listing) (places : List (ℕ × ℕ)) (dir slot i : ℕ) (e : ℕ × ℕ) → ArePlaced (get slab) places (2 ^ 64) → IsAt places dir i → (get_or places i e).1 ≡ slot → index_of (rows_in slab places) dir ≡ index_at slab slot
+pub index-there : (slab : Slab DirectoryView) (places : List (ℕ × ℕ)) (dir slot i : ℕ) (e : ℕ × ℕ) → ArePlaced (get slab) places (2 ^ 64) → IsAt places dir i → (get_or places i e).1 ≡ slot → index_of (rows_in slab places) dir ≡ index_at slab slot
 index-there slab places dir slot i e placed at under = ap index_in (row-in (get slab) places (2 ^ 64) dir slot i e placed at under)
 
-pub slot-there : (slab : Slab Listing) (places : List (ℕ × ℕ)) (dir slot i : ℕ) (e : ℕ × ℕ) → ArePlaced (get slab) places (2 ^ 64) → IsAt places dir i → (get_or places i e).1 ≡ slot → ContainsKey slab slot
+pub slot-there : (slab : Slab DirectoryView) (places : List (ℕ × ℕ)) (dir slot i : ℕ) (e : ℕ × ℕ) → ArePlaced (get slab) places (2 ^ 64) → IsAt places dir i → (get_or places i e).1 ≡ slot → ContainsKey slab slot
 slot-there slab places dir slot i e placed at under = ap (λ (s : ℕ). is_some (get slab s)) (sym under) ∙ placed.there i e at.within
 
 -- it changes in its slot
-module _ (old new : Slab Listing) (places : List (ℕ × ℕ)) (dir slot i : ℕ) (e : ℕ × ℕ) (index : Listing) (placed : ArePlaced (get old) places (2 ^ 64)) (at : IsAt places dir i) (under : (get_or places i e).1 ≡ slot)
+module _ (old new : Slab DirectoryView) (places : List (ℕ × ℕ)) (dir slot i : ℕ) (e : ℕ × ℕ) (index : DirectoryView) (placed : ArePlaced (get old) places (2 ^ 64)) (at : IsAt places dir i) (under : (get_or places i e).1 ≡ slot)
     (updates : Updates old new slot (Some index)) where
   pub placed-changed : ArePlaced (get new) places (2 ^ 64)
   placed-changed = placed-put (get old) (get new) places (2 ^ 64) dir slot i e index placed at under updates.changed updates.others
@@ -68,7 +68,7 @@ module _ (old new : Slab Listing) (places : List (ℕ × ℕ)) (dir slot i : ℕ
   index-beside other differ = ap index_in (row-kept (get old) (get new) places (2 ^ 64) dir slot i e index placed at under updates.changed updates.others other differ)
 
 -- it comes
-module _ (old new : Slab Listing) (places : List (ℕ × ℕ)) (dir slot i : ℕ) (index : Listing) (placed : ArePlaced (get old) places (2 ^ 64)) (low : dir ≤ 2 ^ 64) (at : StandsAt places dir i) (vacant : get old slot ≡ None)
+module _ (old new : Slab DirectoryView) (places : List (ℕ × ℕ)) (dir slot i : ℕ) (index : DirectoryView) (placed : ArePlaced (get old) places (2 ^ 64)) (low : dir ≤ 2 ^ 64) (at : StandsAt places dir i) (vacant : get old slot ≡ None)
     (updates : Updates old new slot (Some index)) where
   pub placed-come : ArePlaced (get new) (insert places i (dir, slot)) (2 ^ 64)
   placed-come = placed-inserted (get old) (get new) places (2 ^ 64) dir slot i index placed low at vacant updates.changed updates.others
@@ -80,7 +80,7 @@ module _ (old new : Slab Listing) (places : List (ℕ × ℕ)) (dir slot i : ℕ
   others-come other differ = ap index_in (row-beside (get old) (get new) places (2 ^ 64) dir slot i index placed low at vacant updates.changed updates.others other differ)
 
 -- it goes
-module _ (old new : ℕ → Option Listing) (places : List (ℕ × ℕ)) (dir i : ℕ) (e : ℕ × ℕ) (placed : ArePlaced old places (2 ^ 64)) (at : IsAt places dir i) (others : (other : ℕ) → other ≢ (get_or places i e).1 → new other ≡ old other) where
+module _ (old new : ℕ → Option DirectoryView) (places : List (ℕ × ℕ)) (dir i : ℕ) (e : ℕ × ℕ) (placed : ArePlaced old places (2 ^ 64)) (at : IsAt places dir i) (others : (other : ℕ) → other ≢ (get_or places i e).1 → new other ≡ old other) where
   rows-gone : rows_by new (remove places i) ≡ without_row (rows_by old places) dir
   rows-gone = rows-removed old new places (2 ^ 64) dir i e placed (position-here places i e dir placed.numbered.rising at.within (at.here e)) others
 
@@ -88,30 +88,30 @@ module _ (old new : ℕ → Option Listing) (places : List (ℕ × ℕ)) (dir i 
   placed-gone = placed-removed old new places (2 ^ 64) dir i e placed (position-here places i e dir placed.numbered.rising at.within (at.here e)) others
 
   pub index-gone : index_of (rows_by new (remove places i)) dir ≡ no_names
-  index-gone = ap (λ (rows : List (ℕ × Listing)). index_of rows dir) rows-gone ∙ ap index_in (row_of-out (rows_by old places) dir)
+  index-gone = ap (λ (rows : List (ℕ × DirectoryView)). index_of rows dir) rows-gone ∙ ap index_in (row_of-out (rows_by old places) dir)
 
   pub others-gone : (other : ℕ) → (other == dir) ≡ false → index_of (rows_by new (remove places i)) other ≡ index_of (rows_by old places) other
-  others-gone other differ = ap (λ (rows : List (ℕ × Listing)). index_of rows other) rows-gone ∙ ap index_in (row_of-without (rows_by old places) dir other differ)
+  others-gone other differ = ap (λ (rows : List (ℕ × DirectoryView)). index_of rows other) rows-gone ∙ ap index_in (row_of-without (rows_by old places) dir other differ)
 
 -- nothing is taken out of an empty one
-pub taken-none : (table : List (ℕ × ℕ)) (rows : Links) (name : List ℕ) (index : Listing) → index ≡ no_names → IsNameTaken table rows name index index
+pub taken-none : (table : List (ℕ × ℕ)) (rows : Links) (name : List ℕ) (index : DirectoryView) → index ≡ no_names → IsNameTaken table rows name index index
 taken-none table rows name index none = rw none (record { numbers = refl; heads = refl; kept = omega arith })
 
 -- ---- all of them
 
 -- no links
-pub ByDirectory-empty : (table : List (ℕ × ℕ)) (rows : Links) (dirs : List (ℕ × Listing)) → rows ≡ [] → dirs ≡ [] → AreByDirectory table rows dirs
+pub ByDirectory-empty : (table : List (ℕ × ℕ)) (rows : Links) (dirs : List (ℕ × DirectoryView)) → rows ≡ [] → dirs ≡ [] → AreByDirectory table rows dirs
 ByDirectory-empty table rows dirs none empty = rw (none, empty) (record { each = λ dir. record { numbers = refl; heads = refl }; differ = λ j k d below within. absurd (omega arith) })
 
 -- a link is marked
-pub ByDirectory-marked : (table : List (ℕ × ℕ)) (change : Link → Link) (id : ℕ) → ((link : Link) → (change link).parent ≡ link.parent) → ((link : Link) → (change link).name ≡ link.name) → (rows : Links) (dirs : List (ℕ × Listing))
+pub ByDirectory-marked : (table : List (ℕ × ℕ)) (change : Link → Link) (id : ℕ) → ((link : Link) → (change link).parent ≡ link.parent) → ((link : Link) → (change link).name ≡ link.name) → (rows : Links) (dirs : List (ℕ × DirectoryView))
     → AreByDirectory table rows dirs → AreByDirectory table (with_row_changed change rows id) dirs
 ByDirectory-marked table change id parent name rows dirs are = record {
   each = λ dir. links-marked table change id parent name dir rows (index_of dirs dir) (are.each dir);
   differ = differ-marked table change id parent name rows are.differ;
 }
 
-module _ (table : List (ℕ × ℕ)) (rows : Links) (last : ℕ) (numbered : IsNumbered rows last) (dirs : List (ℕ × Listing)) (are : AreByDirectory table rows dirs) where
+module _ (table : List (ℕ × ℕ)) (rows : Links) (last : ℕ) (numbered : IsNumbered rows last) (dirs : List (ℕ × DirectoryView)) (are : AreByDirectory table rows dirs) where
   -- each index is in the order of names
   pub each-ordered : (dir : ℕ) → AreInNameOrder table rows (index_of dirs dir)
   each-ordered dir = index-ordered table dir rows last (index_of dirs dir) numbered are.differ (are.each dir)
@@ -127,13 +127,13 @@ module _ (table : List (ℕ × ℕ)) (rows : Links) (last : ℕ) (numbered : IsN
   pub child-missing : (dir : ℕ) (name : List ℕ) → row_of dirs dir ≡ None → None ≡ option_map (λ (e : ℕ × Link). e.0) (find (λ (e : ℕ × Link). is_named table dir name e.1) rows)
   child-missing dir name none =
       let empty = index_of-none dirs dir none in
-      ap (λ (index : Listing). option_map (λ (e : ℕ × Link). e.0) (find (λ (e : ℕ × Link). same_name table e.1.name name) (links_at rows index.numbers))) (sym empty)
+      ap (λ (index : DirectoryView). option_map (λ (e : ℕ × Link). e.0) (find (λ (e : ℕ × Link). same_name table e.1.name name) (links_at rows index.numbers))) (sym empty)
       ∙ ap (option_map (λ (e : ℕ × Link). e.0)) (child-found dir name)
 
   pub children-missing : (dir : ℕ) (after : Option (List ℕ)) → row_of dirs dir ≡ None → [] ≡ links_after table dir after rows
   children-missing dir after none =
       let empty = index_of-none dirs dir none in
-      ap (λ (index : Listing). filter (λ (e : ℕ × Link). is_name_after table after e.1.name) (links_at rows index.numbers)) (sym empty)
+      ap (λ (index : DirectoryView). filter (λ (e : ℕ × Link). is_name_after table after e.1.name) (links_at rows index.numbers)) (sym empty)
       ∙ children-found dir after
 
   -- a link of a new name comes
@@ -144,7 +144,7 @@ module _ (table : List (ℕ × ℕ)) (rows : Links) (last : ℕ) (numbered : IsN
     pub name-new : All (λ (e : ℕ × Link). same_name table e.1.name name ≡ false) (links_at rows (index_of dirs dir).numbers)
     name-new = listed-new table dir rows last numbered (index_of dirs dir).numbers (are.each dir).numbers name none-named
 
-    pub ByDirectory-added : (new : List (ℕ × Listing)) (file : ℕ) (deleted : Bool) → IsNamePut table rows id name (index_of dirs dir) (index_of new dir) → ((other : ℕ) → (other == dir) ≡ false → index_of new other ≡ index_of dirs other)
+    pub ByDirectory-added : (new : List (ℕ × DirectoryView)) (file : ℕ) (deleted : Bool) → IsNamePut table rows id name (index_of dirs dir) (index_of new dir) → ((other : ℕ) → (other == dir) ≡ false → index_of new other ≡ index_of dirs other)
         → AreByDirectory table (rows ++ (id, record { parent = dir; name = name; file = file; deleted = deleted }) ∷ []) new
     ByDirectory-added new file deleted put others = record {
       each = λ other. elim (cases_Bool (other == dir)) [
@@ -170,12 +170,12 @@ module _ (table : List (ℕ × ℕ)) (rows : Links) (last : ℕ) (numbered : IsN
         beside other differ =
             let all = added-beside table other rows id link (ne_eqb dir other (λ same. absurd (false≢true (sym differ ∙ eq-eqb other dir (sym same))))) in
             record {
-              numbers = ap (λ (index : Listing). index.numbers) (others other differ) ∙ (are.each other).numbers ∙ ap (map (λ (e : ℕ × Link). e.0)) (sym all);
-              heads = ap (λ (index : Listing). index.heads) (others other differ) ∙ (are.each other).heads ∙ ap (map (link_head table)) (sym all);
+              numbers = ap (λ (index : DirectoryView). index.numbers) (others other differ) ∙ (are.each other).numbers ∙ ap (map (λ (e : ℕ × Link). e.0)) (sym all);
+              heads = ap (λ (index : DirectoryView). index.heads) (others other differ) ∙ (are.each other).heads ∙ ap (map (link_head table)) (sym all);
             }
 
   -- a link goes
-  module _ (id : ℕ) (row : Link) (found : row_of rows id ≡ Some row) (new : List (ℕ × Listing)) (taken : IsNameTaken table rows row.name (index_of dirs row.parent) (index_of new row.parent))
+  module _ (id : ℕ) (row : Link) (found : row_of rows id ≡ Some row) (new : List (ℕ × DirectoryView)) (taken : IsNameTaken table rows row.name (index_of dirs row.parent) (index_of new row.parent))
       (others : (other : ℕ) → (other == row.parent) ≡ false → index_of new other ≡ index_of dirs other) where
     pub ByDirectory-without : AreByDirectory table (without_row rows id) new
     ByDirectory-without = record {
@@ -199,16 +199,16 @@ module _ (table : List (ℕ × ℕ)) (rows : Links) (last : ℕ) (numbered : IsN
         beside other differ =
             let all = gone-beside table id row rows last numbered are.differ found other (ne_eqb row.parent other (λ same. absurd (false≢true (sym differ ∙ eq-eqb other row.parent (sym same))))) in
             record {
-              numbers = ap (λ (index : Listing). index.numbers) (others other differ) ∙ (are.each other).numbers ∙ ap (map (λ (e : ℕ × Link). e.0)) (sym all);
-              heads = ap (λ (index : Listing). index.heads) (others other differ) ∙ (are.each other).heads ∙ ap (map (link_head table)) (sym all);
+              numbers = ap (λ (index : DirectoryView). index.numbers) (others other differ) ∙ (are.each other).numbers ∙ ap (map (λ (e : ℕ × Link). e.0)) (sym all);
+              heads = ap (λ (index : DirectoryView). index.heads) (others other differ) ∙ (are.each other).heads ∙ ap (map (link_head table)) (sym all);
             }
 
   pub ByDirectory-none : (id : ℕ) → row_of rows id ≡ None → AreByDirectory table (without_row rows id) dirs
   ByDirectory-none id none = rw (without_row-none rows id none) are
 
 -- a link gets another name: its number was taken out before, and is put in anew
-module _ (table : List (ℕ × ℕ)) (rows : Links) (last : ℕ) (numbered : IsNumbered rows last) (old : List (ℕ × Listing)) (id dir : ℕ) (name : List ℕ) (differ : AreByDirectory table rows old)
-    (free : list_any (λ (e : ℕ × Link). not (e.0 == id) && is_named table dir name e.1) rows ≡ false) (dirs : List (ℕ × Listing)) (are : AreByDirectory table (without_row rows id) dirs) where
+module _ (table : List (ℕ × ℕ)) (rows : Links) (last : ℕ) (numbered : IsNumbered rows last) (old : List (ℕ × DirectoryView)) (id dir : ℕ) (name : List ℕ) (differ : AreByDirectory table rows old)
+    (free : list_any (λ (e : ℕ × Link). not (e.0 == id) && is_named table dir name e.1) rows ≡ false) (dirs : List (ℕ × DirectoryView)) (are : AreByDirectory table (without_row rows id) dirs) where
   -- the links of the numbers that are left
   left-listed : links_at rows (index_of dirs dir).numbers ≡ links_by_name table dir (without_row rows id)
   left-listed = kept-listed table dir rows last numbered id (index_of dirs dir).numbers (are.each dir).numbers
@@ -222,7 +222,7 @@ module _ (table : List (ℕ × ℕ)) (rows : Links) (last : ℕ) (numbered : IsN
   pub left-new : All (λ (e : ℕ × Link). same_name table e.1.name name ≡ false) (links_at rows (index_of dirs dir).numbers)
   left-new = rw left-listed (listed-without table dir (without_row rows id) name (without-named table id dir name rows last numbered free))
 
-  pub ByDirectory-moved : (new : List (ℕ × Listing)) → is_some (row_of rows id) ≡ true → IsNamePut table rows id name (index_of dirs dir) (index_of new dir)
+  pub ByDirectory-moved : (new : List (ℕ × DirectoryView)) → is_some (row_of rows id) ≡ true → IsNamePut table rows id name (index_of dirs dir) (index_of new dir)
       → ((other : ℕ) → (other == dir) ≡ false → index_of new other ≡ index_of dirs other) → AreByDirectory table (with_row_changed (λ row. record row { parent = dir; name = name }) rows id) new
   ByDirectory-moved new living put others = go (row_of rows id) refl living
     where
@@ -249,14 +249,14 @@ module _ (table : List (ℕ × ℕ)) (rows : Links) (last : ℕ) (numbered : IsN
           beside other apart =
               let all = ap (in_order (is_key_before (name_key table))) (moved-beside table id dir name row other (ne_eqb dir other (λ same. absurd (false≢true (sym apart ∙ eq-eqb other dir (sym same))))) rows) in
               record {
-                numbers = ap (λ (index : Listing). index.numbers) (others other apart) ∙ (are.each other).numbers ∙ ap (map (λ (e : ℕ × Link). e.0)) (sym all);
-                heads = ap (λ (index : Listing). index.heads) (others other apart) ∙ (are.each other).heads ∙ ap (map (link_head table)) (sym all);
+                numbers = ap (λ (index : DirectoryView). index.numbers) (others other apart) ∙ (are.each other).numbers ∙ ap (map (λ (e : ℕ × Link). e.0)) (sym all);
+                heads = ap (λ (index : DirectoryView). index.heads) (others other apart) ∙ (are.each other).heads ∙ ap (map (link_head table)) (sym all);
               }
 
 -- ---- each index has the room that was promised to its directory
 
 -- .. once one room of a directory is taken, and its index has at most one less
-pub rooms-left : (rooms newer : List (ℕ × ℕ)) (dirs new : List (ℕ × Listing)) (dir : ℕ) → IsOneTaken rooms newer dir → ((other : ℕ) → room_in rooms other ≤ (index_of dirs other).room)
+pub rooms-left : (rooms newer : List (ℕ × ℕ)) (dirs new : List (ℕ × DirectoryView)) (dir : ℕ) → IsOneTaken rooms newer dir → ((other : ℕ) → room_in rooms other ≤ (index_of dirs other).room)
     → (index_of dirs dir).room ≤ (index_of new dir).room + 1 → ((other : ℕ) → (other == dir) ≡ false → (index_of dirs other).room ≤ (index_of new other).room) → (other : ℕ) → room_in newer other ≤ (index_of new other).room
 rooms-left rooms newer dirs new dir taken have left kept other = elim (cases_Bool (other == dir)) [
   | inl here ↦ (let same : other ≡ dir = eqb-true other dir here in

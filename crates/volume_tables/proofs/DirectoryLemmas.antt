@@ -22,7 +22,7 @@ use Rattle.volume_rows.specs.Children.{is_name_after, links_after}
 use Rattle.link_index.specs.Beginnings.{name_key}
 use Rattle.volume_tables.specs.Directories.{HasLinksOf, NamesDiffer, links_by_name, links_in}
 use Rattle.link_index.specs.Heads.{head_of, link_head}
-use Rattle.link_index.specs.Directory.{AreInNameOrder, Listing, links_at}
+use Rattle.link_index.specs.Directory.{AreInNameOrder, DirectoryView, links_at}
 use Rattle.link_index.proofs.NameLemmas.{Links, at-found, filter-where, found-each, name-swap, same-key}
 
 -- ---- some of some
@@ -122,7 +122,7 @@ module _ (table : List (ℕ × ℕ)) (dir : ℕ) (rows : Links) where
   listed-ordered differ = in_order-ordered (name_key table) (links_in dir rows) (keys-differ differ)
 
 -- the index of a directory is in the order of names
-pub index-ordered : (table : List (ℕ × ℕ)) (dir : ℕ) (rows : Links) (last : ℕ) (index : Listing) → IsNumbered rows last → NamesDiffer table rows → HasLinksOf table rows dir index → AreInNameOrder table rows index
+pub index-ordered : (table : List (ℕ × ℕ)) (dir : ℕ) (rows : Links) (last : ℕ) (index : DirectoryView) → IsNumbered rows last → NamesDiffer table rows → HasLinksOf table rows dir index → AreInNameOrder table rows index
 index-ordered table dir rows last index numbered differ has =
     let listed = links-listed table dir rows last numbered index.numbers has.numbers in
     record {
@@ -260,7 +260,7 @@ module _ (table : List (ℕ × ℕ)) (change : Link → Link) (id : ℕ) (parent
   listed-at : (dir : ℕ) (rows : Links) → links_by_name table dir (with_row_changed change rows id) ≡ map (change_at change id) (links_by_name table dir rows)
   listed-at dir rows = ap (in_order (is_key_before (name_key table))) (links_in-at dir rows) ∙ in_order-at (links_in dir rows)
 
-  pub links-marked : (dir : ℕ) (rows : Links) (index : Listing) → HasLinksOf table rows dir index → HasLinksOf table (with_row_changed change rows id) dir index
+  pub links-marked : (dir : ℕ) (rows : Links) (index : DirectoryView) → HasLinksOf table rows dir index → HasLinksOf table (with_row_changed change rows id) dir index
   links-marked dir rows index has = record {
     numbers = has.numbers ∙ sym (numbers-at_change (links_by_name table dir rows)) ∙ ap (map (λ (e : ℕ × Link). e.0)) (sym (listed-at dir rows));
     heads = has.heads ∙ sym (heads-at_change (links_by_name table dir rows)) ∙ ap (map (link_head table)) (sym (listed-at dir rows));

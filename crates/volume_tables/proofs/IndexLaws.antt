@@ -11,10 +11,10 @@ use Rattle.fsa_model.specs.Volume.{Handle, Link}
 use Rattle.fsa_model.proofs.RowLaws.{change_at, change_at-same}
 use Rattle.std.proofs.lemmas.List.Elements.{All-map}
 use Rattle.fsa_types.specs.declared.oplock.HandleSet.TheVariants as set
-use Rattle.key_index.specs.Index.{entries_of}
-use Rattle.key_index.specs.RowsByKey.{IsIndexOf, row_passes, rows_at}
+use Rattle.key_index.specs.Index.{entries_under}
+use Rattle.key_index.specs.RowsByKey.{IsIndexOf, row_passes, rows_of_entries}
 use Rattle.key_index.proofs.RowLaws.{index-any, index-changed, index-counted, index-found, index-listed}
-use Rattle.volume_tables.specs.HandleIndex.{AreIndexed, FitsKey, IndexedHandles, call_key, stream_key, link_key}
+use Rattle.volume_tables.specs.HandleIndex.{AreIndexed, FitsKey, IndexedHandles, opening_key, stream_key, link_key}
 
 module _ {R : Type 0} (key : R → ℕ) (k : ℕ) (p : R → Bool) (only : (row : R) → p row ≡ true → (key row == k) ≡ true) where
   also : (row : R) → (key row == k && p row) ≡ p row
@@ -45,16 +45,16 @@ module _ {R : Type 0} (key : R → ℕ) (k : ℕ) (p : R → Bool) (only : (row 
   ]
 
   module _ (rows : List (ℕ × R)) (last : ℕ) (entries : List (ℕ × ℕ)) (numbered : IsNumbered rows last) (index : IsIndexOf key rows entries) where
-    pub number-by_key : number_of p rows ≡ option_map (λ (entry : ℕ × ℕ). entry.1) (find (row_passes rows (λ row. p row.1)) (entries_of entries k))
+    pub number-by_key : number_of p rows ≡ option_map (λ (entry : ℕ × ℕ). entry.1) (find (row_passes rows (λ row. p row.1)) (entries_under entries k))
     number-by_key = ap (option_map (λ (row : ℕ × R). row.0)) (sym (find-also rows)) ∙ index-found key rows last entries k (λ row. p row.1) numbered index
 
-    pub any-by_key : list_any (λ row. p row.1) rows ≡ list_any (row_passes rows (λ row. p row.1)) (entries_of entries k)
+    pub any-by_key : list_any (λ row. p row.1) rows ≡ list_any (row_passes rows (λ row. p row.1)) (entries_under entries k)
     any-by_key = sym (any-also rows) ∙ index-any key rows last entries k (λ row. p row.1) numbered index
 
-    pub count-by_key : length (filter (λ row. p row.1) rows) ≡ length (filter (row_passes rows (λ row. p row.1)) (entries_of entries k))
+    pub count-by_key : length (filter (λ row. p row.1) rows) ≡ length (filter (row_passes rows (λ row. p row.1)) (entries_under entries k))
     count-by_key = ap length (sym (filter-also rows)) ∙ index-counted key rows last entries k (λ row. p row.1) numbered index
 
-    pub list-by_key : filter (λ row. p row.1) rows ≡ filter (λ row. p row.1) (rows_at rows (entries_of entries k))
+    pub list-by_key : filter (λ row. p row.1) rows ≡ filter (λ row. p row.1) (rows_of_entries rows (entries_under entries k))
     list-by_key = sym (filter-also rows) ∙ index-listed key rows last entries k (λ row. p row.1) numbered index
 
 -- the same of a test that looks at the number too
@@ -72,7 +72,7 @@ module _ {R : Type 0} (key : R → ℕ) (k : ℕ) (test : ℕ × R → Bool) (on
   any-entry [] = refl
   any-entry (x ∷ rows) = rw (also-entry x) (ap (λ rest. test x || rest) (any-entry rows))
 
-  pub any-by_entry : (rows : List (ℕ × R)) (last : ℕ) (entries : List (ℕ × ℕ)) → IsNumbered rows last → IsIndexOf key rows entries → list_any test rows ≡ list_any (row_passes rows test) (entries_of entries k)
+  pub any-by_entry : (rows : List (ℕ × R)) (last : ℕ) (entries : List (ℕ × ℕ)) → IsNumbered rows last → IsIndexOf key rows entries → list_any test rows ≡ list_any (row_passes rows test) (entries_under entries k)
   any-by_entry rows last entries numbered index = sym (any-entry rows) ∙ index-any key rows last entries k test numbered index
 
 -- ---- keys of handles
@@ -106,7 +106,7 @@ pub AreIndexed-changed : (change : Handle → Handle) (rows : List (ℕ × Handl
     → AreIndexed rows index → AreIndexed (with_row_changed change rows id) index
 AreIndexed-changed change rows id index client number streams links is = record {
   fit = fit-changed change rows id client number is.fit;
-  calls = index-changed call_key change rows index.calls id (λ row. rw (client row, number row) refl) is.calls;
+  calls = index-changed opening_key change rows index.calls id (λ row. rw (client row, number row) refl) is.calls;
   streams = index-changed stream_key change rows index.streams id streams is.streams;
   links = index-changed link_key change rows index.links id links is.links;
 }

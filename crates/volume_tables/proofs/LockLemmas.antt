@@ -13,7 +13,7 @@ use Rattle.fsa_model.specs.Edits.{is_lock_on}
 use Rattle.fsa_model.specs.Lookups.{is_open_on, number_of}
 use Rattle.fsa_model.specs.Volume.{Handle, Lock}
 use Rattle.fsa_model.proofs.RowLaws.{any-filter, any-map, any-push, any-same, change_at, change_at-number, find-all, option_cases, option_map-none, eqb-swap}
-use Rattle.range_locks.specs.RangeTable.{Ranges, first_id, is_of, is_range}
+use Rattle.range_locks.specs.RangeTable.{Ranges, first_id, is_range_of, is_range}
 use Rattle.range_locks.specs.declared.range.Range.{Range}
 use Rattle.volume_tables.specs.Ranges.{ranges_in, room_at, AreSetIn}
 use Rattle.volume_tables.specs.HandleTable.{stream_of_handle, is_on_stream, range_of_lock, ranges_on, AreTabled, HaveRoom}
@@ -82,7 +82,7 @@ AreTabled-handle handles locks tables more is = record {
 
 -- the locks that a handle doesn't hold, once it is gone
 without-handle : (handles : List (ℕ × Handle)) (locks : List (ℕ × Lock)) (gone stream : ℕ)
-    → ranges_on (without_row handles gone) (filter (λ entry. not (entry.1.handle == gone)) locks) stream ≡ filter (λ range. not (is_of gone range)) (ranges_on handles locks stream)
+    → ranges_on (without_row handles gone) (filter (λ entry. not (entry.1.handle == gone)) locks) stream ≡ filter (λ range. not (is_range_of gone range)) (ranges_on handles locks stream)
 without-handle handles [] gone stream = refl
 without-handle handles (entry ∷ locks) gone stream =
     let rest = without-handle handles locks gone stream in
@@ -101,7 +101,7 @@ without-handle handles (entry ∷ locks) gone stream =
 
 -- a handle on another stream, or on none, has no lock on this one
 none-of : (handles : List (ℕ × Handle)) (locks : List (ℕ × Lock)) (handle stream : ℕ) → option_map_or (λ row. is_open_on stream row) (row_of handles handle) false ≡ false
-    → filter (λ range. not (is_of handle range)) (ranges_on handles locks stream) ≡ ranges_on handles locks stream
+    → filter (λ range. not (is_range_of handle range)) (ranges_on handles locks stream) ≡ ranges_on handles locks stream
 none-of handles [] handle stream off = refl
 none-of handles (entry ∷ locks) handle stream off =
     let rest = none-of handles locks handle stream off in
@@ -125,7 +125,7 @@ is_on-stream_of handles handle stream =
     ]
 
 -- where a handle's stream has no range of it, no lock is its
-pub none-locked : (handles : List (ℕ × Handle)) (locks : List (ℕ × Lock)) (gone own : ℕ) → stream_of_handle handles gone ≡ Some own → list_any (is_of gone) (ranges_on handles locks own) ≡ false
+pub none-locked : (handles : List (ℕ × Handle)) (locks : List (ℕ × Lock)) (gone own : ℕ) → stream_of_handle handles gone ≡ Some own → list_any (is_range_of gone) (ranges_on handles locks own) ≡ false
     → filter (λ entry. not (entry.1.handle == gone)) locks ≡ locks
 none-locked handles [] gone own is none = refl
 none-locked handles (entry ∷ locks) gone own is none = elim (cases_Bool (entry.1.handle == gone)) [
@@ -135,7 +135,7 @@ none-locked handles (entry ∷ locks) gone own is none = elim (cases_Bool (entry
       let impossible : true ≡ false = rw (on, held) at none in
       cc)
   | inr other ↦ (
-      let rest : list_any (is_of gone) (ranges_on handles locks own) ≡ false
+      let rest : list_any (is_range_of gone) (ranges_on handles locks own) ≡ false
       = elim (cases_Bool (is_on_stream handles own entry.1)) [
         | inl on ↦ rw (on, other) at none
         | inr off ↦ rw off at none
@@ -145,7 +145,7 @@ none-locked handles (entry ∷ locks) gone own is none = elim (cases_Bool (entry
 
 -- the same of each handle, where a stream is told
 pub none-held : (handles : List (ℕ × Handle)) (locks : List (ℕ × Lock)) (tables : List (ℕ × Ranges)) (stream : Option ℕ) (gone : ℕ) → AreTabled handles locks tables → stream ≡ stream_of_handle handles gone
-    → option_map_or (λ own. list_any (is_of gone) (ranges_in tables own)) stream true ≡ false → filter (λ entry. not (entry.1.handle == gone)) locks ≡ locks
+    → option_map_or (λ own. list_any (is_range_of gone) (ranges_in tables own)) stream true ≡ false → filter (λ entry. not (entry.1.handle == gone)) locks ≡ locks
 none-held handles locks tables None gone is own none = (let impossible : true ≡ false = none in cc)
 none-held handles locks tables (Some s) gone is own none = none-locked handles locks gone s (sym own) (rw (is.ranges s) at none)
 
@@ -157,15 +157,15 @@ apart-none p (x ∷ xs) = elim (cases_Bool (p x)) [
 ]
 
 pub none-own : (handles : List (ℕ × Handle)) (locks : List (ℕ × Lock)) (tables : List (ℕ × Ranges)) (stream : Option ℕ) (handle : ℕ) → AreTabled handles locks tables → stream ≡ stream_of_handle handles handle
-    → option_map_or (λ own. list_any (is_of handle) (ranges_in tables own)) stream true ≡ false → filter (λ entry. entry.1.handle == handle) locks ≡ []
+    → option_map_or (λ own. list_any (is_range_of handle) (ranges_in tables own)) stream true ≡ false → filter (λ entry. entry.1.handle == handle) locks ≡ []
 none-own handles locks tables stream handle is own none =
     ap (filter (λ (entry : ℕ × Lock). entry.1.handle == handle)) (sym (none-held handles locks tables stream handle is own none)) ∙ apart-none (λ (entry : ℕ × Lock). entry.1.handle == handle) locks
 
 -- of the stream of a handle that is gone, or of another stream, its locks are taken out
 gone-ranges : (handles : List (ℕ × Handle)) (locks : List (ℕ × Lock)) (old new : List (ℕ × Ranges)) (gone stream : ℕ) → AreTabled handles locks old
-    → ((own : ℕ) → stream_of_handle handles gone ≡ Some own → AreSetIn old new own (filter (λ range. not (is_of gone range)) (ranges_in old own)))
+    → ((own : ℕ) → stream_of_handle handles gone ≡ Some own → AreSetIn old new own (filter (λ range. not (is_range_of gone range)) (ranges_in old own)))
     → (stream_of_handle handles gone ≡ None → new ≡ old)
-    → ranges_in new stream ≡ filter (λ range. not (is_of gone range)) (ranges_on handles locks stream)
+    → ranges_in new stream ≡ filter (λ range. not (is_range_of gone range)) (ranges_on handles locks stream)
 gone-ranges handles locks old new gone stream is set kept =
     elim (option_cases (stream_of_handle handles gone)) [
       | inl none ↦ (
@@ -174,7 +174,7 @@ gone-ranges handles locks old new gone stream is set kept =
       | inr own ↦ elim (cases_Bool (stream == own.0)) [
         | inl here ↦ (
             let same : stream ≡ own.0 = eqb-true _ _ here in
-            rw same ((set own.0 own.1).here ∙ ap (filter (λ range. not (is_of gone range))) (is.ranges own.0)))
+            rw same ((set own.0 own.1).here ∙ ap (filter (λ range. not (is_range_of gone range))) (is.ranges own.0)))
         | inr differ ↦ (
             let off : option_map_or (λ row. is_open_on stream row) (row_of handles gone) false ≡ false
             = is_on-stream_of handles gone stream ∙ rw own.1 (eqb-swap own.0 stream ∙ differ) in
@@ -184,7 +184,7 @@ gone-ranges handles locks old new gone stream is set kept =
 
 -- a handle is gone with its locks
 pub AreTabled-gone : (handles : List (ℕ × Handle)) (locks : List (ℕ × Lock)) (old new : List (ℕ × Ranges)) (gone : ℕ) → AreTabled handles locks old
-    → ((own : ℕ) → stream_of_handle handles gone ≡ Some own → AreSetIn old new own (filter (λ range. not (is_of gone range)) (ranges_in old own)))
+    → ((own : ℕ) → stream_of_handle handles gone ≡ Some own → AreSetIn old new own (filter (λ range. not (is_range_of gone range)) (ranges_in old own)))
     → (stream_of_handle handles gone ≡ None → new ≡ old)
     → AreTabled (without_row handles gone) (filter (λ entry. not (entry.1.handle == gone)) locks) new
 AreTabled-gone handles locks old new gone is set kept = record {

@@ -9,11 +9,11 @@ use Rattle.fsa_model.specs.Lookups.{has_row, is_after, is_opened_by, number_of}
 use Rattle.fsa_model.specs.Volume.{Handle}
 use Rattle.fsa_model.proofs.RowLaws.{any-filter, any-map, any-weaker, find-all, find-none, find-any, option_cases}
 use Rattle.fsa_model.proofs.WaitLaws.{any-of_filter, find-passes}
-use Rattle.key_index.specs.Index.{entries_of, has_key, is_after as is_key_after}
+use Rattle.key_index.specs.Index.{entries_under, has_key, has_greater_key as is_key_after}
 use Rattle.key_index.specs.RowsByKey.{IsIndexOf, pairs}
 use Rattle.key_index.proofs.RowLaws.{index-first}
-use Rattle.volume_tables.specs.CallKey.{key_of}
-use Rattle.volume_tables.specs.HandleIndex.{AreIndexed, FitsKey, IndexedHandles, call_key}
+use Rattle.volume_tables.specs.CallKey.{call_key_of}
+use Rattle.volume_tables.specs.HandleIndex.{AreIndexed, FitsKey, IndexedHandles, opening_key}
 use Rattle.volume_tables.specs.HandleTable.{next_of}
 
 -- ---- tests that agree on each item of a list
@@ -85,7 +85,7 @@ module _ {R : Type 0} (key : R → ℕ) (rows : List (ℕ × R)) (entries : List
       let k : ℕ = key (get_or rows i d).1 in
       let here : list_any (λ (row : ℕ × R). key row.1 == k) rows ≡ true = any-at (λ (row : ℕ × R). key row.1 == k) rows i d within (eq-eqb k k refl) in
       let paired : list_any (has_key k) (pairs key rows) ≡ true = any-map (has_key k) (λ (row : ℕ × R). (key row.1, row.0)) rows ∙ here in
-      let kept : list_any (has_key k) (entries_of (pairs key rows) k) ≡ true = any-filter (has_key k) (has_key k) (pairs key rows) (λ x is. is) paired in
+      let kept : list_any (has_key k) (entries_under (pairs key rows) k) ≡ true = any-filter (has_key k) (has_key k) (pairs key rows) (λ x is. is) paired in
       any-of_filter (has_key k) (has_key k) entries (ap (list_any (has_key k)) (index k) ∙ kept)
 
   -- where no key is above a number, no row's is
@@ -137,27 +137,27 @@ first-key below (x ∷ entries) e more found = elim (cases_Bool (nat_lt below x.
 
 -- ---- keys of calls
 
-key-parts : (client number c n : ℕ) → number < 2 ^ 32 → n < 2 ^ 32 → key_of client number ≡ key_of c n → (client ≡ c) × (number ≡ n)
+key-parts : (client number c n : ℕ) → number < 2 ^ 32 → n < 2 ^ 32 → call_key_of client number ≡ call_key_of c n → (client ≡ c) × (number ≡ n)
 key-parts client number c n fits fits_too same = (omega arith, omega arith)
 
-key-is : (client number : ℕ) (h : Handle) → number < 2 ^ 32 → FitsKey h → (call_key h == key_of client number) ≡ is_opened_by client number h
+key-is : (client number : ℕ) (h : Handle) → number < 2 ^ 32 → FitsKey h → (opening_key h == call_key_of client number) ≡ is_opened_by client number h
 key-is client number h fits fit = elim (cases_Bool (is_opened_by client number h)) [
   | inl is ↦ (
       let parts = and_parts (h.client == client) (h.number == number) is in
       let one : h.client ≡ client = eqb-true h.client client parts.0 in
       let two : h.number ≡ number = eqb-true h.number number parts.1 in
-      eq-eqb (call_key h) (key_of client number) (omega (arith, one, two)) ∙ sym is)
-  | inr other ↦ ne_eqb (call_key h) (key_of client number) (λ same.
+      eq-eqb (opening_key h) (call_key_of client number) (omega (arith, one, two)) ∙ sym is)
+  | inr other ↦ ne_eqb (opening_key h) (call_key_of client number) (λ same.
       let parts = key-parts h.client h.number client number fit.1 fits same in
       absurd (both_ways (is_opened_by client number h) other (and_from (h.client == client) (h.number == number) (eq-eqb h.client client parts.0) (eq-eqb h.number number parts.1)))) ∙ sym other
 ]
 
 -- the handle of a call is that of the first entry of its key
 pub opened-first : (client number : ℕ) (rows : List (ℕ × Handle)) (index : IndexedHandles) → number < 2 ^ 32 → AreIndexed rows index
-    → option_map (λ (e : ℕ × ℕ). e.1) (slice_get (entries_of index.calls (key_of client number)) 0) ≡ number_of (is_opened_by client number) rows
+    → option_map (λ (e : ℕ × ℕ). e.1) (slice_get (entries_under index.calls (call_key_of client number)) 0) ≡ number_of (is_opened_by client number) rows
 opened-first client number rows index fits is =
-    sym (index-first call_key rows index.calls (key_of client number) is.calls)
-    ∙ ap (option_map (λ (row : ℕ × Handle). row.0)) (find-alike (λ (row : ℕ × Handle). call_key row.1 == key_of client number) (λ row. is_opened_by client number row.1) rows
+    sym (index-first opening_key rows index.calls (call_key_of client number) is.calls)
+    ∙ ap (option_map (λ (row : ℕ × Handle). row.0)) (find-alike (λ (row : ℕ × Handle). opening_key row.1 == call_key_of client number) (λ row. is_opened_by client number row.1) rows
     (λ i d within. key-is client number (get_or rows i d).1 fits (is.fit i d within)))
 
 -- ---- the next handle
@@ -225,7 +225,7 @@ module _ (client : ℕ) (rows : List (ℕ × Handle)) where
 -- what the first entry of a greater key tells
 module _ (client below : ℕ) (rows : List (ℕ × Handle)) (index : IndexedHandles) (fits : below < 2 ^ 32) (is : AreIndexed rows index)
     (rising : IsNonDecreasingBy (λ (x : ℕ × ℕ). x.0) index.calls) where
-  not-after : (h : Handle) → call_key h ≤ key_of client below → is_after client below h ≡ false
+  not-after : (h : Handle) → opening_key h ≤ call_key_of client below → is_after client below h ≡ false
   not-after h low = elim (cases_Bool (h.client == client)) [
     | inl own ↦ (
         let same : h.client ≡ client = eqb-true h.client client own in
@@ -234,7 +234,7 @@ module _ (client below : ℕ) (rows : List (ℕ × Handle)) (index : IndexedHand
   ]
 
   -- all handles of a client have keys up to its last one
-  other-client : (h : Handle) → FitsKey h → key_of client (2 ^ 32 - 1) < call_key h → is_after client below h ≡ false
+  other-client : (h : Handle) → FitsKey h → call_key_of client (2 ^ 32 - 1) < opening_key h → is_after client below h ≡ false
   other-client h fit more = elim (cases_Bool (h.client == client)) [
     | inl own ↦ (
         let same : h.client ≡ client = eqb-true h.client client own in
@@ -243,36 +243,36 @@ module _ (client below : ℕ) (rows : List (ℕ × Handle)) (index : IndexedHand
     | inr other ↦ and_left (h.client == client) (nat_lt below h.number) other
   ]
 
-  pub next-past : find (is_key_after (key_of client below)) index.calls ≡ None → None ≡ next_of rows client below
+  pub next-past : find (is_key_after (call_key_of client below)) index.calls ≡ None → None ≡ next_of rows client below
   next-past none =
-      sym (next-none client rows below (λ i d within. not-after (get_or rows i d).1 (rows-below call_key rows index.calls is.calls (key_of client below) none i d within)))
+      sym (next-none client rows below (λ i d within. not-after (get_or rows i d).1 (rows-below opening_key rows index.calls is.calls (call_key_of client below) none i d within)))
 
-  module _ (e : ℕ × ℕ) (first : find (is_key_after (key_of client below)) index.calls ≡ Some e) where
-    between : All (λ (row : ℕ × Handle). (call_key row.1 ≤ key_of client below) ⊎ (e.0 ≤ call_key row.1)) rows
-    between = rows-between call_key rows index.calls is.calls (key_of client below) e rising first
+  module _ (e : ℕ × ℕ) (first : find (is_key_after (call_key_of client below)) index.calls ≡ Some e) where
+    between : All (λ (row : ℕ × Handle). (opening_key row.1 ≤ call_key_of client below) ⊎ (e.0 ≤ opening_key row.1)) rows
+    between = rows-between opening_key rows index.calls is.calls (call_key_of client below) e rising first
 
-    pub next-other : key_of client (2 ^ 32 - 1) < e.0 → None ≡ next_of rows client below
+    pub next-other : call_key_of client (2 ^ 32 - 1) < e.0 → None ≡ next_of rows client below
     next-other more = sym (next-none client rows below (λ i d within. elim (between i d within) [
       | inl low ↦ not-after (get_or rows i d).1 low
       | inr high ↦ other-client (get_or rows i d).1 (is.fit i d within) (omega arith)
     ]))
 
-    next-at : (k : ℕ) → below < k → k < 2 ^ 32 → e.0 ≡ key_of client k → Some e.1 ≡ next_of rows client below
+    next-at : (k : ℕ) → below < k → k < 2 ^ 32 → e.0 ≡ call_key_of client k → Some e.1 ≡ next_of rows client below
     next-at k above fits_too key =
-        let entry : option_map (λ (x : ℕ × ℕ). x.1) (slice_get (entries_of index.calls e.0) 0) ≡ Some e.1
-        = ap (option_map (λ (x : ℕ × ℕ). x.1)) (first-of (has_key e.0) index.calls ∙ first-key (key_of client below) index.calls e (omega arith) first) in
+        let entry : option_map (λ (x : ℕ × ℕ). x.1) (slice_get (entries_under index.calls e.0) 0) ≡ Some e.1
+        = ap (option_map (λ (x : ℕ × ℕ). x.1)) (first-of (has_key e.0) index.calls ∙ first-key (call_key_of client below) index.calls e (omega arith) first) in
         let opened : number_of (is_opened_by client k) rows ≡ Some e.1 = sym (opened-first client k rows index fits_too is) ∙ (rw key at entry) in
         let more : All (λ (row : ℕ × Handle). (is_after client below row.1 ≡ false) ⊎ (k ≤ row.1.number)) rows = λ i d within. at-least k key (get_or rows i d).1 (between i d within) in
         sym opened ∙ next-found client rows below k above more (any-found (is_opened_by client k) rows e.1 opened)
       where
-        at-least : (k : ℕ) → e.0 ≡ key_of client k → (h : Handle) → (call_key h ≤ key_of client below) ⊎ (e.0 ≤ call_key h) → (is_after client below h ≡ false) ⊎ (k ≤ h.number)
+        at-least : (k : ℕ) → e.0 ≡ call_key_of client k → (h : Handle) → (opening_key h ≤ call_key_of client below) ⊎ (e.0 ≤ opening_key h) → (is_after client below h ≡ false) ⊎ (k ≤ h.number)
         at-least k key h (inl low) = inl (not-after h low)
         at-least k key h (inr high) = elim (cases_Bool (h.client == client)) [
           | inl own ↦ (let same : h.client ≡ client = eqb-true h.client client own in inr (omega (arith, same, key)))
           | inr other ↦ inl (and_left (h.client == client) (nat_lt below h.number) other)
         ]
 
-    pub next-own : e.0 ≤ key_of client (2 ^ 32 - 1) → Some e.1 ≡ next_of rows client below
+    pub next-own : e.0 ≤ call_key_of client (2 ^ 32 - 1) → Some e.1 ≡ next_of rows client below
     next-own own =
-        let more : key_of client below < e.0 = ltb-true (key_of client below) e.0 (find-passes (is_key_after (key_of client below)) index.calls e first) in
+        let more : call_key_of client below < e.0 = ltb-true (call_key_of client below) e.0 (find-passes (is_key_after (call_key_of client below)) index.calls e first) in
         next-at (e.0 - client * 2 ^ 32) (omega arith) (omega arith) (omega arith)

@@ -12,11 +12,11 @@ use Rattle.fsa_types.proofs.RowLemmas.{AreRising, AreRising-first, AreRising-res
 use Rattle.fsa_model.specs.Lookups.{is_stream_named}
 use Rattle.fsa_model.specs.Volume.{Stream}
 use Rattle.fsa_model.proofs.RowLaws.{AllPairs-map}
-use Rattle.key_index.specs.Index.{entries_of}
-use Rattle.key_index.specs.RowsByKey.{IsIndexOf, pairs, rows_at, rows_with}
+use Rattle.key_index.specs.Index.{entries_under}
+use Rattle.key_index.specs.RowsByKey.{IsIndexOf, pairs, rows_of_entries, rows_with}
 use Rattle.key_index.proofs.RowLaws.{index-rows}
 use Rattle.volume_rows.specs.Streams.{StreamRowView, streams_in}
-use Rattle.volume_tables.specs.StreamTable.{file_key}
+use Rattle.volume_tables.specs.StreamTable.{stream_file_key}
 
 -- a change of the row of a number, where the row is found, as a table tells it
 abbrev pub ChangesOne : List (ℕ × StreamRowView) → ℕ → Type 0
@@ -74,7 +74,7 @@ IsNumbered-seen {R} {S} view rows last numbered =
     }
 
 -- a stream of a name of a file is one of the file
-pub named-only : (table : List (ℕ × ℕ)) (file : ℕ) (units : List ℕ) (row : Stream) → is_stream_named table file units row ≡ true → (file_key row == file) ≡ true
+pub named-only : (table : List (ℕ × ℕ)) (file : ℕ) (units : List ℕ) (row : Stream) → is_stream_named table file units row ≡ true → (stream_file_key row == file) ≡ true
 named-only table file units row is = (and_parts (row.file == file) (same_name table row.name units) is).0
 
 -- ---- the streams of a file, by their index
@@ -85,18 +85,18 @@ sum-found : (f : Stream → ℕ) (id : ℕ) (found : Option Stream) (rest : List
 sum-found f id None rest = omega arith
 sum-found f id (Some row) rest = sym (sum_by-cons (λ (row : ℕ × Stream). f row.1) (id, row) rest)
 
-sum-rows : (f : Stream → ℕ) (rows : List (ℕ × Stream)) (entries : List (ℕ × ℕ)) → sum_by (λ (entry : ℕ × ℕ). option_map_or f (row_of rows entry.1) 0) entries ≡ sum_by (λ (row : ℕ × Stream). f row.1) (rows_at rows entries)
+sum-rows : (f : Stream → ℕ) (rows : List (ℕ × Stream)) (entries : List (ℕ × ℕ)) → sum_by (λ (entry : ℕ × ℕ). option_map_or f (row_of rows entry.1) 0) entries ≡ sum_by (λ (row : ℕ × Stream). f row.1) (rows_of_entries rows entries)
 sum-rows f rows [] = refl
 sum-rows f rows (e ∷ entries) =
     sum_by-cons (λ (entry : ℕ × ℕ). option_map_or f (row_of rows entry.1) 0) e entries
     ∙ ap (λ n. option_map_or f (row_of rows e.1) 0 + n) (sum-rows f rows entries)
-    ∙ sum-found f e.1 (row_of rows e.1) (rows_at rows entries)
+    ∙ sum-found f e.1 (row_of rows e.1) (rows_of_entries rows entries)
 
 -- one over the streams of a file
-pub sum-by_file : (f : Stream → ℕ) (rows : List (ℕ × Stream)) (last : ℕ) (entries : List (ℕ × ℕ)) (file : ℕ) → IsNumbered rows last → IsIndexOf file_key rows entries
-    → sum_by (λ (entry : ℕ × ℕ). option_map_or f (row_of rows entry.1) 0) (entries_of entries file) ≡ sum_by (λ (row : ℕ × Stream). f row.1) (filter (λ row. row.1.file == file) rows)
+pub sum-by_file : (f : Stream → ℕ) (rows : List (ℕ × Stream)) (last : ℕ) (entries : List (ℕ × ℕ)) (file : ℕ) → IsNumbered rows last → IsIndexOf stream_file_key rows entries
+    → sum_by (λ (entry : ℕ × ℕ). option_map_or f (row_of rows entry.1) 0) (entries_under entries file) ≡ sum_by (λ (row : ℕ × Stream). f row.1) (filter (λ row. row.1.file == file) rows)
 sum-by_file f rows last entries file numbered index =
-    sum-rows f rows (entries_of entries file) ∙ ap (sum_by (λ (row : ℕ × Stream). f row.1)) (index-rows file_key rows last entries file numbered index)
+    sum-rows f rows (entries_under entries file) ∙ ap (sum_by (λ (row : ℕ × Stream). f row.1)) (index-rows stream_file_key rows last entries file numbered index)
 
 pub sum-filter_le : {X : Type 0} (f : X → ℕ) (p : X → Bool) (xs : List X) → sum_by f (filter p xs) ≤ sum_by f xs
 sum-filter_le f p [] = omega arith

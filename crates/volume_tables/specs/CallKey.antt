@@ -2,5 +2,5 @@
 use Rattle.std.specs.Prelude.{ℕ, ◌+◌, ◌*◌, ◌^◌}
 
 -- one number for a client and one of its calls, which are below 2^32
-abbrev pub key_of : ℕ → ℕ → ℕ
-key_of client number = client * 2 ^ 32 + number
+abbrev pub call_key_of : ℕ → ℕ → ℕ
+call_key_of client number = client * 2 ^ 32 + number

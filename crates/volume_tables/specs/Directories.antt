@@ -9,7 +9,7 @@ use Rattle.fsa_model.specs.Volume.{Link}
 use Rattle.link_index.specs.Keyed.{is_key_before}
 use Rattle.link_index.specs.Beginnings.{name_key}
 use Rattle.link_index.specs.Heads.{link_head}
-use Rattle.link_index.specs.Directory.{Listing}
+use Rattle.link_index.specs.Directory.{DirectoryView}
 
 -- the links of a directory
 abbrev pub links_in : ℕ → List (ℕ × Link) → List (ℕ × Link)
@@ -24,19 +24,19 @@ abbrev pub NamesDiffer : List (ℕ × ℕ) → List (ℕ × Link) → Type 0
 NamesDiffer table rows = AllPairs (λ a b. is_named table b.1.parent b.1.name a.1 ≡ false) rows
 
 -- the index of a directory; an empty one where it has none
-abbrev pub index_of : List (ℕ × Listing) → ℕ → Listing
-index_of dirs dir = option_map_or (λ (index : Listing). index) (row_of dirs dir) (record { numbers = []; heads = []; room = 0 })
+abbrev pub index_of : List (ℕ × DirectoryView) → ℕ → DirectoryView
+index_of dirs dir = option_map_or (λ (index : DirectoryView). index) (row_of dirs dir) (record { numbers = []; heads = []; room = 0 })
 
 -- the index in a slot of a slab; an empty one where it is free
-abbrev pub index_at : Slab Listing → ℕ → Listing
-index_at slab slot = option_map_or (λ (index : Listing). index) (get slab slot) (record { numbers = []; heads = []; room = 0 })
+abbrev pub index_at : Slab DirectoryView → ℕ → DirectoryView
+index_at slab slot = option_map_or (λ (index : DirectoryView). index) (get slab slot) (record { numbers = []; heads = []; room = 0 })
 
 -- an index has exactly the links of a directory, in the order of their names, and the heads of these
-pub record HasLinksOf (table : List (ℕ × ℕ)) (rows : List (ℕ × Link)) (dir : ℕ) (index : Listing) : Type 0 where
+pub record HasLinksOf (table : List (ℕ × ℕ)) (rows : List (ℕ × Link)) (dir : ℕ) (index : DirectoryView) : Type 0 where
   pub numbers : index.numbers ≡ map (λ entry. entry.0) (links_by_name table dir rows)
   pub heads : index.heads ≡ map (link_head table) (links_by_name table dir rows)
 
 -- each directory's index has its links, and the names of one directory differ
-pub record AreByDirectory (table : List (ℕ × ℕ)) (rows : List (ℕ × Link)) (dirs : List (ℕ × Listing)) : Type 0 where
+pub record AreByDirectory (table : List (ℕ × ℕ)) (rows : List (ℕ × Link)) (dirs : List (ℕ × DirectoryView)) : Type 0 where
   pub each : (dir : ℕ) → HasLinksOf table rows dir (index_of dirs dir)
   pub differ : NamesDiffer table rows

@@ -15,10 +15,10 @@ abbrev pub rows_after : List (ℕ × ℕ) → ℕ → List ℕ → List (ℕ × 
 rows_after table file units rows = in_order (is_stream_before table) (filter (λ entry. is_stream_after table file units entry.1) rows)
 
 -- the number of the first of them
-abbrev pub number_after : List (ℕ × ℕ) → ℕ → List ℕ → List (ℕ × Stream) → Option ℕ
-number_after table file units rows = option_map (λ entry. entry.0) (slice_get (rows_after table file units rows) 0)
+abbrev pub stream_number_after : List (ℕ × ℕ) → ℕ → List ℕ → List (ℕ × Stream) → Option ℕ
+stream_number_after table file units rows = option_map (λ entry. entry.0) (slice_get (rows_after table file units rows) 0)
 
 -- the first in an order of the items that pass, where this one was the first of some, and `item` is one more
-abbrev pub first_of : {T : Type 0} → (T → T → Bool) → (T → Bool) → T → Option T → Option T
-first_of before test item None = if test item then Some item else None
-first_of before test item (Some first) = if test item && before item first then Some item else Some first
+abbrev pub first_with : {T : Type 0} → (T → T → Bool) → (T → Bool) → T → Option T → Option T
+first_with before test item None = if test item then Some item else None
+first_with before test item (Some first) = if test item && before item first then Some item else Some first

@@ -11,5 +11,5 @@ pub record StreamRows : Type 0 where
   pub room : ℕ
 
 -- the file of a stream
-abbrev pub file_key : Stream → ℕ
-file_key stream = stream.file
+abbrev pub stream_file_key : Stream → ℕ
+stream_file_key stream = stream.file

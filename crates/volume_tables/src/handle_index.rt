@@ -4,11 +4,11 @@ ghost use Rattle.std.specs.Prelude.{ℕ, ◌≡◌, ◌≤◌, ◌+◌, ◌++◌
 ghost use Rattle.fsa_types.specs.Rows.{row_of, without_row, IsNumbered};
 ghost use Rattle.fsa_model.specs.Lookups.{is_opened_by, number_of};
 ghost use Rattle.fsa_model.specs.Volume.{Handle};
-ghost use Rattle.key_index.specs.Index.{entries_of};
-ghost use Rattle.volume_tables.specs.HandleIndex.{AreIndexed, FitsKey, call_key, stream_key};
+ghost use Rattle.key_index.specs.Index.{entries_under};
+ghost use Rattle.volume_tables.specs.HandleIndex.{AreIndexed, FitsKey, opening_key, stream_key};
 ghost use Rattle.volume_tables.specs.HandleTable.{next_of};
 
-use crate::call_key::key_of;
+use crate::call_key::call_key_of;
 use fsa_types::NoMemory;
 use key_index::KeyIndex;
 use std::alloc::Global;
@@ -73,7 +73,7 @@ impl HandleIndex {
         ensures handles { (rows : List (ℕ × Handle)) → AreIndexed rows self.old → AreIndexed (rows ++ (id, row.now) ∷ []) self.new }
         ensures left { self.old.room ≡ self.new.room + 1 }
     {
-        self.calls.add(call_key(row), id);
+        self.calls.add(opening_key(row), id);
         self.streams.add(stream_key(row), id);
         self.links.add(row.link, id);
         self.room -= 1;
@@ -84,7 +84,7 @@ impl HandleIndex {
         ensures handles { (rows : List (ℕ × Handle)) (last : ℕ) → IsNumbered rows last → row_of rows id ≡ Some row.now → AreIndexed rows self.old → AreIndexed (without_row rows id) self.new }
         ensures room { self.new.room ≡ self.old.room }
     {
-        self.calls.remove(call_key(row), id);
+        self.calls.remove(opening_key(row), id);
         self.streams.remove(stream_key(row), id);
         self.links.remove(row.link, id);
     }
@@ -93,7 +93,7 @@ impl HandleIndex {
     pub fn opened_by(&self, client: u32, number: u32) -> Option<u64>
         ensures { (rows : List (ℕ × Handle)) → AreIndexed rows self.now → result ≡ number_of (is_opened_by client number) rows }
     {
-        match self.calls.of(key_of(client, number)).first() {
+        match self.calls.of(call_key_of(client, number)).first() {
             None => None,
             Some(entry) => Some(entry.1),
         }
@@ -103,10 +103,10 @@ impl HandleIndex {
     pub fn next_of(&self, client: u32, after: u32) -> Option<u64>
         ensures { (rows : List (ℕ × Handle)) → AreIndexed rows self.now → result ≡ next_of rows client after }
     {
-        match self.calls.after(key_of(client, after)) {
+        match self.calls.after(call_key_of(client, after)) {
             None => None,
             Some((key, id)) => {
-                if key <= key_of(client, u32::MAX) {
+                if key <= call_key_of(client, u32::MAX) {
                     Some(id)
                 } else {
                     None
@@ -117,25 +117,25 @@ impl HandleIndex {
 
     /// The handles on this stream, each with its number as the second; under 0 those without a stream too.
     pub fn on_stream(&self, stream: u64) -> &[(u64, u64)]
-        ensures { result.now ≡ entries_of self.now.streams stream }
+        ensures { result.now ≡ entries_under self.now.streams stream }
     {
         self.streams.of(stream)
     }
 
     /// The handles that were opened by this link, each with its number as the second.
     pub fn by_link(&self, link: u64) -> &[(u64, u64)]
-        ensures { result.now ≡ entries_of self.now.links link }
+        ensures { result.now ≡ entries_under self.now.links link }
     {
         self.links.of(link)
     }
 }
 
 // The client and the number of the call that opened a handle, as one number.
-fn call_key(row: &HandleRow) -> u64
-    ensures key { result ≡ call_key row.now }
+fn opening_key(row: &HandleRow) -> u64
+    ensures key { result ≡ opening_key row.now }
     ensures fits { FitsKey row.now }
 {
-    key_of(row.client, row.number)
+    call_key_of(row.client, row.number)
 }
 
 // The stream of a handle; 0 where it has none.

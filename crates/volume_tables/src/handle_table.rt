@@ -10,7 +10,7 @@ ghost use Rattle.fsa_model.specs.Lookups.{has_row, is_one_of, is_open_on, is_ope
 ghost use Rattle.fsa_types.specs.Sharing.{clash};
 ghost use Rattle.fsa_types.specs.Ranges.{without_first};
 ghost use Rattle.object_tables.specs.Next.{IsNext};
-ghost use Rattle.range_locks.specs.RangeTable.{first_id, is_of, is_range};
+ghost use Rattle.range_locks.specs.RangeTable.{first_id, is_range_of, is_range};
 ghost use Rattle.volume_tables.specs.HandleIndex.{AreIndexed};
 ghost use Rattle.volume_tables.specs.HandleShares.{AreShared};
 ghost use Rattle.volume_tables.specs.HandleTable.{next_of, stream_of_handle, ranges_on};
@@ -316,7 +316,7 @@ fn stream_of(table: &Table<HandleRow>, handle: u64) -> Option<u64>
 
 // Whether it is known that the stream of a handle has no ranges. Where the handle has no stream it isn't.
 fn has_no_range(table: &Table<HandleRow>, ranges: &StreamRanges, handle: u64) -> bool
-    ensures { result ≡ true → option_map_or (λ own. list_any (is_of handle) (ranges_in ranges.now own)) (stream_of_handle table.now.rows handle) true ≡ false }
+    ensures { result ≡ true → option_map_or (λ own. list_any (is_range_of handle) (ranges_in ranges.now own)) (stream_of_handle table.now.rows handle) true ≡ false }
 {
     match stream_of(table, handle) {
         None => false,
@@ -361,8 +361,8 @@ fn set_enumeration(table: &mut Table<HandleRow>, handle: u64, enumeration: Enume
 // Takes all ranges of a handle on this stream out, and tells whether there were any. Where it has no stream it isn't
 // known whether the handle has locks.
 fn remove_ranges_of(ranges: &mut StreamRanges, stream: Option<u64>, handle: u64) -> bool
-    ensures some { result ≡ option_map_or (λ own. list_any (is_of handle) (ranges_in ranges.old own)) stream true }
-    ensures own { IfSome stream (λ own. AreSetIn ranges.old ranges.new own (filter (λ range. not (is_of handle range)) (ranges_in ranges.old own))) }
+    ensures some { result ≡ option_map_or (λ own. list_any (is_range_of handle) (ranges_in ranges.old own)) stream true }
+    ensures own { IfSome stream (λ own. AreSetIn ranges.old ranges.new own (filter (λ range. not (is_range_of handle range)) (ranges_in ranges.old own))) }
     ensures none { IfNone stream (ranges.new ≡ ranges.old) }
     ensures room { (other : ℕ) → room_at ranges.old other ≤ room_at ranges.new other }
 {

@@ -74,7 +74,7 @@ mod share_table;
 mod space;
 mod stream_table;
 
-pub use call_key::key_of;
+pub use call_key::call_key_of;
 pub use handle_table::HandleTable;
 pub use link_table::LinkTable;
 pub use lock_row::LockRow;

@@ -38,9 +38,9 @@ impl Model for NamesByDirectory {
     ghost use Rattle.object_tables.specs.Places.{ArePlaced, rows_in};
     ghost use Rattle.slab.specs.Slab.{get};
     ghost use Rattle.std.specs.Prelude.{ℕ, List, ◌^◌};
-    ghost use Rattle.link_index.specs.Directory.{Listing};
+    ghost use Rattle.link_index.specs.Directory.{DirectoryView};
 
-    ghost Value = { List (ℕ × Listing) };
+    ghost Value = { List (ℕ × DirectoryView) };
 
     ghost view = { λ d. rows_in d.indexes d.places.items };
 

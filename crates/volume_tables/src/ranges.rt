@@ -6,7 +6,7 @@ ghost use Rattle.std.specs.Option.{option_copied};
 ghost use Rattle.fsa_types.specs.Places.{IsAt, StandsAt};
 ghost use Rattle.fsa_types.specs.Ranges.{without_first};
 ghost use Rattle.fsa_types.specs.Rows.{row_of};
-ghost use Rattle.range_locks.specs.RangeTable.{first_id, is_of, is_range};
+ghost use Rattle.range_locks.specs.RangeTable.{first_id, is_range_of, is_range};
 ghost use Rattle.volume_tables.specs.Ranges.{ranges_in, room_at, AreSetIn, KeepsRanges};
 
 use fsa_types::NoMemory;
@@ -94,8 +94,8 @@ impl StreamRanges {
 
     /// Takes all ranges of this handle on this stream out, and tells whether there were any. It takes no memory.
     pub fn remove_all_of(&mut self, stream: u64, handle: u64) -> bool
-        ensures some { result ≡ list_any (is_of handle) (ranges_in self.old stream) }
-        ensures ranges { AreSetIn self.old self.new stream (filter (λ range. not (is_of handle range)) (ranges_in self.old stream)) }
+        ensures some { result ≡ list_any (is_range_of handle) (ranges_in self.old stream) }
+        ensures ranges { AreSetIn self.old self.new stream (filter (λ range. not (is_range_of handle range)) (ranges_in self.old stream)) }
         ensures room { (other : ℕ) → room_at self.old other ≤ room_at self.new other }
     {
         remove_all_of(&mut self.tables, stream, handle)
@@ -200,8 +200,8 @@ fn remove(
 fn remove_all_of(tables: &mut [(u64, RangeTable)], stream: u64, handle: u64) -> bool
     requires rising { AllPairs (λ a b. a.0 < b.0) tables.old }
     ensures rising { AllPairs (λ a b. a.0 < b.0) tables.new }
-    ensures some { result ≡ list_any (is_of handle) (ranges_in tables.old stream) }
-    ensures ranges { AreSetIn tables.old tables.new stream (filter (λ range. not (is_of handle range)) (ranges_in tables.old stream)) }
+    ensures some { result ≡ list_any (is_range_of handle) (ranges_in tables.old stream) }
+    ensures ranges { AreSetIn tables.old tables.new stream (filter (λ range. not (is_range_of handle range)) (ranges_in tables.old stream)) }
     ensures room { (other : ℕ) → room_at tables.old other ≤ room_at tables.new other }
 {
     match place_of(tables, stream) {
@@ -212,8 +212,8 @@ fn remove_all_of(tables: &mut [(u64, RangeTable)], stream: u64, handle: u64) -> 
 
 // Takes all ranges of this handle out of a table, and tells whether there were any: it has fewer then.
 fn remove_from(table: &mut RangeTable, handle: u64) -> bool
-    ensures some { result ≡ list_any (is_of handle) table.old.ranges }
-    ensures ranges { table.new.ranges ≡ filter (λ range. not (is_of handle range)) table.old.ranges }
+    ensures some { result ≡ list_any (is_range_of handle) table.old.ranges }
+    ensures ranges { table.new.ranges ≡ filter (λ range. not (is_range_of handle range)) table.old.ranges }
     ensures room { table.old.room ≤ table.new.room }
 {
     let before = table.len();

@@ -9,11 +9,11 @@ ghost use Rattle.fsa_types.specs.StreamBytes.{put, cut};
 ghost use Rattle.fsa_model.specs.Charge.{clusters_for};
 ghost use Rattle.fsa_model.specs.Lookups.{is_stream_named, number_of};
 ghost use Rattle.fsa_model.specs.QueryInfo.{is_stream_before};
-ghost use Rattle.key_index.specs.RowsByKey.{IsIndexOf, row_passes, rows_at};
+ghost use Rattle.key_index.specs.RowsByKey.{IsIndexOf, row_passes, rows_of_entries};
 ghost use Rattle.object_tables.specs.Next.{IsNext};
 ghost use Rattle.volume_rows.specs.Streams.{ChangesStream, KeepsStreams, streams_in};
-ghost use Rattle.volume_tables.specs.StreamOrder.{first_of, is_stream_after, number_after, rows_after};
-ghost use Rattle.volume_tables.specs.StreamTable.{file_key};
+ghost use Rattle.volume_tables.specs.StreamOrder.{first_with, is_stream_after, stream_number_after, rows_after};
+ghost use Rattle.volume_tables.specs.StreamTable.{stream_file_key};
 
 use fsa_types::{NoMemory, UpcaseTable};
 use key_index::KeyIndex;
@@ -37,13 +37,13 @@ impl Model for StreamTable {
     ghost use Rattle.std.specs.Prelude.{◌≤◌};
     ghost use Rattle.key_index.specs.RowsByKey.{IsIndexOf};
     ghost use Rattle.volume_rows.specs.Streams.{streams_in};
-    ghost use Rattle.volume_tables.specs.StreamTable.{StreamRows, file_key};
+    ghost use Rattle.volume_tables.specs.StreamTable.{StreamRows, stream_file_key};
 
     ghost Value = { StreamRows };
 
     ghost view = { λ t. record { rows = t.table.rows; last = t.table.last; room = t.room } };
 
-    ghost invariant = { λ t. IsIndexOf file_key (streams_in t.table.rows) t.files.entries × t.room ≤ t.table.room × t.room ≤ t.files.room };
+    ghost invariant = { λ t. IsIndexOf stream_file_key (streams_in t.table.rows) t.files.entries × t.room ≤ t.table.room × t.room ≤ t.files.room };
 }
 
 impl StreamTable {
@@ -100,7 +100,7 @@ impl StreamTable {
     /// The stream of this file with the least name after this one, by upcased units; `None` exactly where there is
     /// none. It looks at those of the file alone.
     pub fn after(&self, upcase: &UpcaseTable, file: u64, units: &[u16]) -> Option<u64>
-        ensures { result ≡ number_after upcase.now file units.now (streams_in self.now.rows) }
+        ensures { result ≡ stream_number_after upcase.now file units.now (streams_in self.now.rows) }
     {
         let _numbered = self.table.len();
         find_after(&self.table, self.files.of(file), upcase, file, units)
@@ -260,7 +260,7 @@ fn first_of<'a>(
     row: &'a StreamRow,
     first: Option<(u64, &'a StreamRow)>,
 ) -> Option<(u64, &'a StreamRow)>
-    ensures { option_map (λ e. (e.0, e.1.now.stream)) result ≡ first_of (is_stream_before upcase.now) (λ e. is_stream_after upcase.now file units.now e.1) (id, row.now.stream) (option_map (λ e. (e.0, e.1.now.stream)) first.entry) }
+    ensures { option_map (λ e. (e.0, e.1.now.stream)) result ≡ first_with (is_stream_before upcase.now) (λ e. is_stream_after upcase.now file units.now e.1) (id, row.now.stream) (option_map (λ e. (e.0, e.1.now.stream)) first.entry) }
 {
     if !is_stream_after(upcase, file, units, row) {
         return first;
@@ -304,7 +304,7 @@ fn first_among<'a>(
     file: u64,
     units: &[u16],
 ) -> Option<(u64, &'a StreamRow)>
-    ensures { option_map (λ e. (e.0, e.1.now.stream)) result ≡ slice_get (rows_after upcase.now file units.now (rows_at (streams_in table.now.rows) entries.now)) 0 }
+    ensures { option_map (λ e. (e.0, e.1.now.stream)) result ≡ slice_get (rows_after upcase.now file units.now (rows_of_entries (streams_in table.now.rows) entries.now)) 0 }
 {
     let mut first = None;
     // A stream is put before the first that its name comes before, so that the last of them is looked at first.
@@ -322,7 +322,7 @@ fn find_after(
     file: u64,
     units: &[u16],
 ) -> Option<u64>
-    ensures { result ≡ number_after upcase.now file units.now (rows_at (streams_in table.now.rows) entries.now) }
+    ensures { result ≡ stream_number_after upcase.now file units.now (rows_of_entries (streams_in table.now.rows) entries.now) }
 {
     match first_among(table, entries, upcase, file, units) {
         None => None,
@@ -415,7 +415,7 @@ fn remove(table: &mut Table<StreamRow>, files: &mut KeyIndex, id: u64)
     ensures rows { table.new.rows ≡ without_row table.old.rows id }
     ensures last { table.new.last ≡ table.old.last }
     ensures room { table.old.room ≤ table.new.room }
-    ensures indexed { IsIndexOf file_key (streams_in table.old.rows) files.old.entries → IsIndexOf file_key (streams_in table.new.rows) files.new.entries }
+    ensures indexed { IsIndexOf stream_file_key (streams_in table.old.rows) files.old.entries → IsIndexOf stream_file_key (streams_in table.new.rows) files.new.entries }
     ensures kept { files.old.room ≤ files.new.room }
 {
     let _numbered = table.len();

@@ -14,16 +14,16 @@ pub record SinkState : Type 0 where
   pub since_fault : ℕ  -- how many calls were made since the last that failed
 
 -- a new sink: nothing was written and no call was made
-abbrev pub begun : ℕ → ℕ → List ℕ → SinkState
-begun room piece failing = record { written = []; room = room; piece = piece; failing = failing; calls = 0; faults = 0; empty_puts = 0; since_fault = 0 }
+abbrev pub fresh_sink : ℕ → ℕ → List ℕ → SinkState
+fresh_sink room piece failing = record { written = []; room = room; piece = piece; failing = failing; calls = 0; faults = 0; empty_puts = 0; since_fault = 0 }
 
 -- the room is full
-abbrev pub is_full : SinkState → Bool
-is_full sink = nat_le sink.room (length sink.written)
+abbrev pub is_sink_full : SinkState → Bool
+is_sink_full sink = nat_le sink.room (length sink.written)
 
 -- the next call, of a piece of this length, is listed, or has bytes for a room that is full
 abbrev pub fails_next : SinkState → ℕ → Bool
-fails_next sink count = list_any (λ number. number == one_more sink.calls) sink.failing || (nat_lt 0 count && is_full sink)
+fails_next sink count = list_any (λ number. number == one_more sink.calls) sink.failing || (nat_lt 0 count && is_sink_full sink)
 
 -- how many bytes a call that doesn't fail takes of a piece of this length
 abbrev pub count_taken : SinkState → ℕ → ℕ

@@ -14,8 +14,8 @@ pub record SourceState : Type 0 where
   pub since : ℕ  -- how many calls were made since the last that failed or met the end
 
 -- a new source: no call was made
-abbrev pub begun : List ℕ → ℕ → List ℕ → SourceState
-begun bytes piece failing = record { left = bytes; piece = piece; failing = failing; calls = 0; faults = 0; given = 0; stops = 0; since = 0 }
+abbrev pub fresh_source : List ℕ → ℕ → List ℕ → SourceState
+fresh_source bytes piece failing = record { left = bytes; piece = piece; failing = failing; calls = 0; faults = 0; given = 0; stops = 0; since = 0 }
 
 -- the next call is listed
 abbrev pub fails_next : SourceState → Bool

@@ -10,8 +10,8 @@ pub record OutputState : Type 0 where
   pub since_fault : ℕ  -- how many were made since the last that failed
 
 -- a new sink: no call was made
-abbrev pub begun : OutputState
-begun = record { puts = 0; faults = 0; empty_puts = 0; since_fault = 0 }
+abbrev pub fresh_output : OutputState
+fresh_output = record { puts = 0; faults = 0; empty_puts = 0; since_fault = 0 }
 
 -- a call, of a piece of this length, that didn't fail was made
 abbrev pub after_put : OutputState → ℕ → OutputState

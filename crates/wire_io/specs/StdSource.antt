@@ -11,8 +11,8 @@ pub record InputState : Type 0 where
   pub since : ℕ  -- how many calls were made since the last that failed or met the end
 
 -- a new source: no call was made
-abbrev pub begun : InputState
-begun = record { takes = 0; faults = 0; given = 0; stops = 0; since = 0 }
+abbrev pub fresh_input : InputState
+fresh_input = record { takes = 0; faults = 0; given = 0; stops = 0; since = 0 }
 
 -- a call that gave n bytes into a buffer of this length was made
 abbrev pub after_take : InputState → ℕ → ℕ → InputState

@@ -2,7 +2,7 @@
 ghost use Rattle.std.specs.Prelude.{◌≡◌, ◌≢◌, ◌+◌, ◌≤◌, ◌<◌, ◌↔◌, [], Some, length, IfOk, OnErr, IsErr, IsTrue};
 ghost use Rattle.wire_io.specs.Faults.{HasCause};
 ghost use Rattle.wire_io.specs.Sink.{CountsPut, Puts};
-ghost use Rattle.wire_io.specs.MemorySink.{begun, fails_next, count_taken, empty_after, after_put, after_fault};
+ghost use Rattle.wire_io.specs.MemorySink.{fresh_sink, fails_next, count_taken, empty_after, after_put, after_fault};
 
 use super::faults::{Failed, one_more};
 use super::sinks::Sink;
@@ -46,7 +46,7 @@ impl MemorySink {
         failing: &[u64],
     ) -> Result<MemorySink, NoMemory>
         requires { piece ≢ 0 }
-        ensures { IfOk result (λ sink. sink ≡ begun room piece failing.now) }
+        ensures { IfOk result (λ sink. sink ≡ fresh_sink room piece failing.now) }
     {
         let bytes = Vec::with_capacity(alloc, room)?;
         let failing = Vec::from_slice(alloc, failing)?;

@@ -2,7 +2,7 @@
 ghost use Rattle.std.specs.Prelude.{◌≡◌, ◌≢◌, ◌+◌, ◌≤◌, ◌↔◌, [], length, IfOk, OnOk, OnErr, IsErr, IsTrue, if◌then◌else◌};
 ghost use Rattle.wire_io.specs.Faults.{HasCause, one_more};
 ghost use Rattle.wire_io.specs.Source.{Takes, CountsTake};
-ghost use Rattle.wire_io.specs.MemorySource.{begun, met_end, fails_next, count_given, after_take, after_fault};
+ghost use Rattle.wire_io.specs.MemorySource.{fresh_source, met_end, fails_next, count_given, after_take, after_fault};
 
 use super::faults::{Failed, one_more};
 use super::sources::Source;
@@ -44,7 +44,7 @@ impl MemorySource {
         failing: &[u64],
     ) -> Result<MemorySource, NoMemory>
         requires { piece ≢ 0 }
-        ensures { IfOk result (λ source. source ≡ begun bytes.now piece failing.now) }
+        ensures { IfOk result (λ source. source ≡ fresh_source bytes.now piece failing.now) }
     {
         let bytes = Vec::from_slice(alloc, bytes)?;
         let failing = Vec::from_slice(alloc, failing)?;

@@ -5,7 +5,7 @@ ghost use Rattle.wire_io.specs.Sink.{CountsPut, Puts};
 ghost use Rattle.wire_io.specs.Source.{CountsTake, Takes};
 ghost use Rattle.wire_io.specs.MemorySource.{met_end};
 ghost use Rattle.wire_io.specs.StdSink as std_sink;
-ghost use Rattle.wire_io.specs.StdSource.{begun, after_take, after_fault};
+ghost use Rattle.wire_io.specs.StdSource.{fresh_input, after_take, after_fault};
 
 use super::faults::{Failed, one_more};
 use super::sinks::Sink;
@@ -36,7 +36,7 @@ impl<I: Read> Model for StdSource<I> {
 impl<I: Read> StdSource<I> {
     /// A source over a reader, as `StdSource::new(rt.reader())`.
     pub fn new(input: I) -> StdSource<I>
-        ensures { result ≡ begun }
+        ensures { result ≡ fresh_input }
     {
         StdSource {
             input,
@@ -117,7 +117,7 @@ impl<O: Write> Model for StdSink<O> {
 impl<O: Write> StdSink<O> {
     /// A sink over a writer, as `StdSink::new(io::writer(&rt))`.
     pub fn new(output: O) -> StdSink<O>
-        ensures { result ≡ std_sink.begun }
+        ensures { result ≡ std_sink.fresh_output }
     {
         StdSink {
             output,

@@ -3,7 +3,7 @@ use Rattle.std.proofs.Common.{◌≡◌, rules, refl}
 use Rattle.link_index.proofs.EntryLaws.{answers_by}
 use Rattle.link_index.specs.Keyed.{cmp_keys}
 use Rattle.link_index.specs.Beginnings.{name_key}
-use Rattle.link_index.specs.Directory.{link_at}
+use Rattle.link_index.specs.Directory.{link_numbered}
 use Rattle.link_index.proofs.NameLemmas.{place-of}
 use Rattle.link_index.proofs.directory.place_among.Goals as goal
 
@@ -11,6 +11,6 @@ use Rattle.link_index.proofs.directory.place_among.Goals as goal
 pub returns : goal.returns
 returns c =
     let facts = c.binary_search_by.ensures in
-    let by_name = facts.position (λ id. cmp_keys (name_key c.args.table.now (link_at c.args.links.now.rows id)) (upcased c.args.table.now c.args.units.now))
+    let by_name = facts.position (λ id. cmp_keys (name_key c.args.table.now (link_numbered c.args.links.now.rows id)) (upcased c.args.table.now c.args.units.now))
     (answers_by _ _ (λ f. (f.0.now ≡ c.args.links.now) × (f.1.now ≡ c.args.table.now) × (f.2.now ≡ c.args.units.now)) (λ f a r g called same. (search rules, search rules)) _ (refl, refl, refl)) in
     place-of c.args.table.now c.args.links.now.rows c.args.numbers.now (upcased c.args.table.now c.args.units.now) c.requires c.binary_search_by.result facts.bound by_name

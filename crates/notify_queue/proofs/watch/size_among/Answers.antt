@@ -1,6 +1,6 @@
 use Rattle.std.proofs.Common.{List, ap, sym, ◌∙◌, suc, arith}
 use Rattle.notify_queue.specs.Due.{due_among, size_from}
-use Rattle.notify_queue.specs.declared.part.Entry.{Entry}
+use Rattle.notify_queue.specs.declared.part.LogEntry.{LogEntry}
 use Rattle.notify_queue.proofs.DueLaws.{size-step}
 use Rattle.notify_queue.proofs.watch.size_among.Goals as goal
 
@@ -12,7 +12,7 @@ entries-preserved c =
     let bound = c.size_with-size.ensures.bound in
     record {
       all = rw c.size_with-size.ensures.size
-          (step ∙ ap (λ (entries : List Entry). size_from c.entries.size (due_among c.args.watch.now c.args.units.now c.args.dirs.now entries)) (sym c.in-Some.ensures.cases.0) ∙ c.entries.invariant.all);
+          (step ∙ ap (λ (entries : List LogEntry). size_from c.entries.size (due_among c.args.watch.now c.args.units.now c.args.dirs.now entries)) (sym c.in-Some.ensures.cases.0) ∙ c.entries.invariant.all);
       lie = λ k d within. lie (suc k) d (omega arith);
       few = omega arith;
     }

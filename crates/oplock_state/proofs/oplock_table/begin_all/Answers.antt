@@ -1,5 +1,5 @@
 use Rattle.std.proofs.Common.{ℕ, ◌+◌, ◌<◌, List, length, sym, subst, arith}
-use Rattle.fsa_types.specs.OplockLists.{effect_on, left_by}
+use Rattle.fsa_types.specs.OplockLists.{effect_on, left_by_effect}
 use Rattle.fsa_types.specs.Oplocks.{Oplock}
 use Rattle.volume_breaks.specs.Oplocks.{state_of}
 use Rattle.oplock_state.specs.Homes.{home_of_handle}
@@ -36,7 +36,7 @@ loop-place-preserved c =
       room = λ key.
           (let before = c.loop-place.invariant.room key in
           let more = steps-room (home_of_handle c.args.handles.now.rows oplock.handle) c.loop-place.tables new
-          (λ home. left_by (effect_on c.args.class oplock) oplock.handle (c.loop-place.last + 1) (rows_at c.loop-place.tables home)) _ home c.begin_in_table-last.ensures.step key in
+          (λ home. left_by_effect (effect_on c.args.class oplock) oplock.handle (c.loop-place.last + 1) (rows_at c.loop-place.tables home)) _ home c.begin_in_table-last.ensures.step key in
           omega arith);
       numbers = (let few = last-few (effect_on c.args.class oplock) c.loop-place.last in let before = c.loop-place.invariant.numbers in omega arith);
     }

@@ -5,7 +5,7 @@ use Rattle.fsa_types.proofs.PlaceLemmas.{row_of-missing}
 use Rattle.fsa_types.specs.Oplocks.{Oplock}
 use Rattle.oplock_state.proofs.TableLemmas.{AreTables-put, rows_at-some, room_at-some, last_at-some, rows_at-none, step-put}
 use Rattle.volume_tables.proofs.PlaceLemmas.{row-at, put-at}
-use Rattle.fsa_types.specs.OplockLists.{effect_on, left_by}
+use Rattle.fsa_types.specs.OplockLists.{effect_on, left_by_effect}
 use Rattle.oplock_state.proofs.stream_tables.begin.Goals as goal
 
 pub unreachable-requires : goal.unreachable-requires
@@ -37,7 +37,7 @@ returns-clause-step c =
     let room = room_at-some c.args.tables.now c.args.key _ row in
     let more = c.begin_one.ensures.room in
     step-put c.args.tables.now new c.args.key c.begin_one.new.table _ _ 0 put
-    (c.begin_one.ensures.rows ∙ ap (λ (r : List Oplock). left_by (effect_on c.args.class c.args.oplock) c.args.oplock.handle (c.args.first - 1 + 1) r) (sym (rows_at-some c.args.tables.now c.args.key _ row)))
+    (c.begin_one.ensures.rows ∙ ap (λ (r : List Oplock). left_by_effect (effect_on c.args.class c.args.oplock) c.args.oplock.handle (c.args.first - 1 + 1) r) (sym (rows_at-some c.args.tables.now c.args.key _ row)))
     c.begin_one.ensures.last
     (omega arith)
 

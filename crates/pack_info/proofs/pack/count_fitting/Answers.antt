@@ -1,5 +1,5 @@
 use Rattle.std.proofs.Common.{◌≡◌, ◌+◌, ◌<◌, length, [], arith}
-use Rattle.fsa_types.specs.Packing.{head_size, name_of}
+use Rattle.fsa_types.specs.Packing.{head_size, name_field}
 use Rattle.pack_info.proofs.PackLaws.{stops_at, ends_at, name-bounds, head-small, nothing_left}
 use Rattle.pack_info.proofs.pack.count_fitting.Goals as goal
 
@@ -22,7 +22,7 @@ overflow_add-used g c =
 
 pub returns-then-used-size : goal.returns-then-used-size
 returns-then-used-size g c =
-    let long : c.args.room < c.rows.used + (head_size c.args.kind + length (name_of c.args.kind (g.T.Row.row_of c.in-Some.row.now).name)) = rw (← c.units-units.ensures, ← c.size_of_name.ensures, ← c.size_of_head.ensures) c.if-used-size.true in
+    let long : c.args.room < c.rows.used + (head_size c.args.kind + length (name_field c.args.kind (g.T.Row.row_of c.in-Some.row.now).name)) = rw (← c.units-units.ensures, ← c.size_of_name.ensures, ← c.size_of_head.ensures) c.if-used-size.true in
     stops_at g.T.Row.row_of c.args.kind c.rows.used c.args.room c.rows.count c.args.rows.now c.rows.rest.now c.in-Some.more.now c.in-Some.row.now c.in-Some.ensures.cases.0 c.rows.invariant.all long
 
 pub returns : goal.returns

@@ -2,7 +2,7 @@ use Rattle.std.proofs.Common.{◌≡◌, ◌∙◌, ◌-◌, ◌<◌, ℕ, suc, 
 use Rattle.std.proofs.Math.ListN.{set}
 use Rattle.std.proofs.lemmas.List.{get_or_read}
 use Rattle.pending_queue.specs.declared.waits.Wait.{Wait}
-use Rattle.pending_queue.specs.Waits.{end_of, is_turn, nothing, over, over_at, slot}
+use Rattle.pending_queue.specs.Waits.{end_of, is_turn, nothing, ended_where, over_at, slot}
 use Rattle.pending_queue.proofs.WaitLemmas.{Walked, Walked-done, Walked-start, Walked-step, Stepped, of_turn, stepped}
 use Rattle.pending_queue.proofs.waits.drop_each.Goals as goal
 
@@ -42,7 +42,7 @@ loop-end-preserved c =
     let kept = c.loop-end.invariant in
     let place : ℕ = c.loop-end.end - 1 in
     let waits = c.loop-end.waits.items in
-    let put : set waits place c.without_turn.result ≡ over_at (is_turn c.args.turn) waits place = ap (set waits place) (c.without_turn.ensures ∙ ap (over (is_turn c.args.turn)) (is_read c)) in
+    let put : set waits place c.without_turn.result ≡ over_at (is_turn c.args.turn) waits place = ap (set waits place) (c.without_turn.ensures ∙ ap (ended_where (is_turn c.args.turn)) (is_read c)) in
     record {
       walked = rw put (Walked-step (length c.args.heads.now) (of_turn c.args.turn) c.args.waits.now.items waits place c.index-wait.result.now.turn_link (walked-so-far c) (one-step c));
       len = kept.len;

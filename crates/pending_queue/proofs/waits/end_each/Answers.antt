@@ -1,7 +1,7 @@
 use Rattle.std.proofs.Common.{◌≡◌, ◌∙◌, ◌-◌, ◌<◌, ℕ, suc, refl, ap, arith, get_or, length, subst, sym}
 use Rattle.std.proofs.lemmas.List.{get_or_read, length-map}
 use Rattle.pending_queue.specs.declared.waits.Wait.{Wait}
-use Rattle.pending_queue.specs.Waits.{end_of, nothing, number_of, slot}
+use Rattle.pending_queue.specs.Waits.{end_of, nothing, blocker_number, slot}
 use Rattle.pending_queue.proofs.CountLemmas.{differ-turns}
 use Rattle.pending_queue.proofs.WaitLemmas.{Walked, Walked-done, Walked-start, Walked-step, Stepped, discount-over, none-discounted, none-left, of_blocker, stepped}
 use Rattle.pending_queue.proofs.waits.end_each.Goals as goal
@@ -9,10 +9,10 @@ use Rattle.pending_queue.proofs.waits.end_each.Goals as goal
 pub loop-end-init : goal.loop-end-init
 loop-end-init c =
     let heads = c.args.heads.now in
-    let own : c.slot_of.result ≡ slot (length heads) (number_of c.args.blocker) = c.slot_of.ensures ∙ ap (slot (length heads)) c.number_of.ensures in
+    let own : c.slot_of.result ≡ slot (length heads) (blocker_number c.args.blocker) = c.slot_of.ensures ∙ ap (slot (length heads)) c.blocker_number.ensures in
     let all : c.len.result ≡ length c.args.waits.now.items = omega arith in
-    let end : c.end_of-end.result ≡ end_of heads (slot (length heads) (number_of c.args.blocker)) (length c.args.waits.now.items) =
-    c.end_of-end.ensures ∙ ap (λ k. end_of heads k c.len.result) own ∙ ap (end_of heads (slot (length heads) (number_of c.args.blocker))) all in
+    let end : c.end_of-end.result ≡ end_of heads (slot (length heads) (blocker_number c.args.blocker)) (length c.args.waits.now.items) =
+    c.end_of-end.ensures ∙ ap (λ k. end_of heads k c.len.result) own ∙ ap (end_of heads (slot (length heads) (blocker_number c.args.blocker))) all in
     record {
       walked = Walked-start heads (of_blocker c.args.blocker) c.args.waits.now.items c.end_of-end.result c.requires.linked end;
       counts = refl;

@@ -6,14 +6,14 @@ use Rattle.fsa_types.specs.OplockLists.{OplockState, IsCopy, IsSoundOplock, afte
 use Rattle.fsa_types.specs.Oplocks.{Oplock}
 use Rattle.volume_breaks.proofs.BreakLemmas.{fold-more, fold-all}
 use Rattle.volume_breaks.proofs.ToldLemmas.{told-more}
-use Rattle.volume_breaks.specs.Oplocks.{Held, state_of}
+use Rattle.volume_breaks.specs.Oplocks.{OplocksView, state_of}
 use Rattle.volume_breaks.specs.Told.{told_all}
 use Rattle.volume_breaks.proofs.telling.break_oplocks.Goals as goal
 
 pub break_one-requires-clause-room : goal.break_one-requires-clause-room
 break_one-requires-clause-room c =
-    let same = ap (λ (held : Held). length held.chosen) c.loop-place.invariant.others in
-    let quiet = ap (λ (held : Held). length held.chosen) c.tell_nobody.ensures in
+    let same = ap (λ (held : OplocksView). length held.chosen) c.loop-place.invariant.others in
+    let quiet = ap (λ (held : OplocksView). length held.chosen) c.tell_nobody.ensures in
     let count = c.chosen_len-place-end.ensures in
     let few = c.loop-place.invariant.few in
     omega arith
@@ -21,8 +21,8 @@ break_one-requires-clause-room c =
 pub break_one-requires-clause-sound : goal.break_one-requires-clause-sound
 break_one-requires-clause-sound c =
     let chosen : List Oplock = c.args.oplocks.now.chosen in
-    let same : c.loop-place.oplocks.chosen ≡ chosen = ap (λ (held : Held). held.chosen) c.loop-place.invariant.others in
-    let quiet = ap (λ (held : Held). length held.chosen) c.tell_nobody.ensures in
+    let same : c.loop-place.oplocks.chosen ≡ chosen = ap (λ (held : OplocksView). held.chosen) c.loop-place.invariant.others in
+    let quiet = ap (λ (held : OplocksView). length held.chosen) c.tell_nobody.ensures in
     let count = c.chosen_len-place-end.ensures in
     let read : c.chosen_at-oplock.result ≡ get_or chosen c.loop-place.place c.chosen_at-oplock.result = rw same at c.chosen_at-oplock.ensures in
     subst IsSoundOplock (sym read) (c.requires.sound c.loop-place.place c.chosen_at-oplock.result (omega arith))
@@ -30,8 +30,8 @@ break_one-requires-clause-sound c =
 pub break_one-requires-clause-copy : goal.break_one-requires-clause-copy
 break_one-requires-clause-copy c =
     let chosen : List Oplock = c.args.oplocks.now.chosen in
-    let same : c.loop-place.oplocks.chosen ≡ chosen = ap (λ (held : Held). held.chosen) c.loop-place.invariant.others in
-    let quiet = ap (λ (held : Held). length held.chosen) c.tell_nobody.ensures in
+    let same : c.loop-place.oplocks.chosen ≡ chosen = ap (λ (held : OplocksView). held.chosen) c.loop-place.invariant.others in
+    let quiet = ap (λ (held : OplocksView). length held.chosen) c.tell_nobody.ensures in
     let count = c.chosen_len-place-end.ensures in
     let read : c.chosen_at-oplock.result ≡ get_or chosen c.loop-place.place c.chosen_at-oplock.result = rw same at c.chosen_at-oplock.ensures in
     subst (IsCopy c.loop-place.oplocks.rows) (sym read) (c.loop-place.invariant.copies c.loop-place.place c.chosen_at-oplock.result (omega arith))
@@ -40,8 +40,8 @@ pub loop-place-preserved : goal.loop-place-preserved
 loop-place-preserved c =
     let chosen : List Oplock = c.args.oplocks.now.chosen in
     let step : OplockState → Oplock → OplockState = λ now o. after_effect (effect_on c.args.class o) o.handle now in
-    let same : c.loop-place.oplocks.chosen ≡ chosen = ap (λ (held : Held). held.chosen) c.loop-place.invariant.others in
-    let quiet = ap (λ (held : Held). length held.chosen) c.tell_nobody.ensures in
+    let same : c.loop-place.oplocks.chosen ≡ chosen = ap (λ (held : OplocksView). held.chosen) c.loop-place.invariant.others in
+    let quiet = ap (λ (held : OplocksView). length held.chosen) c.tell_nobody.ensures in
     let count = c.chosen_len-place-end.ensures in
     let within : c.loop-place.place < length chosen = omega arith in
     let read : c.chosen_at-oplock.result ≡ get_or chosen c.loop-place.place c.chosen_at-oplock.result = rw same at c.chosen_at-oplock.ensures in
@@ -50,7 +50,7 @@ loop-place-preserved c =
           ∙ sym (fold-more step (state_of c.loop-place.oplocks) chosen c.loop-place.place c.chosen_at-oplock.result within read)
           ∙ c.loop-place.invariant.oplocks;
       others = c.break_one.ensures.others
-          ∙ ap (λ (held : Held). record held { rows = c.break_one.new.oplocks.rows; last = c.break_one.new.oplocks.last; told = c.break_one.new.oplocks.told }) c.loop-place.invariant.others;
+          ∙ ap (λ (held : OplocksView). record held { rows = c.break_one.new.oplocks.rows; last = c.break_one.new.oplocks.last; told = c.break_one.new.oplocks.told }) c.loop-place.invariant.others;
       copies = λ k d within.
           subst (λ (held : OplockState). IsCopy held.oplocks (get_or chosen k d)) (sym c.break_one.ensures.oplocks)
           (IsCopy-effect (effect_on c.args.class c.chosen_at-oplock.result) c.chosen_at-oplock.result.handle (state_of c.loop-place.oplocks) (get_or chosen k d) (c.loop-place.invariant.copies k d within));
@@ -63,13 +63,13 @@ loop-place-preserved c =
 pub returns-clause-oplocks : goal.returns-clause-oplocks
 returns-clause-oplocks c =
     let step : OplockState → Oplock → OplockState = λ now o. after_effect (effect_on c.args.class o) o.handle now in
-    let quiet = ap (λ (held : Held). length held.chosen) c.tell_nobody.ensures in
+    let quiet = ap (λ (held : OplocksView). length held.chosen) c.tell_nobody.ensures in
     let count = c.chosen_len-place-end.ensures in
     sym (fold-all step (state_of c.loop-place.oplocks) c.args.oplocks.now.chosen c.loop-place.place (omega arith)) ∙ c.loop-place.invariant.oplocks
 
 pub returns-clause-told : goal.returns-clause-told
 returns-clause-told c =
-    let quiet = ap (λ (held : Held). length held.chosen) c.tell_nobody.ensures in
+    let quiet = ap (λ (held : OplocksView). length held.chosen) c.tell_nobody.ensures in
     let count = c.chosen_len-place-end.ensures in
     sym (ap (λ (rest : List Oplock). c.loop-place.oplocks.told ++ told_all c.args.class rest) (drop_all c.loop-place.place c.args.oplocks.now.chosen (omega arith))
     ∙ append-nil c.loop-place.oplocks.told)

@@ -6,7 +6,7 @@ use Rattle.fsa_model.proofs.RowLaws.{without_row-none}
 use Rattle.key_index.proofs.RowLaws.{index-removed}
 use Rattle.volume_rows.specs.Streams.{StreamRowView, streams_in}
 use Rattle.volume_rows.specs.declared.rows.StreamInfo.{StreamInfo}
-use Rattle.volume_tables.specs.StreamTable.{file_key}
+use Rattle.volume_tables.specs.StreamTable.{stream_file_key}
 use Rattle.volume_tables.proofs.StreamLemmas.{IsNumbered-seen}
 use Rattle.volume_tables.proofs.stream_table.remove.Goals as goal
 
@@ -21,4 +21,4 @@ returns-in-Some-clause-indexed c is =
     let seen : row_of (streams_in rows) c.args.id ≡ Some row.stream = row_of-map (λ kept. kept.stream) rows c.args.id ∙ ap (option_map (λ (kept : StreamRowView). kept.stream)) (sym c.in-Some.ensures.row) in
     let file : c.info.result.now.file ≡ row.stream.file = ap (λ (info : StreamInfo). info.file) c.info.ensures in
     rw (c.in-Some.ensures.rows, map-filter_seen (λ kept. kept.stream) (λ e. not (e.0 == c.args.id)) rows, c.remove-in-Some.ensures.entries, file)
-    (index-removed file_key (streams_in rows) c.args.table.now.last c.args.files.now.entries c.args.id row.stream (IsNumbered-seen (λ kept. kept.stream) rows c.args.table.now.last c.len-numbered.ensures.numbered) is seen)
+    (index-removed stream_file_key (streams_in rows) c.args.table.now.last c.args.files.now.entries c.args.id row.stream (IsNumbered-seen (λ kept. kept.stream) rows c.args.table.now.last c.len-numbered.ensures.numbered) is seen)

@@ -3,7 +3,7 @@ use Rattle.std.proofs.lemmas.List.{length-map}
 use Rattle.fsa_types.specs.CaseTable.{upcased}
 use Rattle.fsa_model.specs.Volume.{Link}
 use Rattle.link_index.specs.Beginnings.{name_key}
-use Rattle.link_index.specs.Directory.{AreInNameOrder, link_at, links_at}
+use Rattle.link_index.specs.Directory.{AreInNameOrder, link_numbered, links_at}
 use Rattle.link_index.specs.Heads.{link_head}
 use Rattle.link_index.specs.Keyed.{IsKeyPlace}
 use Rattle.link_index.proofs.EntryLaws.{slice_get-here}
@@ -32,7 +32,7 @@ pub returns-in-Ok-clause-link : goal.returns-in-Ok-clause-link
 returns-in-Ok-clause-link c =
     let numbers = c.self.inside.numbers.items in
     let place : IsKeyPlace (name_key c.args.table.now) (links_at c.args.links.now.rows numbers) (upcased c.args.table.now c.args.units.now) (Ok c.in-Ok.place) = rw c.as_slice-2.ensures at c.in-Ok.ensures in
-    let many : length (links_at c.args.links.now.rows numbers) ≡ length numbers = length-map numbers (link_at c.args.links.now.rows) in
+    let many : length (links_at c.args.links.now.rows numbers) ≡ length numbers = length-map numbers (link_numbered c.args.links.now.rows) in
     let within : c.in-Ok.place < length numbers = omega (arith, many, place.0) in
     rw (← c.self.view_is) (sym (slice_get-here numbers c.in-Ok.place c.remove-in-Ok.result within c.remove-in-Ok.ensures.value) ∙ child-here c.args.table.now c.args.links.now.rows numbers c.args.units.now c.in-Ok.place place)
 

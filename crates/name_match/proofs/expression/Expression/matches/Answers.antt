@@ -19,5 +19,5 @@ pub returns-in-Suffix : goal.returns-in-Suffix
 returns-in-Suffix c =
     let served = planned-serves c.self.inside.plan c.self.inside.units.items c.self.invariant.planned in
     let star = rw c.in-Suffix.is at served in
-    rw (← c.self.view_is, c.ends_in.ensures, take_rest, c.deref-in-Suffix.ensures.value)
+    rw (← c.self.view_is, c.has_ending.ensures, take_rest, c.deref-in-Suffix.ensures.value)
     (sym (matches-suffix c.args.table.now c.self.inside.units.items c.args.units.now star))

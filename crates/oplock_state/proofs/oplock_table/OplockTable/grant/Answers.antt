@@ -3,7 +3,7 @@ use Rattle.std.specs.Prelude.{option_map}
 use Rattle.fsa_types.specs.OplockGrants.{after_grant, is_refused_among}
 use Rattle.fsa_types.specs.Oplocks.{Oplock}
 use Rattle.oplock_state.specs.Homes.{home_of_stream, rooms_of_streams}
-use Rattle.oplock_state.specs.Tables.{AreSorted, IsStep, is_at, last_at, rows_at}
+use Rattle.oplock_state.specs.Tables.{AreSorted, IsStep, is_oplock_of_stream, last_at, rows_at}
 use Rattle.oplock_state.proofs.HomeLemmas.{room-of_stream}
 use Rattle.oplock_state.proofs.SortLemmas.{fit-step, homes-differ, rows-on, sorted-grant}
 use Rattle.volume_breaks.proofs.GrantLemmas.{refused-on}
@@ -40,7 +40,7 @@ returns-in-Refused-clause-grants c =
     let asked = c.args.asked.now in
     let sorted : AreSorted handles i.list.rows i.tables = rw (← c.self.view_is) at c.requires.sorted in
     let same = ap (is_refused_among (λ _. true) asked.handle asked.key asked.level asked.others asked.locked) (ap (rows_at i.tables) c.home_of_stream-home.ensures ∙ rows-on handles i.list.rows i.tables c.args.stream sorted)
-    ∙ refused-on (is_at handles c.args.stream) asked.handle asked.key asked.level asked.others asked.locked i.list.rows in
+    ∙ refused-on (is_oplock_of_stream handles c.args.stream) asked.handle asked.key asked.level asked.others asked.locked i.list.rows in
     rw (← c.self.view_is) (sym same ∙ c.in-Refused.ensures.grants.0, refl)
 
 pub returns-in-Granted-clause-grants : goal.returns-in-Granted-clause-grants
@@ -50,7 +50,7 @@ returns-in-Granted-clause-grants c =
     let asked = c.args.asked.now in
     let sorted : AreSorted handles i.list.rows i.tables = rw (← c.self.view_is) at c.requires.sorted in
     let same = ap (is_refused_among (λ _. true) asked.handle asked.key asked.level asked.others asked.locked) (ap (rows_at i.tables) c.home_of_stream-home.ensures ∙ rows-on handles i.list.rows i.tables c.args.stream sorted)
-    ∙ refused-on (is_at handles c.args.stream) asked.handle asked.key asked.level asked.others asked.locked i.list.rows in
+    ∙ refused-on (is_oplock_of_stream handles c.args.stream) asked.handle asked.key asked.level asked.others asked.locked i.list.rows in
     rw (← c.self.view_is) (sym same ∙ c.in-Granted.ensures.grants.0, c.grant_in_list.ensures.rows, c.grant_in_list.ensures.chosen)
 
 pub returns-in-Granted-clause-left : goal.returns-in-Granted-clause-left

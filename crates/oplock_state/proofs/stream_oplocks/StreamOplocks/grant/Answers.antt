@@ -4,7 +4,7 @@ use Rattle.std.proofs.Common.{length-append}
 use Rattle.fsa_types.specs.OplockGrants.{after_switches, switched_among}
 use Rattle.fsa_types.specs.Oplocks.{Oplock}
 use Rattle.volume_breaks.proofs.GrantLemmas.{none-left}
-use Rattle.volume_breaks.specs.Oplocks.{Held}
+use Rattle.volume_breaks.specs.Oplocks.{OplocksView}
 use Rattle.volume_tables.specs.Rooms.{room_in}
 use Rattle.oplock_state.proofs.OplockCounts.{marks-none, room-there, room-used, switches-few}
 use Rattle.oplock_state.proofs.stream_oplocks.StreamOplocks.grant.Goals as goal
@@ -23,7 +23,7 @@ pub returns-clause-left : goal.returns-clause-left
 returns-clause-left c =
     let few = switches-few c.self.inside.list.rows (switched_among (λ _. true) c.args.handle c.args.key c.self.inside.list.rows) in
     let rows : c.grant.new.self.rows ≡ after_switches c.self.inside.list.rows (switched_among (λ _. true) c.args.handle c.args.key c.self.inside.list.rows) ++ _ ∷ []
-    = rw (c.drop_chosen.ensures, c.choose_of_key.ensures) at (ap (λ (held : Held). held.rows) c.grant.ensures.rows) in
+    = rw (c.drop_chosen.ensures, c.choose_of_key.ensures) at (ap (λ (held : OplocksView). held.rows) c.grant.ensures.rows) in
     let same = c.clear.ensures.capacity in
     let left = rw (c.drop_chosen.ensures, c.choose_of_key.ensures) at c.grant.ensures.left in
     let long = ap length rows in

@@ -1,6 +1,6 @@
 use Rattle.std.proofs.Common.{◌≡◌, ◌∙◌, true, length, arith, ap}
 use Rattle.pending_queue.specs.declared.waits.Wait.{Wait}
-use Rattle.pending_queue.specs.Waits.{by_blocker, by_turn, end_of, link_of, number_of, slot, turn_link_of}
+use Rattle.pending_queue.specs.Waits.{by_blocker, by_turn, end_of, link_of, blocker_number, slot, turn_link_of}
 use Rattle.pending_queue.proofs.WaitLemmas.{AreLinked-pushed}
 use Rattle.pending_queue.proofs.waits.Waits.push.Goals as goal
 
@@ -10,7 +10,7 @@ invariant_of-self c =
     let wait : Wait = record { turn = c.args.turn; blocker = c.args.blocker; lives = true; link = c.end_of-link.result; turn_link = c.end_of-turn_link.result } in
     let many : c.len.result ≡ length i.heads.items = omega arith in
     let many_turns : c.len-3.result ≡ length i.turn_heads.items = omega arith in
-    let own : c.slot_of-own.result ≡ slot (length i.heads.items) (number_of wait.blocker) = c.slot_of-own.ensures ∙ ap (λ n. slot n c.number_of.result) many ∙ ap (slot (length i.heads.items)) c.number_of.ensures in
+    let own : c.slot_of-own.result ≡ slot (length i.heads.items) (blocker_number wait.blocker) = c.slot_of-own.ensures ∙ ap (λ n. slot n c.blocker_number.result) many ∙ ap (slot (length i.heads.items)) c.blocker_number.ensures in
     let turn_own : c.slot_of-turn_own.result ≡ slot (length i.turn_heads.items) wait.turn = c.slot_of-turn_own.ensures ∙ ap (λ n. slot n c.args.turn) many_turns in
     let all : c.len-2.result ≡ length i.waits.items = omega arith in
     let all_too : c.len-4.result ≡ length i.waits.items = omega arith in

@@ -9,7 +9,7 @@ returns-in-None c rows is =
     let i = c.self.inside in
     let index : IndexedHandles = record { calls = i.calls.entries; streams = i.streams.entries; links = i.links.entries; room = i.room } in
     let mine : AreIndexed rows index = rw (← c.self.view_is) at is in
-    let first = c.in-None.ensures.value ∙ ap (λ (es : List (ℕ × ℕ)). slice_get es 0) (rw c.key_of.ensures at c.of.ensures) in
+    let first = c.in-None.ensures.value ∙ ap (λ (es : List (ℕ × ℕ)). slice_get es 0) (rw c.call_key_of.ensures at c.of.ensures) in
     ap (option_map (λ (e : ℕ × ℕ). e.1)) first ∙ opened-first c.args.client c.args.number rows index c.ranges.number.fits mine
 
 pub returns-in-Some : goal.returns-in-Some
@@ -17,5 +17,5 @@ returns-in-Some c rows is =
     let i = c.self.inside in
     let index : IndexedHandles = record { calls = i.calls.entries; streams = i.streams.entries; links = i.links.entries; room = i.room } in
     let mine : AreIndexed rows index = rw (← c.self.view_is) at is in
-    let first = c.in-Some.ensures.value ∙ ap (λ (es : List (ℕ × ℕ)). slice_get es 0) (rw c.key_of.ensures at c.of.ensures) in
+    let first = c.in-Some.ensures.value ∙ ap (λ (es : List (ℕ × ℕ)). slice_get es 0) (rw c.call_key_of.ensures at c.of.ensures) in
     ap (option_map (λ (e : ℕ × ℕ). e.1)) first ∙ opened-first c.args.client c.args.number rows index c.ranges.number.fits mine

@@ -3,7 +3,7 @@ use Rattle.std.specs.Prelude.{filter, map}
 use Rattle.std.specs.Option.{option_copied}
 use Rattle.fsa_model.specs.Volume.{Link}
 use Rattle.volume_rows.specs.Children.{is_name_after}
-use Rattle.link_index.specs.Directory.{Listing, links_at}
+use Rattle.link_index.specs.Directory.{DirectoryView, links_at}
 use Rattle.volume_tables.proofs.DirectoryLaws.{children-found, children-missing, each-ordered, index_of-some}
 use Rattle.volume_tables.proofs.names_by_directory.NamesByDirectory.children_after.Goals as goal
 
@@ -19,6 +19,6 @@ returns-in-None c =
 pub returns-in-Some : goal.returns-in-Some
 returns-in-Some c =
     c.after.ensures
-    ∙ ap (λ (index : Listing). map (λ (e : ℕ × Link). e.0) (filter (λ (e : ℕ × Link). is_name_after c.args.table.now (option_copied c.args.after) e.1.name) (links_at c.args.links.now.rows index.numbers)))
+    ∙ ap (λ (index : DirectoryView). map (λ (e : ℕ × Link). e.0) (filter (λ (e : ℕ × Link). is_name_after c.args.table.now (option_copied c.args.after) e.1.name) (links_at c.args.links.now.rows index.numbers)))
     (sym (index_of-some c.args.self.now c.args.dir c.in-Some.index.now (sym c.in-Some.ensures)))
     ∙ ap (map (λ (e : ℕ × Link). e.0)) (children-found c.args.table.now c.args.links.now.rows c.args.links.now.last c.len.ensures.numbered c.args.self.now c.requires c.args.dir (option_copied c.args.after))

@@ -4,7 +4,7 @@ use Rattle.std.specs.Option.{option_copied}
 use Rattle.fsa_model.specs.Volume.{Link}
 use Rattle.volume_rows.specs.Children.{is_name_after}
 use Rattle.link_index.specs.Beginnings.{begins_with}
-use Rattle.link_index.specs.Directory.{Listing, links_at}
+use Rattle.link_index.specs.Directory.{DirectoryView, links_at}
 use Rattle.volume_tables.proofs.DirectoryLaws.{children-found, children-missing, each-ordered, index_of-some}
 use Rattle.volume_tables.proofs.names_by_directory.NamesByDirectory.children_beginning.Goals as goal
 
@@ -21,7 +21,7 @@ returns-in-None c =
 pub returns-in-Some : goal.returns-in-Some
 returns-in-Some c =
     c.beginning.ensures
-    ∙ ap (λ (index : Listing). map (λ (e : ℕ × Link). e.0) (filter (λ (e : ℕ × Link). begins_with c.args.table.now c.args.units.now e.1.name)
+    ∙ ap (λ (index : DirectoryView). map (λ (e : ℕ × Link). e.0) (filter (λ (e : ℕ × Link). begins_with c.args.table.now c.args.units.now e.1.name)
     (filter (λ (e : ℕ × Link). is_name_after c.args.table.now (option_copied c.args.after) e.1.name) (links_at c.args.links.now.rows index.numbers))))
     (sym (index_of-some c.args.self.now c.args.dir c.in-Some.index.now (sym c.in-Some.ensures)))
     ∙ ap (λ links. map (λ (e : ℕ × Link). e.0) (filter (λ (e : ℕ × Link). begins_with c.args.table.now c.args.units.now e.1.name) links))

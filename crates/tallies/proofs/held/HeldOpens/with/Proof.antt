@@ -29,11 +29,11 @@ use denote.Triple.Entry.{on_entry, alive, Args}
 use denote.Triple.Spec.{Meets, triple_of}
 use denote.Triple.Table.{entered}
 use denote.Triple.Walked.{says, stay_none_ref, Stays, walk_of, Walks, ends_at, walked, Goes-none_ref, walk_Meets}
-use Rattle.tallies.specs.contracts.held.Held.with.Key.{name as key}
-use Rattle.tallies.specs.contracts.held.Held.with as f
-use Rattle.tallies.proofs.held.Held.with.Statement as stated
-use Rattle.tallies.proofs.held.Held.with.Code as code
-use Rattle.tallies.specs.contracts.held.Held as T
+use Rattle.tallies.specs.contracts.held.HeldOpens.with.Key.{name as key}
+use Rattle.tallies.specs.contracts.held.HeldOpens.with as f
+use Rattle.tallies.proofs.held.HeldOpens.with.Statement as stated
+use Rattle.tallies.proofs.held.HeldOpens.with.Code as code
+use Rattle.tallies.specs.contracts.held.HeldOpens as T
 
 -- the masks of an open
 abbrev masks : RattleType

@@ -1,4 +1,4 @@
-use Rattle.fsa_machine.proofs.machine.Machine.turn.Given as goal
+use Rattle.fsa_machine.proofs.machine.StoreMachine.turn.Given as goal
 
 -- the ledger is that of the blank
 abbrev pub ghosts-turn_uncounted : goal.ghosts-turn_uncounted

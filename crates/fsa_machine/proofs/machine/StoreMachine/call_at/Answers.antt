@@ -3,7 +3,7 @@ use Rattle.std.specs.Prelude.{slice_get}
 use Rattle.std.proofs.lemmas.Option.{slice_get_read}
 use Rattle.fsa_machine.specs.declared.kept.KeptTurn.{KeptTurn}
 use Rattle.fsa_machine.proofs.StandLaws.{call-in}
-use Rattle.fsa_machine.proofs.machine.Machine.call_at.Goals as goal
+use Rattle.fsa_machine.proofs.machine.StoreMachine.call_at.Goals as goal
 
 pub returns : goal.returns
 returns g c =

@@ -2,7 +2,7 @@ use Rattle.fsa_model.proofs.CoherenceRuns.{run-coherent}
 use Rattle.fsa_model.proofs.NoticeEnds.{run-watches_report}
 use Rattle.fsa_machine.proofs.StandLaws.{RunsTo-none_ready, RunsTo-ends_once, released-turn}
 use Rattle.fsa_machine.proofs.TrimLaws.{RunsTo-trimmed}
-use Rattle.fsa_machine.proofs.machine.Machine.turn.Goals as goal
+use Rattle.fsa_machine.proofs.machine.StoreMachine.turn.Goals as goal
 
 pub returns-clause-none_is_ready : goal.returns-clause-none_is_ready
 returns-clause-none_is_ready g c = λ r runs. RunsTo-none_ready _ _ _ _ r c.turn_uncounted.ensures.stands runs

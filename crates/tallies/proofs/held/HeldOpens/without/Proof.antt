@@ -30,11 +30,11 @@ use denote.Triple.Spec.{Meets, triple_of}
 use denote.Triple.Table.{entered}
 use denote.Triple.Walked.{says, stay_none_ref, Stays, walk_of, Walks, ends_at, walked, Goes-none_ref, walk_Meets}
 use Rattle.tallies.specs.Held.{without_open}
-use Rattle.tallies.specs.contracts.held.Held.without.Key.{name as key}
-use Rattle.tallies.specs.contracts.held.Held.without as f
-use Rattle.tallies.proofs.held.Held.without.Statement as stated
-use Rattle.tallies.proofs.held.Held.without.Code as code
-use Rattle.tallies.specs.contracts.held.Held as T
+use Rattle.tallies.specs.contracts.held.HeldOpens.without.Key.{name as key}
+use Rattle.tallies.specs.contracts.held.HeldOpens.without as f
+use Rattle.tallies.proofs.held.HeldOpens.without.Statement as stated
+use Rattle.tallies.proofs.held.HeldOpens.without.Code as code
+use Rattle.tallies.specs.contracts.held.HeldOpens as T
 
 -- the masks of an open
 abbrev masks : RattleType

@@ -21,11 +21,11 @@ use denote.Triple.Entry.{on_entry, alive}
 use denote.Triple.Spec.{Meets, triple_of}
 use denote.Triple.Table.{entered}
 use denote.Triple.Walked.{says, Stays, walk_of, Walks, ends_at, walked, walk_Meets}
-use Rattle.tallies.specs.contracts.held.Held.none.Key.{name as key}
-use Rattle.tallies.specs.contracts.held.Held.none as f
-use Rattle.tallies.proofs.held.Held.none.Statement as stated
-use Rattle.tallies.proofs.held.Held.none.Code as code
-use Rattle.tallies.specs.contracts.held.Held as made
+use Rattle.tallies.specs.contracts.held.HeldOpens.none.Key.{name as key}
+use Rattle.tallies.specs.contracts.held.HeldOpens.none as f
+use Rattle.tallies.proofs.held.HeldOpens.none.Statement as stated
+use Rattle.tallies.proofs.held.HeldOpens.none.Code as code
+use Rattle.tallies.specs.contracts.held.HeldOpens as made
 
 abbrev stayed : Stays (f.ended).signature.params (f.ended).kept
 stayed = tt
