@@ -145,7 +145,9 @@ impl Bytes {
         ensures { result ≡ self }
     {
         match self.backing {
-            Backing::Own(bytes) => Bytes { backing: share(bytes) },
+            Backing::Own(bytes) => Bytes {
+                backing: share(bytes),
+            },
             backing => Bytes { backing },
         }
     }

@@ -57,7 +57,11 @@ fn closed(
 }
 
 // Tries to add the client's next number.
-fn add(alloc: Global, lock: &TurnLock<Adder>, pass: &mut Pass<Adder>) -> TurnAnswer<usize, Added, Why>
+fn add(
+    alloc: Global,
+    lock: &TurnLock<Adder>,
+    pass: &mut Pass<Adder>,
+) -> TurnAnswer<usize, Added, Why>
     requires { IsPassOf (λ adder. adder.limit) IsWithin lock.now pass.old }
     ensures pass { IsPassOf (λ adder. adder.limit) IsWithin lock.now pass.new }
     ensures client { (known pass.new).own.client ≡ (known pass.old).own.client }

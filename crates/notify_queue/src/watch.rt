@@ -254,7 +254,13 @@ fn rows_among(
 }
 
 // So many bytes with the entry behind them, where the watch asks for its change.
-fn size_with(size: u64, watch: &Watch, entry: &LogEntry, units: &[u16], dirs: &[(u64, usize)]) -> u64
+fn size_with(
+    size: u64,
+    watch: &Watch,
+    entry: &LogEntry,
+    units: &[u16],
+    dirs: &[(u64, usize)],
+) -> u64
     requires lies { (entry.now.first_unit + entry.now.units ≤ length units.now) × (entry.now.first_dir + entry.now.dirs ≤ length dirs.now) }
     requires few { size + 15 + 2 * entry.now.units < 2 ^ 64 }
     ensures size { result ≡ cond (asks_for watch.now units.now dirs.now entry.now) (rounded_to_4 size + change_size (told_from_change watch.now units.now dirs.now entry.now)) size }

@@ -291,7 +291,11 @@ fn end_each(
     ensures ready { ready.new.items ≡ sorted (ready_turns calls.new.items) }
     ensures places { vec_capacity ready.old ≤ vec_capacity ready.new }
 {
-    let mut end = end_of(heads, slot_of(heads.len(), blocker_number(blocker)), waits.len());
+    let mut end = end_of(
+        heads,
+        slot_of(heads.len(), blocker_number(blocker)),
+        waits.len(),
+    );
     while end > 0 {
         let place = end - 1;
         let link = waits[place].link;

@@ -15,7 +15,7 @@ use crate::engine::Engine;
 use crate::shared::SharedVolume;
 use fsa_machine::VolumeMachine;
 use fsa_types::{Answer, Call, CallId, NoMemory, Out, Poll, Setup, Status, Submitted, What, Why};
-use history_lock::{Looked, TurnLock, TurnAnswer};
+use history_lock::{Looked, TurnAnswer, TurnLock};
 use std::alloc::Global;
 use std::sync::Wait;
 
