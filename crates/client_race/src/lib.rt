@@ -16,12 +16,12 @@
 #![tactic(auto)]
 
 mod calls;
-mod closed;
 mod drive;
 mod pass_desk;
+mod race;
 mod racing;
 mod runner;
 
-pub use closed::race;
 pub use pass_desk::PassDesk;
+pub use race::race;
 pub use racing::race_history;

@@ -46,7 +46,7 @@ mod kept;
 mod lists;
 mod look;
 mod machine;
-mod own;
+mod own_call;
 mod replies;
 mod serving;
 mod settle;

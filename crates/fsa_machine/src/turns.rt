@@ -9,7 +9,7 @@ ghost use Rattle.fsa_machine.specs.Step.{HasReplyRoom};
 
 use crate::ends::EndLists;
 use crate::lists::{GivenLists, TurnLists, give};
-use crate::own::answer_own;
+use crate::own_call::answer_own;
 use crate::replies::ReplyRooms;
 use crate::settle::settle;
 use crate::steps::Steps;

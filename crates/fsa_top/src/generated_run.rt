@@ -10,7 +10,7 @@ ghost use Rattle.wire_io.specs.Faults.{FailsLast};
 ghost use Rattle.fsa_top.specs.Order.{IsWithinLimits};
 ghost use Rattle.fsa_top.specs.Summaries.{IsSummary, WritesSummary, WritesSummaryPart};
 
-use crate::nowhere::Nowhere;
+use crate::null_sink::Nowhere;
 use crate::order::Order;
 use crate::run::{begin, run_calls};
 use crate::summary::summary_of;

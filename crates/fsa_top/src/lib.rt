@@ -14,7 +14,7 @@
 mod generated_run;
 mod limits;
 mod lines;
-mod nowhere;
+mod null_sink;
 mod order;
 mod race_text;
 mod run;

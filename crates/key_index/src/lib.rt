@@ -26,8 +26,6 @@
 mod index;
 mod rows;
 mod search;
-#[cfg(test)]
-mod tests;
 
 pub use index::KeyIndex;
 pub use rows::index_of_rows;

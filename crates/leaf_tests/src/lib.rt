@@ -6,7 +6,13 @@
 #[cfg(test)]
 mod byte_io;
 #[cfg(test)]
+mod changes;
+#[cfg(test)]
 mod expressions;
+#[cfg(test)]
+mod held_calls;
+#[cfg(test)]
+mod keys;
 #[cfg(test)]
 mod packed;
 #[cfg(test)]
@@ -15,6 +21,8 @@ mod paths;
 mod ranges;
 #[cfg(test)]
 mod scripts;
+#[cfg(test)]
+mod stream_bytes;
 #[cfg(test)]
 mod tables;
 #[cfg(test)]

@@ -23,11 +23,11 @@
 #![tactic(auto)]
 
 mod component;
-mod cut;
 mod fault;
 mod order;
 mod path;
 mod stream;
+mod unit_split;
 
 pub use fault::NameFault;
 pub use order::order_of_names;

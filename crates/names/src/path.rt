@@ -8,9 +8,9 @@ ghost use Rattle.fsa_types.specs.Paths.{is_separator, path_pieces, pieces_fault,
 ghost use Rattle.names.specs.NameFault.{FindsFault};
 
 use crate::component::check_component;
-use crate::cut::{COLON, SEPARATOR, before, split_once};
 use crate::fault::NameFault;
 use crate::stream::check_stream;
+use crate::unit_split::{COLON, SEPARATOR, before, split_once};
 use std::marker::Model;
 
 // How many units a path has at most.

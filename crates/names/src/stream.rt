@@ -6,8 +6,8 @@ ghost use Rattle.fsa_types.specs.CaseTable.{up, ascii_pairs};
 ghost use Rattle.fsa_types.specs.Paths.{is_colon, is_bad_stream, is_data, stream_fault};
 ghost use Rattle.names.specs.NameFault.{FindsFault};
 
-use crate::cut::{COLON, split_once};
 use crate::fault::NameFault;
+use crate::unit_split::{COLON, split_once};
 
 // How many units the name of a stream has at most.
 const MOST_UNITS: usize = 255;

@@ -38,8 +38,6 @@
 mod log;
 mod part;
 mod past;
-#[cfg(test)]
-mod tests;
 mod watch;
 
 pub use log::ChangeLog;

@@ -28,8 +28,6 @@ mod calls;
 mod queue;
 mod ready;
 mod slots;
-#[cfg(test)]
-mod tests;
 mod waits;
 
 pub use queue::PendingQueue;

@@ -30,8 +30,6 @@ mod page;
 mod pages;
 mod parts;
 mod stream;
-#[cfg(test)]
-mod tests;
 
 pub use parts::Parts;
 pub use stream::Stream;

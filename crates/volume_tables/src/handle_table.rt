@@ -17,8 +17,8 @@ ghost use Rattle.volume_tables.specs.HandleTable.{next_of, stream_of_handle, ran
 ghost use Rattle.volume_tables.specs.Ranges.{ranges_in, room_at, AreSetIn};
 ghost use Rattle.volume_tables.specs.Rooms.{room_in};
 
-use crate::among::{count_all, count_among, some_clash, some_other_among};
 use crate::handle_index::HandleIndex;
+use crate::handle_scans::{count_all, count_among, some_clash, some_other_among};
 use crate::handle_shares::HandleShares;
 use crate::lock_row::LockRow;
 use crate::ranges::StreamRanges;

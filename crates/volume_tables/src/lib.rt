@@ -60,9 +60,9 @@
 //!   once it has been made, and so does an owner.
 #![tactic(auto)]
 
-mod among;
 mod call_key;
 mod handle_index;
+mod handle_scans;
 mod handle_shares;
 mod handle_table;
 mod link_table;

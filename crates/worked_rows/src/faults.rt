@@ -1,7 +1,7 @@
 //! Scripts in which requests wait and go on, over a source or a sink that fails at each of its calls in turn.
 
+use crate::failing_io::{over_memory, over_reluctant};
 use crate::program::{on_one_thread, repeated, run, words_of};
-use crate::troubles::{over_memory, over_reluctant};
 use std::alloc::Global;
 use std::test::Fail;
 use wire_io::{MemorySink, MemorySource};

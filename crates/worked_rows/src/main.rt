@@ -4,6 +4,8 @@
 #![tactic(auto)]
 
 #[cfg(test)]
+mod failing_io;
+#[cfg(test)]
 mod faults;
 #[cfg(test)]
 mod limits;
@@ -17,8 +19,6 @@ mod rows;
 mod shared;
 #[cfg(test)]
 mod tests;
-#[cfg(test)]
-mod troubles;
 #[cfg(test)]
 mod turns;
 

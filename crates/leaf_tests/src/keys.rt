@@ -1,6 +1,6 @@
-//! Each call that takes memory, with ample memory.
+//! An index of numbers under keys: each call that takes memory, with ample memory.
 
-use crate::KeyIndex;
+use key_index::KeyIndex;
 use std::test::Fail;
 
 #[test]

@@ -1,6 +1,6 @@
 use Rattle.std.proofs.Common.{eqb}
 use Rattle.names.proofs.CutLemmas.{slice_split-None, slice_split-Some}
-use Rattle.names.proofs.cut.split_once.Goals as goal
+use Rattle.names.proofs.unit_split.split_once.Goals as goal
 
 pub returns-in-None-clause-parts : goal.returns-in-None-clause-parts
 returns-in-None-clause-parts c = slice_split-None (λ unit. eqb unit c.args.at) c.args.units.now c.in-None.ensures

@@ -2,7 +2,7 @@ use Rattle.std.proofs.Common.{◌<◌, ◌≤◌, arith, length}
 use Rattle.fsa_types.proofs.RowLemmas.{length-filter_le}
 use Rattle.fsa_model.specs.Lookups.{is_one_of}
 use Rattle.volume_tables.proofs.EntryLemmas.{count-end, count-next}
-use Rattle.volume_tables.proofs.among.count_all.Goals as goal
+use Rattle.volume_tables.proofs.handle_scans.count_all.Goals as goal
 
 pub overflow_add-count : goal.overflow_add-count
 overflow_add-count c =

@@ -1,7 +1,7 @@
 use Rattle.std.proofs.Common.{List, length, ap, ◌+◌, arith}
 use Rattle.fsa_types.specs.declared.reply.Blocker.{Blocker}
 use Rattle.fsa_machine.proofs.StallLaws.{own-tries}
-use Rattle.fsa_machine.proofs.own.answer_own.Goals as goal
+use Rattle.fsa_machine.proofs.own_call.answer_own.Goals as goal
 
 pub own_ends-requires-clause-few : goal.own_ends-requires-clause-few
 own_ends-requires-clause-few g c = (let own = own-tries (g.S.Store.content c.args.store.now) c.args.call (c.pending_calls.result + c.ends-from.result + 1) _ c.requires.serves c.requires.may_try c.requires.may c.requires.new c.in-Done.ensures.gives (omega (arith, c.pending_calls.ensures, c.ends-from.ensures)) in omega (arith, own.begins, own.few, c.ends-from.ensures, c.requires.few))

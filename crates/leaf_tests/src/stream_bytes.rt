@@ -1,11 +1,11 @@
-//! Each call that takes memory, with ample memory, and the parts of a stream joined.
+//! The bytes of a stream: each call that takes memory, with ample memory, and its parts joined.
 
 ghost use Rattle.std.specs.Prelude.{◌≡◌, ◌≤◌, ◌+◌, IfOk, length};
 ghost use Rattle.fsa_types.specs.StreamBytes.{slice};
 
-use crate::Stream;
 use std::alloc::{AllocError, Global};
 use std::test::Fail;
+use stream_pages::Stream;
 
 // `count` bytes of a stream from `at` on.
 fn copied(alloc: Global, stream: &Stream, at: u64, count: u64) -> Result<Vec<u8>, AllocError>

@@ -3,8 +3,8 @@
 
 ghost use Rattle.std.specs.Prelude.{◌≡◌, IfOk};
 
-use super::*;
 use fsa_types::{Bytes, NoMemory};
+use notify_queue::{ChangeLog, Watch};
 use std::alloc::Global;
 use std::test::Fail;
 

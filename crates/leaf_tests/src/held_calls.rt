@@ -1,7 +1,7 @@
-//! Each call that takes memory, with ample memory, and one run of holds and ends.
+//! Held calls and their blockers: each call that takes memory, with ample memory, and one run of holds and ends.
 
-use crate::PendingQueue;
 use fsa_types::{Blocker, BlockerList, NoMemory};
+use pending_queue::PendingQueue;
 use std::alloc::Global;
 use std::test::Fail;
 

@@ -1,7 +1,7 @@
 use Rattle.std.proofs.Common.{◌≡◌, ◌+◌, drop}
 use Rattle.fsa_model.specs.Lookups.{is_one_of}
 use Rattle.volume_tables.proofs.EntryLemmas.{how_many}
-use Rattle.volume_tables.proofs.among.count_all.Given as goal
+use Rattle.volume_tables.proofs.handle_scans.count_all.Given as goal
 
 -- those that were counted, and those from here on, are all
 abbrev pub invariant-loop-place : goal.invariant-loop-place

@@ -3,7 +3,7 @@ use Rattle.std.specs.Prelude.{◌&&◌}
 use Rattle.fsa_model.specs.Lookups.{is_one_of}
 use Rattle.fsa_types.specs.Sharing.{clash}
 use Rattle.volume_tables.proofs.EntryLemmas.{is_some_of}
-use Rattle.volume_tables.proofs.among.some_clash.Given as goal
+use Rattle.volume_tables.proofs.handle_scans.some_clash.Given as goal
 
 -- none before this place does
 abbrev pub invariant-loop-place : goal.invariant-loop-place

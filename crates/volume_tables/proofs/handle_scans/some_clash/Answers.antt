@@ -4,7 +4,7 @@ use Rattle.fsa_types.specs.Sharing.{clash}
 use Rattle.fsa_model.specs.Lookups.{is_one_of}
 use Rattle.fsa_model.specs.Volume.{Handle}
 use Rattle.volume_tables.proofs.EntryLemmas.{any-end, any-next}
-use Rattle.volume_tables.proofs.among.some_clash.Goals as goal
+use Rattle.volume_tables.proofs.handle_scans.some_clash.Goals as goal
 
 pub returns-then-clashes_in : goal.returns-then-clashes_in
 returns-then-clashes_in c =
