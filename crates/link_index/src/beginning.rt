@@ -20,46 +20,46 @@ pub(crate) fn beginning_with<'a>(
     table: &UpcaseTable,
     units: &[u16],
 ) -> &'a [u64]
-    requires { AreInKeyOrder (name_key table.now) (links_at links.now.rows numbers.now) }
-    ensures { result.now ≡ map (λ entry. entry.0) (filter (λ entry. begins_with table.now units.now entry.1.name) (links_at links.now.rows numbers.now)) }
+    requires { AreInKeyOrder (name_key upcase.now) (links_at links.now.rows numbers.now) }
+    ensures { result.now ≡ map (λ entry. entry.0) (filter (λ entry. begins_with upcase.now units.now entry.1.name) (links_at links.now.rows numbers.now)) }
 {
-    let end = end_of(numbers, links, table, units);
-    let begin = begin_of(numbers, links, table, units).min(end);
+    let end = end_place(numbers, links, upcase, units);
+    let begin = first_place(numbers, links, upcase, units).min(end);
     &numbers[begin..end]
 }
 
 // Where those end whose names begin with less than the units.
-fn begin_of(numbers: &[u64], links: &Table<LinkRow>, table: &UpcaseTable, units: &[u16]) -> usize
-    requires { AreInKeyOrder (name_key table.now) (links_at links.now.rows numbers.now) }
+fn first_place(numbers: &[u64], links: &Table<LinkRow>, table: &UpcaseTable, units: &[u16]) -> usize
+    requires { AreInKeyOrder (name_key upcase.now) (links_at links.now.rows numbers.now) }
     ensures bound { result ≤ length numbers.now }
-    ensures point { IsPartitionPoint (λ id. is_gt (cmp_beginning table.now units.now (link_numbered links.now.rows id).1.name) ≡ true) (λ id. is_gt (cmp_beginning table.now units.now (link_numbered links.now.rows id).1.name) ≡ false) numbers.now result }
+    ensures point { IsPartitionPoint (λ id. is_gt (cmp_beginning upcase.now units.now (link_numbered links.now.rows id).1.name) ≡ true) (λ id. is_gt (cmp_beginning upcase.now units.now (link_numbered links.now.rows id).1.name) ≡ false) numbers.now result }
 {
-    numbers.partition_point(|id| cmp_number(links, table, *id, units).is_gt())
+    numbers.partition_point(|id| cmp_number(links, upcase, *id, units).is_gt())
 }
 
 // Where those end whose names begin with the units or with less.
-fn end_of(numbers: &[u64], links: &Table<LinkRow>, table: &UpcaseTable, units: &[u16]) -> usize
-    requires { AreInKeyOrder (name_key table.now) (links_at links.now.rows numbers.now) }
+fn end_place(numbers: &[u64], links: &Table<LinkRow>, table: &UpcaseTable, units: &[u16]) -> usize
+    requires { AreInKeyOrder (name_key upcase.now) (links_at links.now.rows numbers.now) }
     ensures bound { result ≤ length numbers.now }
-    ensures point { IsPartitionPoint (λ id. is_ge (cmp_beginning table.now units.now (link_numbered links.now.rows id).1.name) ≡ true) (λ id. is_ge (cmp_beginning table.now units.now (link_numbered links.now.rows id).1.name) ≡ false) numbers.now result }
+    ensures point { IsPartitionPoint (λ id. is_ge (cmp_beginning upcase.now units.now (link_numbered links.now.rows id).1.name) ≡ true) (λ id. is_ge (cmp_beginning upcase.now units.now (link_numbered links.now.rows id).1.name) ≡ false) numbers.now result }
 {
-    numbers.partition_point(|id| cmp_number(links, table, *id, units).is_ge())
+    numbers.partition_point(|id| cmp_number(links, upcase, *id, units).is_ge())
 }
 
 // How units compare with the beginning of the name of a number's link.
 fn cmp_number(links: &Table<LinkRow>, table: &UpcaseTable, id: u64, units: &[u16]) -> Ordering
-    ensures { result ≡ cmp_beginning table.now units.now (link_numbered links.now.rows id).1.name }
+    ensures { result ≡ cmp_beginning upcase.now units.now (link_numbered links.now.rows id).1.name }
 {
     match links.get(id) {
-        None => cmp_beginning(table, units, &[]),
-        Some(row) => cmp_beginning(table, units, row.name.units()),
+        None => cmp_beginning(upcase, units, &[]),
+        Some(row) => cmp_beginning(upcase, units, row.name.units()),
     }
 }
 
 // How units compare with the beginning of a name.
 fn cmp_beginning(table: &UpcaseTable, units: &[u16], name: &[u16]) -> Ordering
-    ensures { result ≡ cmp_beginning table.now units.now name.now }
+    ensures { result ≡ cmp_beginning upcase.now units.now name.now }
 {
     let most = units.len().min(name.len());
-    table.cmp_name(units, &name[..most])
+    upcase.cmp_name(units, &name[..most])
 }

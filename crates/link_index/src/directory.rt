@@ -73,14 +73,14 @@ impl Directory {
 
     /// The link of this name; `None` exactly where there is none. Names are the same where their upcased units are equal.
     pub fn get(&self, links: &Table<LinkRow>, table: &UpcaseTable, units: &[u16]) -> Option<u64>
-        requires { AreInNameOrder table.now links.now.rows self.now }
-        ensures { result ≡ option_map (λ entry. entry.0) (find (λ entry. same_name table.now entry.1.name units.now) (links_at links.now.rows self.now.numbers)) }
+        requires { AreInNameOrder upcase.now links.now.rows self.now }
+        ensures { result ≡ option_map (λ entry. entry.0) (find (λ entry. same_name upcase.now entry.1.name units.now) (links_at links.now.rows self.now.numbers)) }
     {
         find_child(
             self.heads.as_slice(),
             self.numbers.as_slice(),
             links,
-            table,
+            upcase,
             units,
         )
     }
@@ -93,14 +93,14 @@ impl Directory {
         table: &UpcaseTable,
         after: Option<&[u16]>,
     ) -> &[u64]
-        requires { AreInNameOrder table.now links.now.rows self.now }
-        ensures { result.now ≡ map (λ entry. entry.0) (filter (λ entry. is_name_after table.now (option_copied after.entry) entry.1.name) (links_at links.now.rows self.now.numbers)) }
+        requires { AreInNameOrder upcase.now links.now.rows self.now }
+        ensures { result.now ≡ map (λ entry. entry.0) (filter (λ entry. is_name_after upcase.now (option_copied after.entry) entry.1.name) (links_at links.now.rows self.now.numbers)) }
     {
         find_after(
             self.heads.as_slice(),
             self.numbers.as_slice(),
             links,
-            table,
+            upcase,
             after,
         )
     }
@@ -113,32 +113,32 @@ impl Directory {
         after: Option<&[u16]>,
         units: &[u16],
     ) -> &[u64]
-        requires { AreInNameOrder table.now links.now.rows self.now }
-        ensures { result.now ≡ map (λ entry. entry.0) (filter (λ entry. begins_with table.now units.now entry.1.name) (filter (λ entry. is_name_after table.now (option_copied after.entry) entry.1.name) (links_at links.now.rows self.now.numbers))) }
+        requires { AreInNameOrder upcase.now links.now.rows self.now }
+        ensures { result.now ≡ map (λ entry. entry.0) (filter (λ entry. begins_with upcase.now units.now entry.1.name) (filter (λ entry. is_name_after upcase.now (option_copied after.entry) entry.1.name) (links_at links.now.rows self.now.numbers))) }
     {
-        beginning_with(self.after(links, table, after), links, table, units)
+        beginning_with(self.after(links, upcase, after), links, upcase, units)
     }
 
     /// Puts in a link by its number and its name, which is new. The link may be added to its table later, as it has to be
     /// before the next call that takes the table. There has to be room for it. It takes no memory.
     pub fn insert(&mut self, links: &Table<LinkRow>, table: &UpcaseTable, id: u64, units: &[u16])
         requires room { 1 ≤ self.old.room }
-        requires ordered { AreInNameOrder table.now links.now.rows self.old }
-        requires is_new { All (λ entry. same_name table.now entry.1.name units.now ≡ false) (links_at links.now.rows self.old.numbers) }
-        ensures put { IsNamePut table.now links.now.rows id units.now self.old self.new }
+        requires ordered { AreInNameOrder upcase.now links.now.rows self.old }
+        requires is_new { All (λ entry. same_name upcase.now entry.1.name units.now ≡ false) (links_at links.now.rows self.old.numbers) }
+        ensures put { IsNamePut upcase.now links.now.rows id units.now self.old self.new }
 
         // The links are in order, in a table that has those that were there and this one under its name.
-        ensures still_ordered { (rows : List (ℕ × Link)) → links_at rows self.old.numbers ≡ links_at links.now.rows self.old.numbers → (link_numbered rows id).1.name ≡ units.now → AreInNameOrder table.now rows self.new }
+        ensures still_ordered { (rows : List (ℕ × Link)) → links_at rows self.old.numbers ≡ links_at links.now.rows self.old.numbers → (link_numbered rows id).1.name ≡ units.now → AreInNameOrder upcase.now rows self.new }
     {
         let place = place_for(
             self.heads.as_slice(),
             self.numbers.as_slice(),
             links,
-            table,
+            upcase,
             units,
         );
         self.numbers.insert(place, id);
-        self.heads.insert(place, head_of(table, units));
+        self.heads.insert(place, head_of(upcase, units));
     }
 
     /// Takes the link of this name out and gives its number; `None` exactly where there is none. It takes no memory, and
@@ -149,17 +149,17 @@ impl Directory {
         table: &UpcaseTable,
         units: &[u16],
     ) -> Option<u64>
-        requires { AreInNameOrder table.now links.now.rows self.old }
-        ensures link { result ≡ option_map (λ entry. entry.0) (find (λ entry. same_name table.now entry.1.name units.now) (links_at links.now.rows self.old.numbers)) }
-        ensures taken { IsNameTaken table.now links.now.rows units.now self.old self.new }
+        requires { AreInNameOrder upcase.now links.now.rows self.old }
+        ensures link { result ≡ option_map (λ entry. entry.0) (find (λ entry. same_name upcase.now entry.1.name units.now) (links_at links.now.rows self.old.numbers)) }
+        ensures taken { IsNameTaken upcase.now links.now.rows units.now self.old self.new }
         ensures room { (id : ℕ) → result ≡ Some id → self.old.room + 1 ≤ self.new.room }
-        ensures still_ordered { AreInNameOrder table.now links.now.rows self.new }
+        ensures still_ordered { AreInNameOrder upcase.now links.now.rows self.new }
     {
         let found = place_of(
             self.heads.as_slice(),
             self.numbers.as_slice(),
             links,
-            table,
+            upcase,
             units,
         );
         match found {
@@ -180,11 +180,11 @@ fn find_child(
     table: &UpcaseTable,
     units: &[u16],
 ) -> Option<u64>
-    requires ordered { AreInKeyOrder (name_key table.now) (links_at links.now.rows numbers.now) }
-    requires heads { heads.now ≡ map (link_head table.now) (links_at links.now.rows numbers.now) }
-    ensures { result ≡ option_map (λ entry. entry.0) (find (λ entry. same_name table.now entry.1.name units.now) (links_at links.now.rows numbers.now)) }
+    requires ordered { AreInKeyOrder (name_key upcase.now) (links_at links.now.rows numbers.now) }
+    requires heads { heads.now ≡ map (link_head upcase.now) (links_at links.now.rows numbers.now) }
+    ensures { result ≡ option_map (λ entry. entry.0) (find (λ entry. same_name upcase.now entry.1.name units.now) (links_at links.now.rows numbers.now)) }
 {
-    match place_of(heads, numbers, links, table, units) {
+    match place_of(heads, numbers, links, upcase, units) {
         Ok(place) => number_of(numbers, place),
         Err(_) => None,
     }
@@ -208,11 +208,11 @@ fn find_after<'a>(
     table: &UpcaseTable,
     after: Option<&[u16]>,
 ) -> &'a [u64]
-    requires ordered { AreInKeyOrder (name_key table.now) (links_at links.now.rows numbers.now) }
-    requires heads { heads.now ≡ map (link_head table.now) (links_at links.now.rows numbers.now) }
-    ensures { result.now ≡ map (λ entry. entry.0) (filter (λ entry. is_name_after table.now (option_copied after.entry) entry.1.name) (links_at links.now.rows numbers.now)) }
+    requires ordered { AreInKeyOrder (name_key upcase.now) (links_at links.now.rows numbers.now) }
+    requires heads { heads.now ≡ map (link_head upcase.now) (links_at links.now.rows numbers.now) }
+    ensures { result.now ≡ map (λ entry. entry.0) (filter (λ entry. is_name_after upcase.now (option_copied after.entry) entry.1.name) (links_at links.now.rows numbers.now)) }
 {
-    &numbers[begin_of(heads, numbers, links, table, after)..]
+    &numbers[begin_of(heads, numbers, links, upcase, after)..]
 }
 
 // Where a new name stands.
@@ -223,12 +223,12 @@ fn place_for(
     table: &UpcaseTable,
     units: &[u16],
 ) -> usize
-    requires ordered { AreInKeyOrder (name_key table.now) (links_at links.now.rows numbers.now) }
-    requires heads { heads.now ≡ map (link_head table.now) (links_at links.now.rows numbers.now) }
-    requires is_new { All (λ entry. same_name table.now entry.1.name units.now ≡ false) (links_at links.now.rows numbers.now) }
-    ensures { IsKeyPlace (name_key table.now) (links_at links.now.rows numbers.now) (upcased table.now units.now) (Err result) }
+    requires ordered { AreInKeyOrder (name_key upcase.now) (links_at links.now.rows numbers.now) }
+    requires heads { heads.now ≡ map (link_head upcase.now) (links_at links.now.rows numbers.now) }
+    requires is_new { All (λ entry. same_name upcase.now entry.1.name units.now ≡ false) (links_at links.now.rows numbers.now) }
+    ensures { IsKeyPlace (name_key upcase.now) (links_at links.now.rows numbers.now) (upcased upcase.now units.now) (Err result) }
 {
-    match place_of(heads, numbers, links, table, units) {
+    match place_of(heads, numbers, links, upcase, units) {
         Ok(place) => place,
         Err(place) => place,
     }
@@ -236,11 +236,11 @@ fn place_for(
 
 // The order of the name of a number's link and another one.
 fn cmp_number(links: &Table<LinkRow>, table: &UpcaseTable, id: u64, units: &[u16]) -> Ordering
-    ensures { result ≡ cmp_name table.now (link_numbered links.now.rows id).1.name units.now }
+    ensures { result ≡ cmp_name upcase.now (link_numbered links.now.rows id).1.name units.now }
 {
     match links.get(id) {
-        None => table.cmp_name(&[], units),
-        Some(row) => table.cmp_name(row.name.units(), units),
+        None => upcase.cmp_name(&[], units),
+        Some(row) => upcase.cmp_name(row.name.units(), units),
     }
 }
 
@@ -252,12 +252,12 @@ fn place_of(
     table: &UpcaseTable,
     units: &[u16],
 ) -> Result<usize, usize>
-    requires ordered { AreInKeyOrder (name_key table.now) (links_at links.now.rows numbers.now) }
-    requires heads { heads.now ≡ map (link_head table.now) (links_at links.now.rows numbers.now) }
-    ensures { IsKeyPlace (name_key table.now) (links_at links.now.rows numbers.now) (upcased table.now units.now) result }
+    requires ordered { AreInKeyOrder (name_key upcase.now) (links_at links.now.rows numbers.now) }
+    requires heads { heads.now ≡ map (link_head upcase.now) (links_at links.now.rows numbers.now) }
+    ensures { IsKeyPlace (name_key upcase.now) (links_at links.now.rows numbers.now) (upcased upcase.now units.now) result }
 {
-    match search_heads(heads, head_of(table, units)) {
-        Ok(place) => place_near(numbers, links, table, units, place),
+    match search_heads(heads, head_of(upcase, units)) {
+        Ok(place) => place_near(numbers, links, upcase, units, place),
         Err(place) => Err(place),
     }
 }
@@ -279,13 +279,13 @@ fn place_near(
     units: &[u16],
     place: usize,
 ) -> Result<usize, usize>
-    requires ordered { AreInKeyOrder (name_key table.now) (links_at links.now.rows numbers.now) }
+    requires ordered { AreInKeyOrder (name_key upcase.now) (links_at links.now.rows numbers.now) }
     requires within { place < length numbers.now }
-    ensures { IsKeyPlace (name_key table.now) (links_at links.now.rows numbers.now) (upcased table.now units.now) result }
+    ensures { IsKeyPlace (name_key upcase.now) (links_at links.now.rows numbers.now) (upcased upcase.now units.now) result }
 {
-    match cmp_number(links, table, numbers[place], units) {
+    match cmp_number(links, upcase, numbers[place], units) {
         Ordering::Equal => Ok(place),
-        _ => place_among(numbers, links, table, units),
+        _ => place_among(numbers, links, upcase, units),
     }
 }
 
@@ -296,10 +296,10 @@ fn place_among(
     table: &UpcaseTable,
     units: &[u16],
 ) -> Result<usize, usize>
-    requires { AreInKeyOrder (name_key table.now) (links_at links.now.rows numbers.now) }
-    ensures { IsKeyPlace (name_key table.now) (links_at links.now.rows numbers.now) (upcased table.now units.now) result }
+    requires { AreInKeyOrder (name_key upcase.now) (links_at links.now.rows numbers.now) }
+    ensures { IsKeyPlace (name_key upcase.now) (links_at links.now.rows numbers.now) (upcased upcase.now units.now) result }
 {
-    numbers.binary_search_by(|id| cmp_number(links, table, *id, units))
+    numbers.binary_search_by(|id| cmp_number(links, upcase, *id, units))
 }
 
 // Where the links behind a name begin; without a name all are behind it.
@@ -310,14 +310,14 @@ fn begin_of(
     table: &UpcaseTable,
     after: Option<&[u16]>,
 ) -> usize
-    requires ordered { AreInKeyOrder (name_key table.now) (links_at links.now.rows numbers.now) }
-    requires heads { heads.now ≡ map (link_head table.now) (links_at links.now.rows numbers.now) }
+    requires ordered { AreInKeyOrder (name_key upcase.now) (links_at links.now.rows numbers.now) }
+    requires heads { heads.now ≡ map (link_head upcase.now) (links_at links.now.rows numbers.now) }
     ensures bound { result ≤ length numbers.now }
-    ensures begin { IsBegin table.now (links_at links.now.rows numbers.now) (option_copied after.entry) result }
+    ensures begin { IsBegin upcase.now (links_at links.now.rows numbers.now) (option_copied after.entry) result }
 {
     match after {
         None => 0,
-        Some(units) => begin_behind(heads, numbers, links, table, units),
+        Some(units) => begin_behind(heads, numbers, links, upcase, units),
     }
 }
 
@@ -329,12 +329,12 @@ fn begin_behind(
     table: &UpcaseTable,
     units: &[u16],
 ) -> usize
-    requires ordered { AreInKeyOrder (name_key table.now) (links_at links.now.rows numbers.now) }
-    requires heads { heads.now ≡ map (link_head table.now) (links_at links.now.rows numbers.now) }
+    requires ordered { AreInKeyOrder (name_key upcase.now) (links_at links.now.rows numbers.now) }
+    requires heads { heads.now ≡ map (link_head upcase.now) (links_at links.now.rows numbers.now) }
     ensures bound { result ≤ length numbers.now }
-    ensures begin { IsBegin table.now (links_at links.now.rows numbers.now) (Some units.now) result }
+    ensures begin { IsBegin upcase.now (links_at links.now.rows numbers.now) (Some units.now) result }
 {
-    match place_of(heads, numbers, links, table, units) {
+    match place_of(heads, numbers, links, upcase, units) {
         Ok(place) => place + 1,
         Err(place) => place,
     }

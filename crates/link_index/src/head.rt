@@ -12,12 +12,12 @@ const UNITS: usize = 16;
 /// The first sixteen upcased units of a name, in 8 bits each. Where the heads of two names differ, the names stand in
 /// the order of the heads. A unit from 255 on is told as 255, and nothing behind it is.
 pub(crate) fn head_of(table: &UpcaseTable, units: &[u16]) -> u128
-    ensures { result ≡ head_of table.now units.now }
+    ensures { result ≡ head_of upcase.now units.now }
 {
     let mut head = 0;
     let mut exact = true;
     for place in 0..UNITS {
-        let unit = unit_at(table, units, place);
+        let unit = unit_at(upcase, units, place);
         head = head * 256 + head_digit(exact, unit) as u128;
         exact = stays_exact(exact, unit);
     }
@@ -26,11 +26,11 @@ pub(crate) fn head_of(table: &UpcaseTable, units: &[u16]) -> u128
 
 // The unit at this place, upcased; 0 past the end.
 fn unit_at(table: &UpcaseTable, units: &[u16], place: usize) -> u16
-    ensures { result ≡ unit_at (upcased table.now units.now) place }
+    ensures { result ≡ unit_at (upcased upcase.now units.now) place }
 {
     match unit_in(units, place) {
         None => 0,
-        Some(unit) => table.up(unit),
+        Some(unit) => upcase.up(unit),
     }
 }
 

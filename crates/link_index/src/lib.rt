@@ -1,17 +1,20 @@
-//! A directory's links in the order of their upcased names. A name is found, and where those behind it or those that
-//! begin so stand, by binary search.
+//! A directory's links in the order of their names: the names' units upcased, and compared as numbers from the first one
+//! on, where a name stands before those that it begins. A name is found, and where those behind it or those that begin so
+//! stand, by binary search.
 //!
 //! ```text
 //! let mut dir = Directory::new(alloc);
 //! dir.reserve(1)?;                            // may be refused
-//! dir.insert(&links, &upcase, 7, units);      // of `b.txt`; takes no memory. The table has link 7 from here on
+//! dir.insert(&links, &upcase, 7, units);      // of `b.txt`; takes no memory
+//! links.add(row)                              // under number 7, before the next call that takes the table
 //! dir.get(&links, &upcase, units)             // of `B.TXT`: Some(7)
 //! dir.after(&links, &upcase, Some(units))     // behind `a`: [7], lent in one piece
 //! dir.beginning(&links, &upcase, None, units) // of all, those that begin with `B`: [7]
 //! dir.remove(&links, &upcase, units)          // of `B.txt`: Some(7)
 //! ```
 //!
-//! The names stand in the table of the links alone, and each call that compares names takes that table. Contracts see
+//! The names stand in the table of the links alone, and each call that compares names takes that table. A directory doesn't
+//! know whose links its own are: `LinkTable` of `volume_tables` has one for each directory, and keeps that. Contracts see
 //! the numbers of the links in order, which with the table are a list of numbers and links (`links_at`), the heads of
 //! their names, and how many more links there is room for.
 //!

@@ -83,7 +83,7 @@ fn rename_free(
     Some(rename_done(volume, named, dir, replaced, name))
 }
 
-// The link that is replaced has no handle.
+// The link that is replaced must have no handle.
 #[tactic(auto, unfolding(fsa_model::specs::Rename::rename_over_closed))]
 fn rename_over_closed(
     volume: &mut Volume,

@@ -235,7 +235,7 @@ impl StreamOplocks {
         self.list.waited()[place]
     }
 
-    /// Answers the break in progress on a handle: what is in this level and in the one that it was told stays,
+    /// Answers the break in progress on a handle: what is in this level and in the break's target stays,
     /// and the call that is pending under this turn, or will be, is its own then; where nothing stays the oplock
     /// ends. Gives what stays, and the number of the break, which has ended. `None` exactly where no break of it
     /// is in progress, and then nothing changes but that no handle is marked.

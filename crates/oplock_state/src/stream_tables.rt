@@ -98,8 +98,8 @@ impl StreamTables {
         begin(&mut self.tables, key, oplock, class, first);
     }
 
-    /// Answers the break in progress on a handle under this key: what is in this level and in the one that it was
-    /// told stays, and is given; or the oplock ends. `None` exactly where no break of it is in progress.
+    /// Answers the break in progress on a handle under this key: what is in this level and in the break's
+    /// target stays, and is given; or the oplock ends. `None` exactly where no break of it is in progress.
     pub fn ack(&mut self, key: u64, handle: u64, level: Level, turn: u64) -> Option<Level>
         ensures kept { result ≡ option_map (λ target. in_both level target) (target_among handle (rows_at self.old key)) }
         ensures step { IsStep self.old self.new key (option_map_or (λ target. after_answer handle (in_both level target) turn (rows_at self.old key)) (target_among handle (rows_at self.old key)) (rows_at self.old key)) (last_at self.old key) 0 }

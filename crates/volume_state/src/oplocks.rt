@@ -175,8 +175,8 @@ impl Volume {
         }
     }
 
-    /// Answers the break in progress on a handle: what is in this level and in the one that it was told
-    /// stays, and is given; the call that is pending under this turn, or will be, is its own then. Where
+    /// Answers the break in progress on a handle: what is in this level and in the break's target stays,
+    /// and is given; the call that is pending under this turn, or will be, is its own then. Where
     /// nothing stays the oplock ends. `None` exactly where no break of it is in progress, and then nothing
     /// changes. No call waits for the break any more.
     pub fn answer_break(&mut self, handle: u64, level: Level, turn: u64) -> Option<Level>

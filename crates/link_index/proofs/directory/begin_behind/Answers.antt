@@ -8,10 +8,10 @@ pub returns-in-Ok : goal.returns-in-Ok
 returns-in-Ok c =
     let links = links_at c.args.links.now.rows c.args.numbers.now in
     let many : length links ≡ length c.args.numbers.now = length-map c.args.numbers.now (link_numbered c.args.links.now.rows) in
-    record { bound = omega (arith, many, c.in-Ok.ensures.0); begin = begin-here c.args.table.now c.args.units.now links c.in-Ok.place c.in-Ok.ensures }
+    record { bound = omega (arith, many, c.in-Ok.ensures.0); begin = begin-here c.args.upcase.now c.args.units.now links c.in-Ok.place c.in-Ok.ensures }
 
 pub returns-in-Err : goal.returns-in-Err
 returns-in-Err c =
     let links = links_at c.args.links.now.rows c.args.numbers.now in
     let many : length links ≡ length c.args.numbers.now = length-map c.args.numbers.now (link_numbered c.args.links.now.rows) in
-    record { bound = omega (arith, many, c.in-Err.ensures.0); begin = begin-new c.args.table.now c.args.units.now links c.in-Err.place c.in-Err.ensures }
+    record { bound = omega (arith, many, c.in-Err.ensures.0); begin = begin-new c.args.upcase.now c.args.units.now links c.in-Err.place c.in-Err.ensures }

@@ -7,4 +7,4 @@ use Rattle.link_index.proofs.directory.find_after.Goals as goal
 pub returns : goal.returns
 returns c =
     take_rest c.args.numbers.now c.begin_of.result
-    ∙ numbers-behind c.args.table.now c.args.links.now.rows c.args.numbers.now (option_copied c.args.after) c.begin_of.result c.begin_of.ensures.bound c.begin_of.ensures.begin
+    ∙ numbers-behind c.args.upcase.now c.args.links.now.rows c.args.numbers.now (option_copied c.args.after) c.begin_of.result c.begin_of.ensures.bound c.begin_of.ensures.begin

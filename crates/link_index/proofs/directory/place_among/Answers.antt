@@ -11,6 +11,6 @@ use Rattle.link_index.proofs.directory.place_among.Goals as goal
 pub returns : goal.returns
 returns c =
     let facts = c.binary_search_by.ensures in
-    let by_name = facts.position (λ id. cmp_keys (name_key c.args.table.now (link_numbered c.args.links.now.rows id)) (upcased c.args.table.now c.args.units.now))
-    (answers_by _ _ (λ f. (f.0.now ≡ c.args.links.now) × (f.1.now ≡ c.args.table.now) × (f.2.now ≡ c.args.units.now)) (λ f a r g called same. (search rules, search rules)) _ (refl, refl, refl)) in
-    place-of c.args.table.now c.args.links.now.rows c.args.numbers.now (upcased c.args.table.now c.args.units.now) c.requires c.binary_search_by.result facts.bound by_name
+    let by_name = facts.position (λ id. cmp_keys (name_key c.args.upcase.now (link_numbered c.args.links.now.rows id)) (upcased c.args.upcase.now c.args.units.now))
+    (answers_by _ _ (λ f. (f.0.now ≡ c.args.links.now) × (f.1.now ≡ c.args.upcase.now) × (f.2.now ≡ c.args.units.now)) (λ f a r g called same. (search rules, search rules)) _ (refl, refl, refl)) in
+    place-of c.args.upcase.now c.args.links.now.rows c.args.numbers.now (upcased c.args.upcase.now c.args.units.now) c.requires c.binary_search_by.result facts.bound by_name

@@ -9,5 +9,5 @@ use Rattle.link_index.proofs.directory.place_for.Goals as goal
 pub returns-in-Ok : goal.returns-in-Ok
 returns-in-Ok c =
     let links = links_at c.args.links.now.rows c.args.numbers.now in
-    new-unfound (name_key c.args.table.now) links (upcased c.args.table.now c.args.units.now) c.in-Ok.place
-    (λ k d within. sym (same-key c.args.table.now (get_or links k d).1.name c.args.units.now) ∙ c.requires.is_new k d within) c.in-Ok.ensures
+    new-unfound (name_key c.args.upcase.now) links (upcased c.args.upcase.now c.args.units.now) c.in-Ok.place
+    (λ k d within. sym (same-key c.args.upcase.now (get_or links k d).1.name c.args.units.now) ∙ c.requires.is_new k d within) c.in-Ok.ensures

@@ -14,7 +14,7 @@ use Rattle.link_index.proofs.directory.Directory.beginning.Goals as goal
 
 pub beginning_with-requires : goal.beginning_with-requires
 beginning_with-requires c =
-    let table = c.args.table.now in
+    let table = c.args.upcase.now in
     let rows = c.args.links.now.rows in
     let test : ℕ × Link → Bool = λ e. is_name_after table (option_copied c.args.after) e.1.name in
     rw (c.after.ensures, at-kept rows test c.args.self.now.numbers)
@@ -22,7 +22,7 @@ beginning_with-requires c =
 
 pub returns : goal.returns
 returns c =
-    let table = c.args.table.now in
+    let table = c.args.upcase.now in
     let rows = c.args.links.now.rows in
     let test : ℕ × Link → Bool = λ e. is_name_after table (option_copied c.args.after) e.1.name in
     rw (c.beginning_with.ensures, c.after.ensures)
