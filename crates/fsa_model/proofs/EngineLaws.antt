@@ -28,7 +28,7 @@ use Rattle.fsa_model.proofs.CountLaws.{and_left, and_right, how_many-append, how
 use Rattle.fsa_model.proofs.OnceHistory.{MayTurn-fresh, is_entry_of-self, Runs, Takes, run-runs, turn-takes}
 use Rattle.fsa_model.proofs.RowLaws.{option_cases}
 use Rattle.fsa_model.proofs.SettleLaws.{is_under, is_free, some_equal, none-ready, how_many_free, repeated-ends, Steps, Steps-settle_step}
-use Rattle.fsa_model.proofs.TakenLaws.{is_let_go, let_go, taken-in_order, GoesOn, GoesOn-begins, GoesOn-settle_step, MayTakeUp}
+use Rattle.fsa_model.proofs.TakenLaws.{is_let_go_under, let_go, taken-in_order, GoesOn, GoesOn-begins, GoesOn-settle_step, MayTakeUp}
 use Rattle.fsa_model.proofs.TurnLaws.{MayTurn, TriedTo, Turns, turn-turns, turn-ended, own_end, try-keeps, Adds-answered}
 
 -- ---- no call is made twice in a schedule
@@ -172,7 +172,7 @@ own-rows v turn call (Hold w blockers interim) tried test =
 
 -- the own call isn't held by blockers of which none lives
 none-new : (v : Volume) (turn : ℕ) (call : Call) (outcome : Outcome) → TriedTo v turn call.what outcome → (under : ℕ)
-    → how_many (is_let_go under (answered call turn outcome)) (new_rows turn call outcome) ≡ 0
+    → how_many (is_let_go_under under (answered call turn outcome)) (new_rows turn call outcome) ≡ 0
 none-new v turn call (Done w reply) tried under = refl
 none-new v turn call (Stay w interim) tried under = elim (cases_Bool (turn == under)) [ inl is ↦ rw is refl | inr isnt ↦ rw isnt refl ]
 none-new v turn call (Hold w blockers interim) tried under =
@@ -239,7 +239,7 @@ released-let_go : (v : Volume) (call : Call) (outcome : Outcome) (turn : ℕ) �
     → list_any (is_released v (answered call (turn_number v) outcome) turn) v.pending ≡ true → 1 ≤ let_go turn (answered call (turn_number v) outcome)
 released-let_go v call outcome turn may tried some =
     let own : Volume = answered call (turn_number v) outcome in
-    let free = is_let_go turn own in
+    let free = is_let_go_under turn own in
     let item = some-item (is_released v own turn) v.pending some in
     let stays : lives own.pending turn ≡ true = Released.stays (released-parts v own turn item.0 item.1) in
     let many = how_many-some (is_released v own turn) v.pending some in
@@ -254,7 +254,7 @@ released-let_go v call outcome turn may tried some =
     let all = how_many-weaker (λ e. is_under turn e && free e) free own.pending (λ e is. and_right (is_under turn e) (free e) is) in
     omega arith
   where
-    both : (e : ℕ × Pending) → Released v (answered call (turn_number v) outcome) turn e → (is_under turn e && is_let_go turn (answered call (turn_number v) outcome) e) ≡ true
+    both : (e : ℕ × Pending) → Released v (answered call (turn_number v) outcome) turn e → (is_under turn e && is_let_go_under turn (answered call (turn_number v) outcome) e) ≡ true
     both e is = rw (is.under, is.held, is.free) refl
 
 -- and nothing else is
@@ -262,35 +262,35 @@ let_go-released : (v : Volume) (call : Call) (outcome : Outcome) (turn : ℕ) �
     → list_any (is_released v (answered call (turn_number v) outcome) turn) v.pending ≡ false → let_go turn (answered call (turn_number v) outcome) ≡ 0
 let_go-released v call outcome turn tried before isnt = elim (cases_Bool (lives (answered call (turn_number v) outcome).pending turn)) [
   | inr gone ↦ (let none = how_many-none (is_under turn) own.pending gone in
-      let fewer = how_many-weaker (is_let_go turn own) (is_under turn) own.pending (λ e is. and_left (is_under turn e) (is_held e.1 && is_free own e) is) in omega arith)
+      let fewer = how_many-weaker (is_let_go_under turn own) (is_under turn) own.pending (λ e is. and_left (is_under turn e) (is_held e.1 && is_free own e) is) in omega arith)
   | inl stays ↦ (let none = how_many-none (is_released v own turn) v.pending isnt in
-      let rows = own-rows v (turn_number v) call outcome tried (is_let_go turn own) in
+      let rows = own-rows v (turn_number v) call outcome tried (is_let_go_under turn own) in
       let no_new = none-new v (turn_number v) call outcome tried turn in
-      let split = how_many-split (is_let_go turn own) (is_free v) v.pending in
-      let free_before = how_many-weaker (λ e. is_let_go turn own e && is_free v e) (is_let_go turn v) v.pending (λ e is. was_free e is) in
-      let released = how_many-weaker (λ e. is_let_go turn own e && not (is_free v e)) (is_released v own turn) v.pending (λ e is. is_then e stays is) in
+      let split = how_many-split (is_let_go_under turn own) (is_free v) v.pending in
+      let free_before = how_many-weaker (λ e. is_let_go_under turn own e && is_free v e) (is_let_go_under turn v) v.pending (λ e is. was_free e is) in
+      let released = how_many-weaker (λ e. is_let_go_under turn own e && not (is_free v e)) (is_released v own turn) v.pending (λ e is. is_then e stays is) in
       omega arith)
 ]
   where
     own : Volume
     own = answered call (turn_number v) outcome
 
-    was_free : (e : ℕ × Pending) → (is_let_go turn own e && is_free v e) ≡ true → is_let_go turn v e ≡ true
+    was_free : (e : ℕ × Pending) → (is_let_go_under turn own e && is_free v e) ≡ true → is_let_go_under turn v e ≡ true
     was_free e is =
-        let let_go_now = and_left (is_let_go turn own e) (is_free v e) is in
-        let free : is_free v e ≡ true = and_right (is_let_go turn own e) (is_free v e) is in
+        let let_go_now = and_left (is_let_go_under turn own e) (is_free v e) is in
+        let free : is_free v e ≡ true = and_right (is_let_go_under turn own e) (is_free v e) is in
         let under : is_under turn e ≡ true = and_left (is_under turn e) (is_held e.1 && is_free own e) let_go_now in
         let held : is_held e.1 ≡ true = and_left (is_held e.1) (is_free own e) (and_right (is_under turn e) (is_held e.1 && is_free own e) let_go_now) in
         rw (under, held, free) refl
 
-    is_then : (e : ℕ × Pending) → lives own.pending turn ≡ true → (is_let_go turn own e && not (is_free v e)) ≡ true → is_released v own turn e ≡ true
+    is_then : (e : ℕ × Pending) → lives own.pending turn ≡ true → (is_let_go_under turn own e && not (is_free v e)) ≡ true → is_released v own turn e ≡ true
     is_then e stays is =
-        let let_go_now = and_left (is_let_go turn own e) (not (is_free v e)) is in
+        let let_go_now = and_left (is_let_go_under turn own e) (not (is_free v e)) is in
         let rest = and_right (is_under turn e) (is_held e.1 && is_free own e) let_go_now in
         let under : is_under turn e ≡ true = and_left (is_under turn e) (is_held e.1 && is_free own e) let_go_now in
         let held : is_held e.1 ≡ true = and_left (is_held e.1) (is_free own e) rest in
         let free : is_free own e ≡ true = and_right (is_held e.1) (is_free own e) rest in
-        let blocked : is_blocked (blocker_lives v) e.1 ≡ true = not_not (is_blocked (blocker_lives v) e.1) (and_right (is_let_go turn own e) (not (is_free v e)) is) in
+        let blocked : is_blocked (blocker_lives v) e.1 ≡ true = not_not (is_blocked (blocker_lives v) e.1) (and_right (is_let_go_under turn own e) (not (is_free v e)) is) in
         rw (under, held, blocked, stays, free) refl
       where
         not_not : (b : Bool) → not (not b) ≡ true → b ≡ true
@@ -341,7 +341,7 @@ turn-released v call starved may done none =
     as_often turn tried may_own before =
         let own : Volume = own_tried v call in
         let one = may_own.take_up.may.turns turn in
-        let fewer = how_many-weaker (is_let_go turn own) (is_under turn) own.pending (λ e is. and_left (is_under turn e) (is_held e.1 && is_free own e) is) in
+        let fewer = how_many-weaker (is_let_go_under turn own) (is_under turn) own.pending (λ e is. and_left (is_under turn e) (is_held e.1 && is_free own e) is) in
         elim (cases_Bool (list_any (is_released v own turn) v.pending)) [
           | inl some ↦ (let least = released-let_go v call (try v call (turn_number v)) turn may tried some in rw some (omega arith))
           | inr isnt ↦ (let none_left = let_go-released v call (try v call (turn_number v)) turn tried before isnt in rw isnt (omega arith))

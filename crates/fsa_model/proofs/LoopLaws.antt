@@ -30,7 +30,7 @@ use Rattle.fsa_model.proofs.SettleLaws.{MaySettle, IsNext, is_held_wrongly, may_
 use Rattle.fsa_model.proofs.TryLaws.{Leaves, Tries, TriesTo}
 use Rattle.fsa_model.proofs.TurnLaws.{try-keeps, tried-begins}
 use Rattle.fsa_model.proofs.WatchLaws.{asks_report, come_cases, come_volume, come_starved, come_taken}
-use Rattle.fsa_model.proofs.TakenLaws.{GoesOn, GoesOn-begins, GoesOn-settle_step, MayTakeUp, is_let_go}
+use Rattle.fsa_model.proofs.TakenLaws.{GoesOn, GoesOn-begins, GoesOn-settle_step, MayTakeUp, is_let_go_under}
 
 -- ---- one step
 
@@ -96,23 +96,23 @@ only_under v turn client number once some =
 
 -- what is let go after the step was so before it
 let_go-before : (v w x : Volume) (taken after : List ℕ) (client number turn : ℕ) → Step v w x taken after
-    → 1 ≤ how_many (λ e. is_call_of client number e && is_let_go turn x e) x.pending → 1 ≤ how_many (λ e. is_call_of client number e && is_let_go turn w e) w.pending
+    → 1 ≤ how_many (λ e. is_call_of client number e && is_let_go_under turn x e) x.pending → 1 ≤ how_many (λ e. is_call_of client number e && is_let_go_under turn w e) w.pending
 let_go-before v w x taken after client number turn step some =
-    let fewer = how_many-weaker (λ e. is_call_of client number e && is_let_go turn x e) (is_let_go turn x) x.pending (λ e both. and_right (is_call_of client number e) (is_let_go turn x e) both) in
+    let fewer = how_many-weaker (λ e. is_call_of client number e && is_let_go_under turn x e) (is_let_go_under turn x) x.pending (λ e both. and_right (is_call_of client number e) (is_let_go_under turn x e) both) in
     let before = step.on.taken turn in
     let now = step.then_on.taken turn in
     let more = step.longer turn in
-    let called = how_many-weaker (λ e. is_call_of client number e && is_let_go turn x e) (λ e. is_under turn e && is_call_of client number e) x.pending
-    (λ e both. and_true (is_under turn e) (is_call_of client number e) (and_left (is_under turn e) _ (and_right (is_call_of client number e) (is_let_go turn x e) both)) (and_left (is_call_of client number e) (is_let_go turn x e) both)) in
+    let called = how_many-weaker (λ e. is_call_of client number e && is_let_go_under turn x e) (λ e. is_under turn e && is_call_of client number e) x.pending
+    (λ e both. and_true (is_under turn e) (is_call_of client number e) (and_left (is_under turn e) _ (and_right (is_call_of client number e) (is_let_go_under turn x e) both)) (and_left (is_call_of client number e) (is_let_go_under turn x e) both)) in
     let kept = step.steps.pending (λ t call. t == turn && (call.client == client && call.number == number)) in
     let few : how_many (is_under turn) w.pending ≤ 1 = step.on.may.turns turn in
     let none = how_many-none (λ e. is_under turn e && not (is_call_of client number e)) w.pending
     (only-one (is_under turn) (is_call_of client number) w.pending few (some-how_many (λ e. is_under turn e && is_call_of client number e) w.pending (omega arith))) in
-    let split = how_many-split (is_let_go turn w) (is_call_of client number) w.pending in
-    let other = how_many-weaker (λ e. is_let_go turn w e && not (is_call_of client number e)) (λ e. is_under turn e && not (is_call_of client number e)) w.pending
-    (λ e both. and_true (is_under turn e) (not (is_call_of client number e)) (and_left (is_under turn e) _ (and_left (is_let_go turn w e) _ both)) (and_right (is_let_go turn w e) _ both)) in
-    let own = how_many-weaker (λ e. is_let_go turn w e && is_call_of client number e) (λ e. is_call_of client number e && is_let_go turn w e) w.pending
-    (λ e both. and_true (is_call_of client number e) (is_let_go turn w e) (and_right (is_let_go turn w e) _ both) (and_left (is_let_go turn w e) _ both)) in
+    let split = how_many-split (is_let_go_under turn w) (is_call_of client number) w.pending in
+    let other = how_many-weaker (λ e. is_let_go_under turn w e && not (is_call_of client number e)) (λ e. is_under turn e && not (is_call_of client number e)) w.pending
+    (λ e both. and_true (is_under turn e) (not (is_call_of client number e)) (and_left (is_under turn e) _ (and_left (is_let_go_under turn w e) _ both)) (and_right (is_let_go_under turn w e) _ both)) in
+    let own = how_many-weaker (λ e. is_let_go_under turn w e && is_call_of client number e) (λ e. is_call_of client number e && is_let_go_under turn w e) w.pending
+    (λ e both. and_true (is_call_of client number e) (is_let_go_under turn w e) (and_right (is_let_go_under turn w e) _ both) (and_left (is_let_go_under turn w e) _ both)) in
     omega arith
 
 AreLetGo-before : (v w x : Volume) (taken after : List ℕ) (ids : List CallId) → Step v w x taken after → AreLetGo x ids → AreLetGo w ids
@@ -125,35 +125,35 @@ AreLetGo-before v w x taken after (id ∷ more) step are = (one are.0, AreLetGo-
 
 -- the held call that is next is let go
 next-let_go : (w : Volume) (entry : ℕ × Pending) → IsNext w entry → is_held entry.1 ≡ true
-    → 1 ≤ how_many (λ e. is_call_of entry.1.call.client entry.1.call.number e && is_let_go entry.0 w e) w.pending
+    → 1 ≤ how_many (λ e. is_call_of entry.1.call.client entry.1.call.number e && is_let_go_under entry.0 w e) w.pending
 next-let_go w entry next held =
-    next.is_there (λ e. is_call_of entry.1.call.client entry.1.call.number e && is_let_go entry.0 w e)
+    next.is_there (λ e. is_call_of entry.1.call.client entry.1.call.number e && is_let_go_under entry.0 w e)
     (rw (held, ready-free w entry.1 next.ready, eq-eqb entry.0 entry.0 refl, eq-eqb entry.1.call.client entry.1.call.client refl, eq-eqb entry.1.call.number entry.1.call.number refl) refl)
 
 -- and isn't any more once it has been taken up
 not_again : (v w x : Volume) (taken : List ℕ) (entry : ℕ × Pending) (turn : ℕ) → Step v w x taken (taken ++ entry.0 ∷ []) → IsNext w entry → is_held entry.1 ≡ true
-    → 1 ≤ how_many (λ e. is_call_of entry.1.call.client entry.1.call.number e && is_let_go turn x e) x.pending → ⊥
+    → 1 ≤ how_many (λ e. is_call_of entry.1.call.client entry.1.call.number e && is_let_go_under turn x e) x.pending → ⊥
 not_again v w x taken entry turn step next held some =
     let client : ℕ = entry.1.call.client in
     let number : ℕ = entry.1.call.number in
     let go = next-let_go w entry next held in
-    let under = how_many-weaker (λ e. is_call_of client number e && is_let_go entry.0 w e) (λ e. is_call_of client number e && is_under entry.0 e) w.pending
+    let under = how_many-weaker (λ e. is_call_of client number e && is_let_go_under entry.0 w e) (λ e. is_call_of client number e && is_under entry.0 e) w.pending
     (λ e both. and_true (is_call_of client number e) (is_under entry.0 e) (and_left (is_call_of client number e) _ both) (and_left (is_under entry.0 e) _ (and_right (is_call_of client number e) _ both))) in
     let none = only_under w entry.0 client number step.on.once (omega arith) in
     let kept = step.steps.pending (λ t call. (call.client == client && call.number == number) && not (t == entry.0)) in
     elim (cases_Bool (turn == entry.0)) [
       | inl is ↦ (let same : turn ≡ entry.0 = eqb-true turn entry.0 is in
-          let some_here : 1 ≤ how_many (λ e. is_call_of client number e && is_let_go entry.0 x e) x.pending
-          = subst (λ (t : ℕ). 1 ≤ how_many (λ e. is_call_of client number e && is_let_go t x e) x.pending) same some in
-          let fewer = how_many-weaker (λ e. is_call_of client number e && is_let_go entry.0 x e) (is_let_go entry.0 x) x.pending (λ e both. and_right (is_call_of client number e) (is_let_go entry.0 x e) both) in
+          let some_here : 1 ≤ how_many (λ e. is_call_of client number e && is_let_go_under entry.0 x e) x.pending
+          = subst (λ (t : ℕ). 1 ≤ how_many (λ e. is_call_of client number e && is_let_go_under t x e) x.pending) same some in
+          let fewer = how_many-weaker (λ e. is_call_of client number e && is_let_go_under entry.0 x e) (is_let_go_under entry.0 x) x.pending (λ e both. and_right (is_call_of client number e) (is_let_go_under entry.0 x e) both) in
           let before = step.on.taken entry.0 in
           let now = step.then_on.taken entry.0 in
           let more = how_many-append (λ t. t == entry.0) taken (entry.0 ∷ []) in
           let one : how_many (λ t. t == entry.0) (entry.0 ∷ []) ≡ 1 = rw (eq-eqb entry.0 entry.0 refl) refl in
           let few : how_many (is_under entry.0) w.pending ≤ 1 = step.on.may.turns entry.0 in
-          let most = how_many-weaker (is_let_go entry.0 w) (is_under entry.0) w.pending (λ e both. and_left (is_under entry.0 e) _ both) in
+          let most = how_many-weaker (is_let_go_under entry.0 w) (is_under entry.0) w.pending (λ e both. and_left (is_under entry.0 e) _ both) in
           omega arith)
-      | inr other ↦ (let elsewhere = how_many-weaker (λ e. is_call_of client number e && is_let_go turn x e) (λ e. is_call_of client number e && not (is_under entry.0 e)) x.pending
+      | inr other ↦ (let elsewhere = how_many-weaker (λ e. is_call_of client number e && is_let_go_under turn x e) (λ e. is_call_of client number e && not (is_under entry.0 e)) x.pending
           (λ e both. and_true (is_call_of client number e) (not (is_under entry.0 e)) (and_left (is_call_of client number e) _ both)
           (apart e (and_left (is_under turn e) _ (and_right (is_call_of client number e) _ both)) other)) in
           omega arith)
@@ -216,7 +216,7 @@ ended_later seen client number reply is = go is
         never (row ∷ rows) = (let rest = never rows in elim (cases_Bool (is_call client number row.1)) [ inl is ↦ rw is (omega arith) | inr isnt ↦ rw isnt (omega arith) ])
 
     go : IsLetGo (with_end seen client number reply) client number → ⊥
-    go (inl let_go) = (let none = gone in let fewer = how_many-weaker (λ e. is_call_of client number e && is_let_go let_go.0 (with_end seen client number reply) e) (is_call_of client number) (with_end seen client number reply).pending (λ e both. and_left (is_call_of client number e) _ both) in
+    go (inl let_go) = (let none = gone in let fewer = how_many-weaker (λ e. is_call_of client number e && is_let_go_under let_go.0 (with_end seen client number reply) e) (is_call_of client number) (with_end seen client number reply).pending (λ e both. and_left (is_call_of client number e) _ both) in
         let some = let_go.1 in absurd (omega arith))
     go (inr asks) = (let none = gone in let fewer = how_many-weaker (λ e. is_call_of client number e && asks_report e.1.call.what) (is_call_of client number) (with_end seen client number reply).pending (λ e both. and_left (is_call_of client number e) _ both) in absurd (omega arith))
 

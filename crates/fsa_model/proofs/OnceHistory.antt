@@ -17,7 +17,7 @@ use Rattle.fsa_model.proofs.CountLaws.{and_left, and_right, how_many-weaker}
 use Rattle.fsa_model.proofs.OnceLaws.{is_same-refl}
 use Rattle.fsa_model.proofs.RowLaws.{option_cases}
 use Rattle.fsa_model.proofs.SettleLaws.{is_under, is_free, some_equal, none-ready}
-use Rattle.fsa_model.proofs.TakenLaws.{GivesAtMost, is_let_go, let_go, taken-once}
+use Rattle.fsa_model.proofs.TakenLaws.{GivesAtMost, is_let_go_under, let_go, taken-once}
 use Rattle.fsa_model.proofs.TryLaws.{Watches, Watches-equal, Watches-next, is_given}
 use Rattle.fsa_model.proofs.WaitLaws.{unbroken}
 use Rattle.fsa_model.proofs.TurnLaws.{MayTurn, Turns, turn-turns, Adds-answered, try-keeps}
@@ -91,7 +91,7 @@ run-breaks setup history r differ is = (let few : r.volume.last_break + unbroken
 none-let_go : (v : Volume) (turn : ℕ) → next_ready v ≡ None → let_go turn v ≡ 0
 none-let_go v turn done =
     let none = none-ready v done in
-    let weaker = how_many-weaker (is_let_go turn v) (λ e. is_ready v e.1) v.pending (λ e is. ready e (and_right (is_under turn e) (is_held e.1 && is_free v e) is)) in
+    let weaker = how_many-weaker (is_let_go_under turn v) (λ e. is_ready v e.1) v.pending (λ e is. ready e (and_right (is_under turn e) (is_held e.1 && is_free v e) is)) in
     omega arith
   where
     ready : (e : ℕ × Pending) → (is_held e.1 && is_free v e) ≡ true → is_ready v e.1 ≡ true

@@ -7,7 +7,7 @@ use Rattle.fsa_types.specs.Sorting.{in_order}
 use Rattle.fsa_types.specs.declared.request.Level.{Level}
 use Rattle.oplock_state.specs.declared.stream_oplocks.Grant.{Grant}
 use Rattle.oplock_state.specs.declared.stream_oplocks.Grant.TheVariants as grant
-use Rattle.volume_breaks.specs.Marks.{is_marked, is_opened_before}
+use Rattle.volume_breaks.specs.Marks.{is_oplock_marked, is_opened_before}
 use Rattle.volume_breaks.specs.declared.telling.Told.{Told}
 
 -- the oplocks, in the order in which they were granted; the number of the last break that began; how many more
@@ -28,7 +28,7 @@ has_oplock handle rows = list_any (λ oplock. oplock.handle == handle) rows
 
 -- the oplocks that the next break breaks, in order
 abbrev pub broken_next : State → Option ℕ → ℕ → List Oplock
-broken_next state acting key = in_order is_opened_before (filter (is_marked state.marked acting key) state.rows)
+broken_next state acting key = in_order is_opened_before (filter (is_oplock_marked state.marked acting key) state.rows)
 
 -- marked handles differ, and each has an oplock
 pub record AreMarked (marked : List ℕ) (rows : List Oplock) : Type 0 where
