@@ -17,7 +17,7 @@ use volume_rows::LinkRow;
 pub(crate) fn beginning_with<'a>(
     numbers: &'a [u64],
     links: &Table<LinkRow>,
-    table: &UpcaseTable,
+    upcase: &UpcaseTable,
     units: &[u16],
 ) -> &'a [u64]
     requires { AreInKeyOrder (name_key upcase.now) (links_at links.now.rows numbers.now) }
@@ -29,7 +29,12 @@ pub(crate) fn beginning_with<'a>(
 }
 
 // Where those end whose names begin with less than the units.
-fn first_place(numbers: &[u64], links: &Table<LinkRow>, table: &UpcaseTable, units: &[u16]) -> usize
+fn first_place(
+    numbers: &[u64],
+    links: &Table<LinkRow>,
+    upcase: &UpcaseTable,
+    units: &[u16],
+) -> usize
     requires { AreInKeyOrder (name_key upcase.now) (links_at links.now.rows numbers.now) }
     ensures bound { result ≤ length numbers.now }
     ensures point { IsPartitionPoint (λ id. is_gt (cmp_beginning upcase.now units.now (link_numbered links.now.rows id).1.name) ≡ true) (λ id. is_gt (cmp_beginning upcase.now units.now (link_numbered links.now.rows id).1.name) ≡ false) numbers.now result }
@@ -38,7 +43,7 @@ fn first_place(numbers: &[u64], links: &Table<LinkRow>, table: &UpcaseTable, uni
 }
 
 // Where those end whose names begin with the units or with less.
-fn end_place(numbers: &[u64], links: &Table<LinkRow>, table: &UpcaseTable, units: &[u16]) -> usize
+fn end_place(numbers: &[u64], links: &Table<LinkRow>, upcase: &UpcaseTable, units: &[u16]) -> usize
     requires { AreInKeyOrder (name_key upcase.now) (links_at links.now.rows numbers.now) }
     ensures bound { result ≤ length numbers.now }
     ensures point { IsPartitionPoint (λ id. is_ge (cmp_beginning upcase.now units.now (link_numbered links.now.rows id).1.name) ≡ true) (λ id. is_ge (cmp_beginning upcase.now units.now (link_numbered links.now.rows id).1.name) ≡ false) numbers.now result }
@@ -47,7 +52,7 @@ fn end_place(numbers: &[u64], links: &Table<LinkRow>, table: &UpcaseTable, units
 }
 
 // How units compare with the beginning of the name of a number's link.
-fn cmp_number(links: &Table<LinkRow>, table: &UpcaseTable, id: u64, units: &[u16]) -> Ordering
+fn cmp_number(links: &Table<LinkRow>, upcase: &UpcaseTable, id: u64, units: &[u16]) -> Ordering
     ensures { result ≡ cmp_beginning upcase.now units.now (link_numbered links.now.rows id).1.name }
 {
     match links.get(id) {
@@ -57,7 +62,7 @@ fn cmp_number(links: &Table<LinkRow>, table: &UpcaseTable, id: u64, units: &[u16
 }
 
 // How units compare with the beginning of a name.
-fn cmp_beginning(table: &UpcaseTable, units: &[u16], name: &[u16]) -> Ordering
+fn cmp_beginning(upcase: &UpcaseTable, units: &[u16], name: &[u16]) -> Ordering
     ensures { result ≡ cmp_beginning upcase.now units.now name.now }
 {
     let most = units.len().min(name.len());

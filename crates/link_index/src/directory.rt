@@ -72,7 +72,7 @@ impl Directory {
     }
 
     /// The link of this name; `None` exactly where there is none. Names are the same where their upcased units are equal.
-    pub fn get(&self, links: &Table<LinkRow>, table: &UpcaseTable, units: &[u16]) -> Option<u64>
+    pub fn get(&self, links: &Table<LinkRow>, upcase: &UpcaseTable, units: &[u16]) -> Option<u64>
         requires { AreInNameOrder upcase.now links.now.rows self.now }
         ensures { result ≡ option_map (λ entry. entry.0) (find (λ entry. same_name upcase.now entry.1.name units.now) (links_at links.now.rows self.now.numbers)) }
     {
@@ -90,7 +90,7 @@ impl Directory {
     pub fn after(
         &self,
         links: &Table<LinkRow>,
-        table: &UpcaseTable,
+        upcase: &UpcaseTable,
         after: Option<&[u16]>,
     ) -> &[u64]
         requires { AreInNameOrder upcase.now links.now.rows self.now }
@@ -109,7 +109,7 @@ impl Directory {
     pub fn beginning(
         &self,
         links: &Table<LinkRow>,
-        table: &UpcaseTable,
+        upcase: &UpcaseTable,
         after: Option<&[u16]>,
         units: &[u16],
     ) -> &[u64]
@@ -121,7 +121,7 @@ impl Directory {
 
     /// Puts in a link by its number and its name, which is new. The link may be added to its table later, as it has to be
     /// before the next call that takes the table. There has to be room for it. It takes no memory.
-    pub fn insert(&mut self, links: &Table<LinkRow>, table: &UpcaseTable, id: u64, units: &[u16])
+    pub fn insert(&mut self, links: &Table<LinkRow>, upcase: &UpcaseTable, id: u64, units: &[u16])
         requires room { 1 ≤ self.old.room }
         requires ordered { AreInNameOrder upcase.now links.now.rows self.old }
         requires is_new { All (λ entry. same_name upcase.now entry.1.name units.now ≡ false) (links_at links.now.rows self.old.numbers) }
@@ -146,7 +146,7 @@ impl Directory {
     pub fn remove(
         &mut self,
         links: &Table<LinkRow>,
-        table: &UpcaseTable,
+        upcase: &UpcaseTable,
         units: &[u16],
     ) -> Option<u64>
         requires { AreInNameOrder upcase.now links.now.rows self.old }
@@ -177,7 +177,7 @@ fn find_child(
     heads: &[u128],
     numbers: &[u64],
     links: &Table<LinkRow>,
-    table: &UpcaseTable,
+    upcase: &UpcaseTable,
     units: &[u16],
 ) -> Option<u64>
     requires ordered { AreInKeyOrder (name_key upcase.now) (links_at links.now.rows numbers.now) }
@@ -205,7 +205,7 @@ fn find_after<'a>(
     heads: &[u128],
     numbers: &'a [u64],
     links: &Table<LinkRow>,
-    table: &UpcaseTable,
+    upcase: &UpcaseTable,
     after: Option<&[u16]>,
 ) -> &'a [u64]
     requires ordered { AreInKeyOrder (name_key upcase.now) (links_at links.now.rows numbers.now) }
@@ -220,7 +220,7 @@ fn place_for(
     heads: &[u128],
     numbers: &[u64],
     links: &Table<LinkRow>,
-    table: &UpcaseTable,
+    upcase: &UpcaseTable,
     units: &[u16],
 ) -> usize
     requires ordered { AreInKeyOrder (name_key upcase.now) (links_at links.now.rows numbers.now) }
@@ -235,7 +235,7 @@ fn place_for(
 }
 
 // The order of the name of a number's link and another one.
-fn cmp_number(links: &Table<LinkRow>, table: &UpcaseTable, id: u64, units: &[u16]) -> Ordering
+fn cmp_number(links: &Table<LinkRow>, upcase: &UpcaseTable, id: u64, units: &[u16]) -> Ordering
     ensures { result ≡ cmp_name upcase.now (link_numbered links.now.rows id).1.name units.now }
 {
     match links.get(id) {
@@ -249,7 +249,7 @@ fn place_of(
     heads: &[u128],
     numbers: &[u64],
     links: &Table<LinkRow>,
-    table: &UpcaseTable,
+    upcase: &UpcaseTable,
     units: &[u16],
 ) -> Result<usize, usize>
     requires ordered { AreInKeyOrder (name_key upcase.now) (links_at links.now.rows numbers.now) }
@@ -275,7 +275,7 @@ fn search_heads(heads: &[u128], head: u128) -> Result<usize, usize>
 fn place_near(
     numbers: &[u64],
     links: &Table<LinkRow>,
-    table: &UpcaseTable,
+    upcase: &UpcaseTable,
     units: &[u16],
     place: usize,
 ) -> Result<usize, usize>
@@ -293,7 +293,7 @@ fn place_near(
 fn place_among(
     numbers: &[u64],
     links: &Table<LinkRow>,
-    table: &UpcaseTable,
+    upcase: &UpcaseTable,
     units: &[u16],
 ) -> Result<usize, usize>
     requires { AreInKeyOrder (name_key upcase.now) (links_at links.now.rows numbers.now) }
@@ -307,7 +307,7 @@ fn begin_of(
     heads: &[u128],
     numbers: &[u64],
     links: &Table<LinkRow>,
-    table: &UpcaseTable,
+    upcase: &UpcaseTable,
     after: Option<&[u16]>,
 ) -> usize
     requires ordered { AreInKeyOrder (name_key upcase.now) (links_at links.now.rows numbers.now) }
@@ -326,7 +326,7 @@ fn begin_behind(
     heads: &[u128],
     numbers: &[u64],
     links: &Table<LinkRow>,
-    table: &UpcaseTable,
+    upcase: &UpcaseTable,
     units: &[u16],
 ) -> usize
     requires ordered { AreInKeyOrder (name_key upcase.now) (links_at links.now.rows numbers.now) }

@@ -11,7 +11,7 @@ const UNITS: usize = 16;
 
 /// The first sixteen upcased units of a name, in 8 bits each. Where the heads of two names differ, the names stand in
 /// the order of the heads. A unit from 255 on is told as 255, and nothing behind it is.
-pub(crate) fn head_of(table: &UpcaseTable, units: &[u16]) -> u128
+pub(crate) fn head_of(upcase: &UpcaseTable, units: &[u16]) -> u128
     ensures { result ≡ head_of upcase.now units.now }
 {
     let mut head = 0;
@@ -25,7 +25,7 @@ pub(crate) fn head_of(table: &UpcaseTable, units: &[u16]) -> u128
 }
 
 // The unit at this place, upcased; 0 past the end.
-fn unit_at(table: &UpcaseTable, units: &[u16], place: usize) -> u16
+fn unit_at(upcase: &UpcaseTable, units: &[u16], place: usize) -> u16
     ensures { result ≡ unit_at (upcased upcase.now units.now) place }
 {
     match unit_in(units, place) {
