@@ -17,10 +17,12 @@ fn upper_digit_of(byte: u8) -> u16
     ensures digit { result ≡ upper_digit_of byte }
     ensures small { result ≤ 16 }
 {
-    match byte {
-        b'0'..=b'9' => u16::from(byte - b'0'),
-        b'A'..=b'F' => u16::from(byte - 55),
-        _ => 16,
+    if b'0' <= byte && byte <= b'9' {
+        u16::from(byte - b'0')
+    } else if b'A' <= byte && byte <= b'F' {
+        u16::from(byte - 55)
+    } else {
+        16
     }
 }
 
