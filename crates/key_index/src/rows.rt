@@ -24,21 +24,21 @@ pub fn index_of_rows<R>()
     ensures changed { (key : R → ℕ) (change : R → R) (rows : List (ℕ × R)) (entries : List (ℕ × ℕ)) (id : ℕ) → ((row : R) → key (change row) ≡ key row) → IsIndexOf key rows entries
         → IsIndexOf key (with_row_changed change rows id) entries }
     ensures entries { (key : R → ℕ) (rows : List (ℕ × R)) (entries : List (ℕ × ℕ)) (k : ℕ) → IsIndexOf key rows entries
-        → entries_of entries k ≡ pairs key (rows_with key rows k) }
+        → entries_under entries k ≡ pairs key (rows_with key rows k) }
     ensures live { (key : R → ℕ) (rows : List (ℕ × R)) (entries : List (ℕ × ℕ)) (k : ℕ) → IsIndexOf key rows entries
-        → All (λ entry. lives rows entry.1 ≡ true) (entries_of entries k) }
+        → All (λ entry. lives rows entry.1 ≡ true) (entries_under entries k) }
     ensures first { (key : R → ℕ) (rows : List (ℕ × R)) (entries : List (ℕ × ℕ)) (k : ℕ) → IsIndexOf key rows entries
-        → option_map (λ row. row.0) (find (λ row. key row.1 == k) rows) ≡ option_map (λ entry. entry.1) (slice_get (entries_of entries k) 0) }
+        → option_map (λ row. row.0) (find (λ row. key row.1 == k) rows) ≡ option_map (λ entry. entry.1) (slice_get (entries_under entries k) 0) }
     ensures many { (key : R → ℕ) (rows : List (ℕ × R)) (entries : List (ℕ × ℕ)) (k : ℕ) → IsIndexOf key rows entries
-        → length (filter (λ row. key row.1 == k) rows) ≡ length (entries_of entries k) }
+        → length (filter (λ row. key row.1 == k) rows) ≡ length (entries_under entries k) }
     ensures rows { (key : R → ℕ) (rows : List (ℕ × R)) (last : ℕ) (entries : List (ℕ × ℕ)) (k : ℕ) → IsNumbered rows last → IsIndexOf key rows entries
-        → rows_at rows (entries_of entries k) ≡ rows_with key rows k }
+        → rows_of_entries rows (entries_under entries k) ≡ rows_with key rows k }
     ensures listed { (key : R → ℕ) (rows : List (ℕ × R)) (last : ℕ) (entries : List (ℕ × ℕ)) (k : ℕ) (test : ℕ × R → Bool) → IsNumbered rows last → IsIndexOf key rows entries
-        → filter (λ row. key row.1 == k && test row) rows ≡ filter test (rows_at rows (entries_of entries k)) }
+        → filter (λ row. key row.1 == k && test row) rows ≡ filter test (rows_of_entries rows (entries_under entries k)) }
     ensures found { (key : R → ℕ) (rows : List (ℕ × R)) (last : ℕ) (entries : List (ℕ × ℕ)) (k : ℕ) (test : ℕ × R → Bool) → IsNumbered rows last → IsIndexOf key rows entries
-        → option_map (λ row. row.0) (find (λ row. key row.1 == k && test row) rows) ≡ option_map (λ entry. entry.1) (find (row_passes rows test) (entries_of entries k)) }
+        → option_map (λ row. row.0) (find (λ row. key row.1 == k && test row) rows) ≡ option_map (λ entry. entry.1) (find (row_passes rows test) (entries_under entries k)) }
     ensures any { (key : R → ℕ) (rows : List (ℕ × R)) (last : ℕ) (entries : List (ℕ × ℕ)) (k : ℕ) (test : ℕ × R → Bool) → IsNumbered rows last → IsIndexOf key rows entries
-        → list_any (λ row. key row.1 == k && test row) rows ≡ list_any (row_passes rows test) (entries_of entries k) }
+        → list_any (λ row. key row.1 == k && test row) rows ≡ list_any (row_passes rows test) (entries_under entries k) }
     ensures counted { (key : R → ℕ) (rows : List (ℕ × R)) (last : ℕ) (entries : List (ℕ × ℕ)) (k : ℕ) (test : ℕ × R → Bool) → IsNumbered rows last → IsIndexOf key rows entries
-        → length (filter (λ row. key row.1 == k && test row) rows) ≡ length (filter (row_passes rows test) (entries_of entries k)) }
+        → length (filter (λ row. key row.1 == k && test row) rows) ≡ length (filter (row_passes rows test) (entries_under entries k)) }
 {}

@@ -300,7 +300,7 @@ fn listed_by_number(
 ) -> Result<BlockerList, NoMemory>
     requires { found ≡ count_by (conflicts want handle at count) near.now }
     ensures { (ranges : List Range) → AreRisingRanges ranges → AreSameByPlace (filter (conflicts want handle at count) near.now) (filter (conflicts want handle at count) ranges)
-        → IfOk result (λ list. list ≡ full (blockers_of (conflicts want handle at count) ranges)) }
+        → IfOk result (λ list. list ≡ full (range_blockers (conflicts want handle at count) ranges)) }
 {
     let mut list = list_for(alloc, found)?;
     let mut last = None;

@@ -252,7 +252,7 @@ fn is_stream_before(upcase: &UpcaseTable, one: &StreamRow, other: &StreamRow) ->
 
 // The first of the streams of this file whose names come after this one, where `first` was the first of some of
 // them, and the stream of number `id` is one more.
-fn first_of<'a>(
+fn first_with<'a>(
     upcase: &UpcaseTable,
     file: u64,
     units: &[u16],
@@ -288,11 +288,11 @@ fn first_at<'a>(
 ) -> Option<(u64, &'a StreamRow)>
     ensures { let was = option_map (λ e. (e.0, e.1.now.stream)) first.entry in
         option_map (λ e. (e.0, e.1.now.stream)) result
-        ≡ option_map_or (λ row. first_of (is_stream_before upcase.now) (λ e. is_stream_after upcase.now file units.now e.1) (id, row) was) (row_of (streams_in table.now.rows) id) was }
+        ≡ option_map_or (λ row. first_with (is_stream_before upcase.now) (λ e. is_stream_after upcase.now file units.now e.1) (id, row) was) (row_of (streams_in table.now.rows) id) was }
 {
     match table.get(id) {
         None => first,
-        Some(row) => first_of(upcase, file, units, id, row, first),
+        Some(row) => first_with(upcase, file, units, id, row, first),
     }
 }
 

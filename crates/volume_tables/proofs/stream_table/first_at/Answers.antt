@@ -6,4 +6,4 @@ pub returns-in-None : goal.returns-in-None
 returns-in-None c = rw (row_of-map (λ kept. kept.stream) c.args.table.now.rows c.args.id, ← c.in-None.ensures) refl
 
 pub returns-in-Some : goal.returns-in-Some
-returns-in-Some c = rw (row_of-map (λ kept. kept.stream) c.args.table.now.rows c.args.id, ← c.in-Some.ensures) c.first_of.ensures
+returns-in-Some c = rw (row_of-map (λ kept. kept.stream) c.args.table.now.rows c.args.id, ← c.in-Some.ensures) c.first_with.ensures
