@@ -16,7 +16,7 @@ returns-then-key-key_of c rows is =
     let index : IndexedHandles = record { calls = i.calls.entries; streams = i.streams.entries; links = i.links.entries; room = i.room } in
     let mine : AreIndexed rows index = rw (← c.self.view_is) at is in
     next-own c.args.client c.args.after rows index c.ranges.after.fits mine c.after.ensures.rising (c.in-Some.key, c.in-Some.id) (rw c.call_key_of.ensures at (sym c.after.ensures.entry ∙ c.in-Some.is))
-    (rw c.key_of-in-Some.ensures at c.if-key-key_of.true)
+    (rw c.call_key_of-in-Some.ensures at c.if-key-call_key_of.true)
 
 pub returns-else-key-key_of : goal.returns-else-key-key_of
 returns-else-key-key_of c rows is =
@@ -24,4 +24,4 @@ returns-else-key-key_of c rows is =
     let index : IndexedHandles = record { calls = i.calls.entries; streams = i.streams.entries; links = i.links.entries; room = i.room } in
     let mine : AreIndexed rows index = rw (← c.self.view_is) at is in
     next-other c.args.client c.args.after rows index c.ranges.after.fits mine c.after.ensures.rising (c.in-Some.key, c.in-Some.id) (rw c.call_key_of.ensures at (sym c.after.ensures.entry ∙ c.in-Some.is))
-    (rw c.key_of-in-Some.ensures at c.if-key-key_of.false)
+    (rw c.call_key_of-in-Some.ensures at c.if-key-call_key_of.false)
