@@ -1,5 +1,6 @@
 -- Laws of a text that is gathered and put now and then.
-use Rattle.std.proofs.Common.{◌≡◌, ◌∙◌, ℕ, List, [], ◌++◌, ap, sym, subst, append_assoc, append-nil}
+use Rattle.std.proofs.Common.{◌≡◌, ◌∙◌, ℕ, List, [], ◌++◌, length, take, drop, ap, sym, subst, append_assoc, append-nil}
+use Rattle.std.proofs.Math.Seq.{drop-append_seam, take-append_seam}
 use Rattle.std.specs.Prelude.{Err}
 use Rattle.wire_io.specs.Sink.{Written, Appends, AppendsPart}
 use Rattle.wire_io.proofs.SinkLaws.{Appends-append, Appends-none, AppendsPart-append, AppendsPart-longer}
@@ -23,14 +24,30 @@ Gathers-append first mid now gathered between later text more one two = record {
   put = Appends-append first mid now one.front two.front one.put two.put;
 }
 
--- a part of what was gathered and of the bytes behind it is one of the whole text
-pub around-failed : (written written_now : Written) (gathered mid before bytes after text : List ℕ) → mid ≡ gathered ++ before → before ++ bytes ++ after ≡ text → AppendsPart written written_now (mid ++ bytes) → AppendsPart written written_now (gathered ++ text)
-around-failed written written_now gathered mid before bytes after text begun is part =
-    let all : gathered ++ text ≡ (mid ++ bytes) ++ after = ap (λ (rest : List ℕ). gathered ++ rest) (sym is) ∙ regroup gathered before bytes after ∙ ap (λ (front : List ℕ). front ++ bytes ++ after) (sym begun) in
-    subst (AppendsPart written written_now) (sym all) (AppendsPart-longer written written_now (mid ++ bytes) after part)
+-- what was gathered, the bytes of a text behind what stands before them, and what follows them
+around-splits : (gathered mid before bytes after text : List ℕ) (place : ℕ) → place ≡ length (gathered ++ before) → mid ≡ (gathered ++ before) ++ after → before ++ bytes ++ after ≡ text
+    → gathered ++ text ≡ (take place mid ++ bytes) ++ drop place mid
+around-splits gathered mid before bytes after text place here made is =
+    rw (here, made, take-append_seam (gathered ++ before) after, drop-append_seam (gathered ++ before) after, ← is) (regroup gathered before bytes after)
   where
     regroup : (gathered before bytes after : List ℕ) → gathered ++ (before ++ bytes ++ after) ≡ ((gathered ++ before) ++ bytes) ++ after
     regroup gathered before bytes after = simp append_assoc
+
+-- all up to the bytes was put, and the bytes, and what follows them is gathered
+pub around-put : (written written_now : Written) (gathered mid gathered_now before bytes after text : List ℕ) (place : ℕ) → place ≡ length (gathered ++ before) → mid ≡ (gathered ++ before) ++ after → before ++ bytes ++ after ≡ text
+    → Appends written written_now (take place mid ++ bytes) → gathered_now ≡ drop place mid → Gathers written written_now gathered gathered_now text
+around-put written written_now gathered mid gathered_now before bytes after text place here made is put rest = record {
+  front = take place mid ++ bytes;
+  splits = rw rest (around-splits gathered mid before bytes after text place here made is);
+  put = put;
+}
+
+-- a part of it was put
+pub around-failed : (written written_now : Written) (gathered mid before bytes after text : List ℕ) (place : ℕ) → place ≡ length (gathered ++ before) → mid ≡ (gathered ++ before) ++ after → before ++ bytes ++ after ≡ text
+    → AppendsPart written written_now (take place mid ++ bytes) → AppendsPart written written_now (gathered ++ text)
+around-failed written written_now gathered mid before bytes after text place here made is part =
+    subst (AppendsPart written written_now) (sym (around-splits gathered mid before bytes after text place here made is))
+    (AppendsPart-longer written written_now (take place mid ++ bytes) (drop place mid) part)
 
 -- what was gathered was put in place of a text
 pub GivesUp-adds : (written written_now : Written) (gathered mid gathered_now text : List ℕ) (fault : TextFault) → mid ≡ gathered → GivesUp written written_now mid gathered_now fault → Adds written written_now gathered gathered_now text (Err fault)

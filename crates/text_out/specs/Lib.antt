@@ -1,3 +1,4 @@
+pub mod Drafts
 pub mod EntrySteps
 pub mod LongTurns
 pub mod Writes

@@ -9,40 +9,43 @@ ghost use Rattle.fsa_model.specs.Numbers.{glyph, spelled};
 ghost use Rattle.fsa_model.specs.Text.{body_text};
 ghost use Rattle.fsa_model.specs.Words.{is_plain};
 
-use crate::digits::{digit, push_hex};
+use crate::digits::digit;
+use crate::draft::Draft;
 use crate::text::{level_word, push_text};
 use fsa_types::{Level, NoMemory};
 use itoa::Buffer;
 
 // The hexadecimal digits of a number, none of zero.
-fn push_digits(line: &mut Vec<u8>, number: u32) -> Result<(), NoMemory>
-    ensures { IfOk result (λ _. line.new.items ≡ line.old.items ++ map glyph (digits_of 16 number)) }
+fn push_digits(draft: &mut Draft, number: u32) -> Result<(), NoMemory>
+    ensures lines { IfOk result (λ _. draft.new.lines ≡ draft.old.lines ++ map glyph (digits_of 16 number)) }
+    ensures before { draft.new.before ≡ draft.old.before }
 {
     if number > 0 {
-        push_digits(line, number / 16)?;
-        line.push(digit((number % 16) as u8))?;
+        push_digits(draft, number / 16)?;
+        draft.push(digit((number % 16) as u8))?;
     }
     Ok(())
 }
 
 /// Puts a hexadecimal number at the end.
-pub fn push_hexadecimal(line: &mut Vec<u8>, number: u32) -> Result<(), NoMemory>
-    ensures { IfOk result (λ _. line.new.items ≡ line.old.items ++ spelled 16 number) }
+pub fn push_hexadecimal(draft: &mut Draft, number: u32) -> Result<(), NoMemory>
+    ensures lines { IfOk result (λ _. draft.new.lines ≡ draft.old.lines ++ spelled 16 number) }
+    ensures before { draft.new.before ≡ draft.old.before }
 {
     if number == 0 {
-        line.push(b'0')?;
-        Ok(())
+        draft.push(b'0')
     } else {
-        push_digits(line, number)
+        push_digits(draft, number)
     }
 }
 
 // A mask.
-fn push_mask(line: &mut Vec<u8>, mask: u32) -> Result<(), NoMemory>
-    ensures { IfOk result (λ _. line.new.items ≡ line.old.items ++ mask_text mask) }
+fn push_mask(draft: &mut Draft, mask: u32) -> Result<(), NoMemory>
+    ensures lines { IfOk result (λ _. draft.new.lines ≡ draft.old.lines ++ mask_text mask) }
+    ensures before { draft.new.before ≡ draft.old.before }
 {
-    push_text(line, " 0x")?;
-    push_hexadecimal(line, mask)
+    push_text(draft, " 0x")?;
+    push_hexadecimal(draft, mask)
 }
 
 // Whether a unit is printed as itself.
@@ -62,70 +65,68 @@ fn upper_digit(digit: u16) -> u8
 }
 
 /// Puts a unit at the end, as itself or as `%` and four digits.
-pub fn push_unit(line: &mut Vec<u8>, unit: u16) -> Result<(), NoMemory>
-    ensures { IfOk result (λ _. line.new.items ≡ line.old.items ++ unit_text unit) }
+pub fn push_unit(draft: &mut Draft, unit: u16) -> Result<(), NoMemory>
+    ensures lines { IfOk result (λ _. draft.new.lines ≡ draft.old.lines ++ unit_text unit) }
+    ensures before { draft.new.before ≡ draft.old.before }
 {
     if is_plain(unit) {
-        line.push(unit as u8)?;
-        return Ok(());
+        return draft.push(unit as u8);
     }
-    line.push(b'%')?;
-    line.push(upper_digit(unit / 16 / 16 / 16))?;
-    line.push(upper_digit(unit / 16 / 16 % 16))?;
-    line.push(upper_digit(unit / 16 % 16))?;
-    line.push(upper_digit(unit % 16))?;
-    Ok(())
+    draft.push(b'%')?;
+    draft.push(upper_digit(unit / 16 / 16 / 16))?;
+    draft.push(upper_digit(unit / 16 / 16 % 16))?;
+    draft.push(upper_digit(unit / 16 % 16))?;
+    draft.push(upper_digit(unit % 16))
 }
 
 // Units, one after another.
-fn push_units(line: &mut Vec<u8>, units: &[u16]) -> Result<(), NoMemory>
-    ensures { IfOk result (λ _. line.new.items ≡ line.old.items ++ flat_map unit_text units.now) }
+fn push_units(draft: &mut Draft, units: &[u16]) -> Result<(), NoMemory>
+    ensures lines { IfOk result (λ _. draft.new.lines ≡ draft.old.lines ++ flat_map unit_text units.now) }
+    ensures before { draft.new.before ≡ draft.old.before }
 {
     for unit in units {
-        push_unit(line, *unit)?;
+        push_unit(draft, *unit)?;
     }
     Ok(())
 }
 
 /// What follows the status where a break was told: the level, and whether it wants an answer.
-pub fn push_broken(line: &mut Vec<u8>, level: Level, ack: bool) -> Result<(), NoMemory>
-    ensures { IfOk result (λ _. line.new.items ≡ line.old.items ++ body_text (Broken level ack)) }
+pub fn push_broken(draft: &mut Draft, level: Level, ack: bool) -> Result<(), NoMemory>
+    ensures lines { IfOk result (λ _. draft.new.lines ≡ draft.old.lines ++ body_text (Broken level ack)) }
+    ensures before { draft.new.before ≡ draft.old.before }
 {
-    push_text(line, " broken ")?;
-    push_text(line, level_word(level))?;
-    push_text(line, if ack { " ack" } else { "" })
+    push_text(draft, " broken ")?;
+    push_text(draft, level_word(level))?;
+    push_text(draft, if ack { " ack" } else { "" })
 }
 
 /// What follows the status where a path met a reparse point: its tag, its bytes, and the rest of the path.
-pub fn push_stopped(
-    line: &mut Vec<u8>,
-    tag: u32,
-    bytes: &[u8],
-    rest: &[u16],
-) -> Result<(), NoMemory>
-    ensures { IfOk result (λ _. line.new.items ≡ line.old.items ++ body_text (Stopped tag bytes.now rest.now)) }
+pub fn push_stopped(draft: &mut Draft, tag: u32, bytes: &[u8], rest: &[u16]) -> Result<(), NoMemory>
+    ensures lines { IfOk result (λ _. draft.new.lines ≡ draft.old.lines ++ body_text (Stopped tag bytes.now rest.now)) }
+    ensures before { draft.new.before ≡ draft.old.before }
 {
-    push_mask(line, tag)?;
-    push_text(line, " x")?;
-    push_hex(line, bytes)?;
-    push_text(line, " =")?;
-    push_units(line, rest)
+    push_mask(draft, tag)?;
+    push_text(draft, " x")?;
+    draft.push_hex(bytes)?;
+    push_text(draft, " =")?;
+    push_units(draft, rest)
 }
 
 // A number, behind a space.
-fn push_wide(line: &mut Vec<u8>, number: u64) -> Result<(), NoMemory>
-    ensures { IfOk result (λ _. line.new.items ≡ line.old.items ++ 32 ∷ decimal number) }
+fn push_wide(draft: &mut Draft, number: u64) -> Result<(), NoMemory>
+    ensures lines { IfOk result (λ _. draft.new.lines ≡ draft.old.lines ++ 32 ∷ decimal number) }
+    ensures before { draft.new.before ≡ draft.old.before }
 {
     let mut buffer = Buffer::new();
-    line.push(32)?;
-    line.extend_from_slice(buffer.format(number).as_bytes())?;
-    Ok(())
+    draft.push(32)?;
+    draft.push_bytes(buffer.format(number).as_bytes())
 }
 
 /// What follows the status of a quota: what is charged, and the limit.
-pub fn push_quota(line: &mut Vec<u8>, charge: u64, limit: u64) -> Result<(), NoMemory>
-    ensures { IfOk result (λ _. line.new.items ≡ line.old.items ++ body_text (Quota charge limit)) }
+pub fn push_quota(draft: &mut Draft, charge: u64, limit: u64) -> Result<(), NoMemory>
+    ensures lines { IfOk result (λ _. draft.new.lines ≡ draft.old.lines ++ body_text (Quota charge limit)) }
+    ensures before { draft.new.before ≡ draft.old.before }
 {
-    push_wide(line, charge)?;
-    push_wide(line, limit)
+    push_wide(draft, charge)?;
+    push_wide(draft, limit)
 }

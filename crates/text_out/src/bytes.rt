@@ -9,8 +9,8 @@ use crate::digits::write_digits;
 use fsa_types::Bytes;
 use wire_io::{Failed, Sink, put_all};
 
-/// How many bytes a part has at most.
-pub const PART: usize = 8192;
+// How many bytes a part has at most.
+const PART: usize = 8192;
 
 /// Writes `x` and two digits for each byte, part by part. It takes no memory. A put that failed is the
 /// last, and leaves a prefix of them written, and not all.
@@ -21,21 +21,22 @@ pub fn write_bytes<K: Sink>(sink: &mut K, bytes: &Bytes) -> Result<(), Failed>
     ensures cause { HasCause (K.faults sink.old) (K.faults sink.new) result }
 {
     put_all(sink, b"x")?;
-    write_hex(sink, bytes.bytes())
+    write_hex(sink, bytes)
 }
 
 // Writes two digits for each byte.
-fn write_hex<K: Sink>(sink: &mut K, bytes: &[u8]) -> Result<(), Failed>
+fn write_hex<K: Sink>(sink: &mut K, bytes: &Bytes) -> Result<(), Failed>
     ensures all { OnOk result (Appends (K.written sink.old) (K.written sink.new) (hex_digits bytes.now)) }
     ensures part { OnErr result (AppendsPart (K.written sink.old) (K.written sink.new) (hex_digits bytes.now)) }
     ensures last { OnErr result (FailsLast (K.faults sink.old) (K.faults sink.new) (K.written sink.new).since_fault) }
     ensures cause { HasCause (K.faults sink.old) (K.faults sink.new) result }
 {
-    let mut rest = bytes;
-    'parts: while !rest.is_empty() {
-        let (part, after) = rest.split_at(rest.len().min(PART));
-        write_part(sink, part)?;
-        rest = after;
+    let len = bytes.bytes().len();
+    let mut at = 0;
+    'parts: while at < len {
+        let count = (len - at).min(PART);
+        write_part(sink, bytes.part(at, count))?;
+        at += count;
     }
     Ok(())
 }

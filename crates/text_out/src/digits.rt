@@ -1,9 +1,7 @@
 //! Bytes as hexadecimal digits.
 
-ghost use Rattle.std.specs.Prelude.{◌≡◌, ◌<◌, ◌*◌, ◌++◌, length, IfOk};
+ghost use Rattle.std.specs.Prelude.{◌≡◌, ◌<◌, ◌*◌, length};
 ghost use Rattle.fsa_model.specs.Text.{digit, hex_digits};
-
-use fsa_types::NoMemory;
 
 /// The digit of a number below 16, in lower case.
 pub fn digit(n: u8) -> u8
@@ -23,20 +21,4 @@ pub fn write_digits(bytes: &[u8], digits: &mut [u8])
         digits[2 * i] = digit(byte / 16);
         digits[2 * i + 1] = digit(byte % 16);
     }
-}
-
-/// Puts two digits for each byte at the end.
-pub fn push_hex(line: &mut Vec<u8>, bytes: &[u8]) -> Result<(), NoMemory>
-    ensures { IfOk result (λ _. line.new.items ≡ line.old.items ++ hex_digits bytes.now) }
-{
-    let begin = line.len();
-    let Some(count) = bytes.len().checked_mul(2) else {
-        return Err(NoMemory);
-    };
-    let Some(end) = begin.checked_add(count) else {
-        return Err(NoMemory);
-    };
-    line.resize(end, 0)?;
-    write_digits(bytes, &mut line[begin..]);
-    Ok(())
 }

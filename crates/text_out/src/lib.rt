@@ -14,16 +14,18 @@
 //!
 //! [`write_bytes`] writes a string of bytes, part by part and without memory.
 //!
-//! **Cost.** The lines of a turn are made in memory and gathered. Once there are 65,536 bytes, all are put, so
-//! that most turns cost no put. Where there is no memory for a turn's lines none of them is put,
-//! and what was gathered before is. Of an answer that gives more than 8,192 bytes only what stands before
-//! and behind them is gathered, and their digits are put part by part. Time is linear in what is put, and
-//! memory in a block and the longest turn's lines, but for those digits.
+//! **Cost.** The lines of a turn are made behind what is gathered. Once there are 65,536 bytes, all are put, so
+//! that most turns cost no put, and none more than one. Where there is no memory for a turn's lines they are
+//! taken away again. Where its answer gives bytes, it goes out around these then: what stands before them is put,
+//! their digits are put in parts of 8,192 bytes, which takes no memory, and what follows them is gathered. Where
+//! there is no memory for that either, or no such answer, none of the lines is put, and what was gathered before
+//! is. Time is linear in what is put, and memory in a block and the longest turn's lines.
 #![tactic(auto)]
 
 mod bodies;
 mod bytes;
 mod digits;
+mod draft;
 mod entries;
 mod text;
 mod write;

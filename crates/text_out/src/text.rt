@@ -1,6 +1,6 @@
 //! The printed text of a turn.
 
-ghost use Rattle.std.specs.Prelude.{◌≡◌, ◌<◌, ◌++◌, ◌∷◌, [], map, codes, decimal, IfOk};
+ghost use Rattle.std.specs.Prelude.{◌≡◌, ◌<◌, ◌++◌, ◌∷◌, [], length, map, codes, decimal, IfOk};
 ghost use Rattle.fsa_types.specs.Status.{status_name};
 ghost use Rattle.fsa_types.specs.declared.reply.Body.TheVariants.{Packed};
 ghost use Rattle.fsa_model.specs.Setup.{client_of};
@@ -10,7 +10,7 @@ ghost use Rattle.fsa_model.specs.Verbs.{request_word, verb};
 ghost use Rattle.text_out.specs.LongTurns.{after_bytes, answer_begun, before_bytes};
 
 use crate::bodies::{push_broken, push_quota, push_stopped};
-use crate::digits::push_hex;
+use crate::draft::Draft;
 use crate::entries::push_entries;
 use fsa_types::{
     Action, Answer, Body, Call, ClientList, EndOf, Interim, Level, NoMemory, Out, PackKind, Reply,
@@ -19,12 +19,12 @@ use fsa_types::{
 use itoa::Buffer;
 
 /// Puts a decimal number at the end.
-pub fn push_number(line: &mut Vec<u8>, number: u32) -> Result<(), NoMemory>
-    ensures { IfOk result (λ _. line.new.items ≡ line.old.items ++ decimal number) }
+pub fn push_number(draft: &mut Draft, number: u32) -> Result<(), NoMemory>
+    ensures lines { IfOk result (λ _. draft.new.lines ≡ draft.old.lines ++ decimal number) }
+    ensures before { draft.new.before ≡ draft.old.before }
 {
     let mut buffer = Buffer::new();
-    line.extend_from_slice(buffer.format(number).as_bytes())?;
-    Ok(())
+    draft.push_bytes(buffer.format(number).as_bytes())
 }
 
 // The word of a request.
@@ -96,221 +96,255 @@ fn action_text(action: Action) -> &'static str
 }
 
 // What follows the status.
-fn push_body(line: &mut Vec<u8>, body: &Body) -> Result<(), NoMemory>
-    ensures { IfOk result (λ _. line.new.items ≡ line.old.items ++ body_text body.now) }
+fn push_body(draft: &mut Draft, body: &Body) -> Result<(), NoMemory>
+    ensures lines { IfOk result (λ _. draft.new.lines ≡ draft.old.lines ++ body_text body.now) }
+    ensures before { draft.new.before ≡ draft.old.before }
 {
     match body {
-        Body::Opened(action) => push_text(line, action_text(*action)),
+        Body::Opened(action) => push_text(draft, action_text(*action)),
         Body::Got(bytes) => {
-            push_text(line, " x")?;
-            push_hex(line, bytes.bytes())
+            push_text(draft, " x")?;
+            draft.push_hex(bytes.bytes())
         }
         Body::Count(count) => {
-            line.push(32)?;
-            push_number(line, *count)
+            draft.push(32)?;
+            push_number(draft, *count)
         }
-        Body::Packed(kind, bytes) => push_packed(line, *kind, bytes.bytes()),
-        Body::Broken { level, ack } => push_broken(line, *level, *ack),
+        Body::Packed(kind, bytes) => push_packed(draft, *kind, bytes.bytes()),
+        Body::Broken { level, ack } => push_broken(draft, *level, *ack),
         Body::Left(level) => {
-            line.push(32)?;
-            push_text(line, level_word(*level))
+            draft.push(32)?;
+            push_text(draft, level_word(*level))
         }
-        Body::Stopped { tag, bytes, rest } => push_stopped(line, *tag, bytes.bytes(), rest.units()),
-        Body::Quota { charge, limit } => push_quota(line, *charge, *limit),
+        Body::Stopped { tag, bytes, rest } => push_stopped(
+            draft,
+            *tag,
+            bytes.bytes(),
+            rest.units(),
+        ),
+        Body::Quota { charge, limit } => push_quota(draft, *charge, *limit),
         Body::Nothing => Ok(()),
     }
 }
 
 // The bytes of packed entries, and the entries.
-fn push_packed(line: &mut Vec<u8>, kind: PackKind, bytes: &[u8]) -> Result<(), NoMemory>
-    ensures { IfOk result (λ _. line.new.items ≡ line.old.items ++ body_text (Packed kind bytes.now)) }
+fn push_packed(draft: &mut Draft, kind: PackKind, bytes: &[u8]) -> Result<(), NoMemory>
+    ensures lines { IfOk result (λ _. draft.new.lines ≡ draft.old.lines ++ body_text (Packed kind bytes.now)) }
+    ensures before { draft.new.before ≡ draft.old.before }
 {
-    push_text(line, " x")?;
-    push_hex(line, bytes)?;
-    push_entries(line, kind, bytes)
+    push_text(draft, " x")?;
+    draft.push_hex(bytes)?;
+    push_entries(draft, kind, bytes)
 }
 
 /// Puts a text at the end.
-pub fn push_text(line: &mut Vec<u8>, text: &str) -> Result<(), NoMemory>
-    ensures { IfOk result (λ _. line.new.items ≡ line.old.items ++ text.now) }
+pub fn push_text(draft: &mut Draft, text: &str) -> Result<(), NoMemory>
+    ensures lines { IfOk result (λ _. draft.new.lines ≡ draft.old.lines ++ text.now) }
+    ensures before { draft.new.before ≡ draft.old.before }
 {
-    line.extend_from_slice(text.as_bytes())?;
-    Ok(())
+    draft.push_bytes(text.as_bytes())
 }
 
 // How a call that is pending stands.
-fn push_interim(line: &mut Vec<u8>, interim: Interim) -> Result<(), NoMemory>
-    ensures { IfOk result (λ _. line.new.items ≡ line.old.items ++ interim_text interim) }
+fn push_interim(draft: &mut Draft, interim: Interim) -> Result<(), NoMemory>
+    ensures lines { IfOk result (λ _. draft.new.lines ≡ draft.old.lines ++ interim_text interim) }
+    ensures before { draft.new.before ≡ draft.old.before }
 {
     match interim {
-        Interim::Held => push_text(line, " held"),
-        Interim::LockWait => push_text(line, " lock"),
-        Interim::Watch => push_text(line, " watch"),
+        Interim::Held => push_text(draft, " held"),
+        Interim::LockWait => push_text(draft, " lock"),
+        Interim::Watch => push_text(draft, " watch"),
         Interim::Granted(level) => {
-            push_text(line, " granted ")?;
-            push_text(line, level_word(level))
+            push_text(draft, " granted ")?;
+            push_text(draft, level_word(level))
         }
-        Interim::Waiting => push_text(line, " waiting"),
+        Interim::Waiting => push_text(draft, " waiting"),
     }
 }
 
 // A client's name, and nothing where there is no such client.
-fn push_name(line: &mut Vec<u8>, clients: &ClientList, client: u32) -> Result<(), NoMemory>
-    ensures { IfOk result (λ _. line.new.items ≡ line.old.items ++ name_of (map client_of clients.now.items) client) }
+fn push_name(draft: &mut Draft, clients: &ClientList, client: u32) -> Result<(), NoMemory>
+    ensures lines { IfOk result (λ _. draft.new.lines ≡ draft.old.lines ++ name_of (map client_of clients.now.items) client) }
+    ensures before { draft.new.before ≡ draft.old.before }
 {
     if let Some(found) = clients.get(client as usize) {
-        line.extend_from_slice(found.name.bytes())?;
+        draft.push_bytes(found.name.bytes())?;
     }
     Ok(())
 }
 
 // A call's client and number.
 fn push_call(
-    line: &mut Vec<u8>,
+    draft: &mut Draft,
     clients: &ClientList,
     client: u32,
     number: u32,
 ) -> Result<(), NoMemory>
-    ensures { IfOk result (λ _. line.new.items ≡ line.old.items ++ call_text (map client_of clients.now.items) client number) }
+    ensures lines { IfOk result (λ _. draft.new.lines ≡ draft.old.lines ++ call_text (map client_of clients.now.items) client number) }
+    ensures before { draft.new.before ≡ draft.old.before }
 {
-    push_name(line, clients, client)?;
-    line.push(32)?;
-    push_number(line, number)
+    push_name(draft, clients, client)?;
+    draft.push(32)?;
+    push_number(draft, number)
 }
 
 // The line of a call that has ended.
 fn push_end(
-    line: &mut Vec<u8>,
+    draft: &mut Draft,
     clients: &ClientList,
     client: u32,
     number: u32,
     reply: &Reply,
 ) -> Result<(), NoMemory>
-    ensures { IfOk result (λ _. line.new.items ≡ line.old.items ++ end_line (map client_of clients.now.items) client number reply.now) }
+    ensures lines { IfOk result (λ _. draft.new.lines ≡ draft.old.lines ++ end_line (map client_of clients.now.items) client number reply.now) }
+    ensures before { draft.new.before ≡ draft.old.before }
 {
-    push_call(line, clients, client, number)?;
-    line.push(32)?;
-    push_text(line, reply.status.name())?;
-    push_body(line, &reply.body)?;
-    line.push(10)?;
-    Ok(())
+    push_call(draft, clients, client, number)?;
+    draft.push(32)?;
+    push_text(draft, reply.status.name())?;
+    push_body(draft, &reply.body)?;
+    draft.push(10)
 }
 
 // The line that answers the turn's own call.
 fn push_answer(
-    line: &mut Vec<u8>,
+    draft: &mut Draft,
     clients: &ClientList,
     call: &Call,
     answer: &Answer,
 ) -> Result<(), NoMemory>
-    ensures { IfOk result (λ _. line.new.items ≡ line.old.items ++ answer_line (map client_of clients.now.items) call.now answer.now) }
+    ensures lines { IfOk result (λ _. draft.new.lines ≡ draft.old.lines ++ answer_line (map client_of clients.now.items) call.now answer.now) }
+    ensures before { draft.new.before ≡ draft.old.before }
 {
     match answer {
-        Answer::Ended(reply) => push_end(line, clients, call.client, call.number, reply),
-        Answer::Pending(interim) => push_pending(line, clients, call, *interim),
+        Answer::Ended(reply) => push_end(draft, clients, call.client, call.number, reply),
+        Answer::Pending(interim) => push_pending(draft, clients, call, *interim),
     }
 }
 
 // The line of a call that is pending.
 fn push_pending(
-    line: &mut Vec<u8>,
+    draft: &mut Draft,
     clients: &ClientList,
     call: &Call,
     interim: Interim,
 ) -> Result<(), NoMemory>
-    ensures { IfOk result (λ _. line.new.items ≡ line.old.items ++ answer_line (map client_of clients.now.items) call.now (Answer.Pending interim)) }
+    ensures lines { IfOk result (λ _. draft.new.lines ≡ draft.old.lines ++ answer_line (map client_of clients.now.items) call.now (Answer.Pending interim)) }
+    ensures before { draft.new.before ≡ draft.old.before }
 {
-    push_call(line, clients, call.client, call.number)?;
-    push_text(line, " PENDING")?;
-    push_interim(line, interim)?;
-    line.push(10)?;
-    Ok(())
+    push_call(draft, clients, call.client, call.number)?;
+    push_text(draft, " PENDING")?;
+    push_interim(draft, interim)?;
+    draft.push(10)
 }
 
 // The lines of the calls that ended besides.
-fn push_ended(line: &mut Vec<u8>, clients: &ClientList, ended: &[EndOf]) -> Result<(), NoMemory>
-    ensures { IfOk result (λ _. line.new.items ≡ line.old.items ++ ended_lines (map client_of clients.now.items) ended.now) }
+fn push_ended(draft: &mut Draft, clients: &ClientList, ended: &[EndOf]) -> Result<(), NoMemory>
+    ensures lines { IfOk result (λ _. draft.new.lines ≡ draft.old.lines ++ ended_lines (map client_of clients.now.items) ended.now) }
+    ensures before { draft.new.before ≡ draft.old.before }
 {
     for end in ended {
-        push_end(line, clients, end.client, end.number, &end.reply)?;
+        push_end(draft, clients, end.client, end.number, &end.reply)?;
     }
     Ok(())
 }
 
 // The line that says whose turn it is and what it does.
-fn push_head(line: &mut Vec<u8>, clients: &ClientList, call: &Call) -> Result<(), NoMemory>
-    ensures { IfOk result (λ _. line.new.items ≡ line.old.items ++ codes "> " ++ call_text (map client_of clients.now.items) call.now.client call.now.number ++ 32 ∷ verb call.now.what ++ 10 ∷ []) }
+fn push_head(draft: &mut Draft, clients: &ClientList, call: &Call) -> Result<(), NoMemory>
+    ensures lines { IfOk result (λ _. draft.new.lines ≡ draft.old.lines ++ codes "> " ++ call_text (map client_of clients.now.items) call.now.client call.now.number ++ 32 ∷ verb call.now.what ++ 10 ∷ []) }
+    ensures before { draft.new.before ≡ draft.old.before }
 {
-    push_text(line, "> ")?;
-    push_call(line, clients, call.client, call.number)?;
-    line.push(32)?;
-    push_text(line, verb(&call.what))?;
-    line.push(10)?;
-    Ok(())
+    push_text(draft, "> ")?;
+    push_call(draft, clients, call.client, call.number)?;
+    draft.push(32)?;
+    push_text(draft, verb(&call.what))?;
+    draft.push(10)
 }
 
-/// Puts the lines of a turn at the end. `NoMemory` where there is no room for them; what stands at
-/// the end is then a prefix of them.
+/// Puts the lines of a turn at the end. `NoMemory` where there is no room for them; some of them may
+/// stand at the end then.
 pub fn push_turn(
-    line: &mut Vec<u8>,
+    draft: &mut Draft,
     clients: &ClientList,
     call: &Call,
     out: &Out,
 ) -> Result<(), NoMemory>
-    ensures { IfOk result (λ _. line.new.items ≡ line.old.items ++ turn_text (map client_of clients.now.items) call.now (out_of out.now)) }
+    ensures lines { IfOk result (λ _. draft.new.lines ≡ draft.old.lines ++ turn_text (map client_of clients.now.items) call.now (out_of out.now)) }
+    ensures before { draft.new.before ≡ draft.old.before }
 {
-    push_head(line, clients, call)?;
-    push_answer(line, clients, call, &out.answer)?;
-    push_ended(line, clients, out.ended.as_slice())
+    push_head(draft, clients, call)?;
+    push_answer(draft, clients, call, &out.answer)?;
+    push_ended(draft, clients, out.ended.as_slice())
 }
 
 // The line that answers the turn's own call, up to the bytes that it gives.
 fn push_answer_begun(
-    line: &mut Vec<u8>,
+    draft: &mut Draft,
     clients: &ClientList,
     call: &Call,
     status: Status,
 ) -> Result<(), NoMemory>
-    ensures { IfOk result (λ _. line.new.items ≡ line.old.items ++ answer_begun (map client_of clients.now.items) call.now status) }
+    ensures lines { IfOk result (λ _. draft.new.lines ≡ draft.old.lines ++ answer_begun (map client_of clients.now.items) call.now status) }
+    ensures before { draft.new.before ≡ draft.old.before }
 {
-    push_call(line, clients, call.client, call.number)?;
-    line.push(32)?;
-    push_text(line, status.name())?;
-    line.push(32)?;
-    Ok(())
+    push_call(draft, clients, call.client, call.number)?;
+    draft.push(32)?;
+    push_text(draft, status.name())?;
+    draft.push(32)
 }
 
-/// Puts the lines of a turn at the end, up to the bytes that its answer gives with this status.
-pub fn push_before_bytes(
-    line: &mut Vec<u8>,
+// The lines of a turn, up to the bytes that its answer gives with this status.
+fn push_before_bytes(
+    draft: &mut Draft,
     clients: &ClientList,
     call: &Call,
     status: Status,
 ) -> Result<(), NoMemory>
-    ensures { IfOk result (λ _. line.new.items ≡ line.old.items ++ before_bytes (map client_of clients.now.items) call.now status) }
+    ensures lines { IfOk result (λ _. draft.new.lines ≡ draft.old.lines ++ before_bytes (map client_of clients.now.items) call.now status) }
+    ensures before { draft.new.before ≡ draft.old.before }
 {
-    push_head(line, clients, call)?;
-    push_answer_begun(line, clients, call, status)
+    push_head(draft, clients, call)?;
+    push_answer_begun(draft, clients, call, status)
 }
 
-/// Puts the lines of a turn at the end, from behind the bytes that its answer gives.
-pub fn push_after_bytes(
-    line: &mut Vec<u8>,
+// The lines of a turn, from behind the bytes that its answer gives.
+fn push_after_bytes(
+    draft: &mut Draft,
     clients: &ClientList,
     ended: &[EndOf],
 ) -> Result<(), NoMemory>
-    ensures { IfOk result (λ _. line.new.items ≡ line.old.items ++ after_bytes (map client_of clients.now.items) ended.now) }
+    ensures lines { IfOk result (λ _. draft.new.lines ≡ draft.old.lines ++ after_bytes (map client_of clients.now.items) ended.now) }
+    ensures before { draft.new.before ≡ draft.old.before }
 {
-    line.push(10)?;
-    push_ended(line, clients, ended)
+    draft.push(10)?;
+    push_ended(draft, clients, ended)
+}
+
+/// Puts the lines of a turn at the end, without the bytes that its answer gives with this status. The place
+/// of the bytes is given, from the beginning of the text.
+pub fn push_around(
+    draft: &mut Draft,
+    clients: &ClientList,
+    call: &Call,
+    status: Status,
+    ended: &[EndOf],
+) -> Result<usize, NoMemory>
+    ensures place { IfOk result (λ place. place ≡ length ((draft.old.before ++ draft.old.lines) ++ before_bytes (map client_of clients.now.items) call.now status)) }
+    ensures lines { IfOk result (λ _. draft.new.lines ≡ (draft.old.lines ++ before_bytes (map client_of clients.now.items) call.now status) ++ after_bytes (map client_of clients.now.items) ended.now) }
+    ensures before { draft.new.before ≡ draft.old.before }
+{
+    push_before_bytes(draft, clients, call, status)?;
+    let place = draft.bytes().len();
+    push_after_bytes(draft, clients, ended)?;
+    Ok(place)
 }
 
 /// Puts the last line at the end: the number of turns.
-pub fn push_last(line: &mut Vec<u8>, turns: u32) -> Result<(), NoMemory>
-    ensures { IfOk result (λ _. line.new.items ≡ line.old.items ++ last_line turns) }
+pub fn push_last(draft: &mut Draft, turns: u32) -> Result<(), NoMemory>
+    ensures lines { IfOk result (λ _. draft.new.lines ≡ draft.old.lines ++ last_line turns) }
+    ensures before { draft.new.before ≡ draft.old.before }
 {
-    push_text(line, "end ")?;
-    push_number(line, turns)?;
-    line.push(10)?;
-    Ok(())
+    push_text(draft, "end ")?;
+    push_number(draft, turns)?;
+    draft.push(10)
 }

@@ -1,6 +1,6 @@
 //! The text of turns, gathered and put to a sink block by block.
 
-ghost use Rattle.std.specs.Prelude.{◌≡◌, ◌++◌, [], map, Err, IfSome, OnOk, OnErr};
+ghost use Rattle.std.specs.Prelude.{◌≡◌, ◌≤◌, ◌++◌, [], length, take, drop, map, Err, IfSome, IfOk, OnOk, OnErr};
 ghost use Rattle.fsa_model.specs.Outcome.{out_of};
 ghost use Rattle.fsa_model.specs.Setup.{client_of};
 ghost use Rattle.fsa_model.specs.Text.{bytes_text, last_line, turn_text};
@@ -9,8 +9,9 @@ ghost use Rattle.wire_io.specs.Sink.{Appends, AppendsPart};
 ghost use Rattle.text_out.specs.LongTurns.{after_bytes, before_bytes};
 ghost use Rattle.text_out.specs.Writes.{Adds, Finishes, Gathers, GivesUp, TellsFaults};
 
-use crate::bytes::{PART, write_bytes};
-use crate::text::{push_after_bytes, push_before_bytes, push_last, push_turn};
+use crate::bytes::write_bytes;
+use crate::draft::Draft;
+use crate::text::{push_around, push_last, push_turn};
 use fsa_types::{Answer, Body, Bytes, Call, ClientList, EndOf, NoMemory, Out, Status};
 use std::alloc::Global;
 use std::marker::Model;
@@ -50,13 +51,13 @@ impl From<fsa_types::NoMemory> for TextFault {
     }
 }
 
-// The status and the bytes of an answer that gives more bytes than a part has.
-fn long_answer(answer: &Answer) -> Option<(Status, &Bytes)>
-    ensures { IfSome result (λ long. answer.now ≡ Answer.Ended (record { status = long.0; body = Body.Got long.1.now })) }
+// The status and the bytes of an answer that gives bytes.
+fn bytes_given(answer: &Answer) -> Option<(Status, &Bytes)>
+    ensures { IfSome result (λ given. answer.now ≡ Answer.Ended (record { status = given.0; body = Body.Got given.1.now })) }
 {
     match answer {
         Answer::Ended(reply) => match &reply.body {
-            Body::Got(bytes) if bytes.bytes().len() > PART => Some((reply.status, bytes)),
+            Body::Got(bytes) => Some((reply.status, bytes)),
             _ => None,
         },
         Answer::Pending(_) => None,
@@ -66,17 +67,15 @@ fn long_answer(answer: &Answer) -> Option<(Status, &Bytes)>
 /// The text of turns that was gathered and isn't put yet.
 #[derive(Drop)]
 pub struct TextBuffer {
-    text: Vec<u8>,
-    // the lines of one turn, while they are made
-    turn: Vec<u8>,
+    text: Draft,
 }
 
 impl Model for TextBuffer {
-    ghost use Rattle.std.specs.Prelude.{List, ℕ};
+    ghost use Rattle.std.specs.Prelude.{List, ℕ, ◌++◌};
 
     ghost Value = { List ℕ };
 
-    ghost view = { λ buffer. buffer.text.items };
+    ghost view = { λ buffer. buffer.text.before ++ buffer.text.lines };
 }
 
 impl TextBuffer {
@@ -85,8 +84,7 @@ impl TextBuffer {
         ensures { result ≡ [] }
     {
         TextBuffer {
-            text: Vec::new(alloc),
-            turn: Vec::new(alloc),
+            text: Draft::new(alloc),
         }
     }
 
@@ -98,7 +96,7 @@ impl TextBuffer {
         ensures last { OnErr result (FailsLast (K.faults sink.old) (K.faults sink.new) (K.written sink.new).since_fault) }
         ensures cause { HasCause (K.faults sink.old) (K.faults sink.new) result }
     {
-        let done = put_all(sink, &self.text);
+        let done = put_all(sink, self.text.bytes());
         self.text.clear();
         done
     }
@@ -111,7 +109,7 @@ impl TextBuffer {
         ensures last { OnErr result (FailsLast (K.faults sink.old) (K.faults sink.new) (K.written sink.new).since_fault) }
         ensures cause { HasCause (K.faults sink.old) (K.faults sink.new) result }
     {
-        if self.text.len() >= BLOCK {
+        if self.text.bytes().len() >= BLOCK {
             self.put(sink)?;
         }
         Ok(())
@@ -134,76 +132,82 @@ impl TextBuffer {
         ensures ok { OnOk result (self.new ≡ self.old ++ turn_text (map client_of names.now.items) call.now (out_of out.now)) }
         ensures err { OnErr result (self.new ≡ self.old) }
     {
-        self.turn.clear();
-        push_turn(&mut self.turn, names, call, out)?;
-        self.text.extend_from_slice(&self.turn)?;
-        Ok(())
-    }
-
-    // Gathers the lines of a turn, and puts them once there is a block.
-    fn add_short_turn<K: Sink>(
-        &mut self,
-        sink: &mut K,
-        names: &ClientList,
-        call: &Call,
-        out: &Out,
-    ) -> Result<(), TextFault>
-        ensures adds { Adds (K.written sink.old) (K.written sink.new) self.old self.new (turn_text (map client_of names.now.items) call.now (out_of out.now)) result }
-        ensures faults { TellsFaults (K.faults sink.old) (K.faults sink.new) (K.written sink.new).since_fault result }
-    {
-        match self.gather_turn(names, call, out) {
-            Ok(()) => Ok(self.put_block(sink)?),
-            Err(NoMemory) => Err(self.give_up(sink)),
+        self.text.begin();
+        match push_turn(&mut self.text, names, call, out) {
+            Ok(()) => Ok(()),
+            Err(NoMemory) => {
+                self.text.drop_lines();
+                Err(NoMemory)
+            }
         }
     }
 
-    // Gathers the lines of a turn up to the bytes that its answer gives, and makes those from behind them; or does
-    // nothing.
+    // Gathers the lines of a turn without the bytes that its answer gives, or nothing. The place of the bytes is given.
     fn gather_around(
         &mut self,
         names: &ClientList,
         call: &Call,
         status: Status,
         ended: &[EndOf],
-        after: &mut Vec<u8>,
-    ) -> Result<(), NoMemory>
-        ensures before { OnOk result (self.new ≡ self.old ++ before_bytes (map client_of names.now.items) call.now status) }
-        ensures after { OnOk result (after.new.items ≡ after.old.items ++ after_bytes (map client_of names.now.items) ended.now) }
+    ) -> Result<usize, NoMemory>
+        ensures place { IfOk result (λ place. place ≡ length (self.old ++ before_bytes (map client_of names.now.items) call.now status)) }
+        ensures ok { OnOk result (self.new ≡ (self.old ++ before_bytes (map client_of names.now.items) call.now status) ++ after_bytes (map client_of names.now.items) ended.now) }
         ensures err { OnErr result (self.new ≡ self.old) }
     {
-        push_after_bytes(after, names, ended)?;
-        self.turn.clear();
-        push_before_bytes(&mut self.turn, names, call, status)?;
-        self.text.extend_from_slice(&self.turn)?;
-        Ok(())
+        self.text.begin();
+        match push_around(&mut self.text, names, call, status, ended) {
+            Ok(place) => Ok(place),
+            Err(NoMemory) => {
+                self.text.drop_lines();
+                Err(NoMemory)
+            }
+        }
     }
 
-    // Puts what was gathered, and bytes behind it, and has then gathered what follows them; or nothing, where the sink
-    // failed.
+    // Puts what was gathered up to a place, and bytes behind it.
+    fn write_around<K: Sink>(&self, sink: &mut K, place: usize, bytes: &Bytes) -> Result<(), Failed>
+        requires { place ≤ length self.now }
+        ensures all { OnOk result (Appends (K.written sink.old) (K.written sink.new) (take place self.now ++ bytes_text bytes.now)) }
+        ensures part { OnErr result (AppendsPart (K.written sink.old) (K.written sink.new) (take place self.now ++ bytes_text bytes.now)) }
+        ensures last { OnErr result (FailsLast (K.faults sink.old) (K.faults sink.new) (K.written sink.new).since_fault) }
+        ensures cause { HasCause (K.faults sink.old) (K.faults sink.new) result }
+    {
+        put_all(sink, &self.text.bytes()[..place])?;
+        write_bytes(sink, bytes)
+    }
+
+    // Puts what was gathered up to a place, and bytes behind it. What was gathered from the place on is still gathered
+    // then, and nothing where the sink failed.
     fn put_around<K: Sink>(
         &mut self,
         sink: &mut K,
+        place: usize,
         bytes: &Bytes,
-        after: Vec<u8>,
     ) -> Result<(), Failed>
-        ensures all { OnOk result (Appends (K.written sink.old) (K.written sink.new) (self.old ++ bytes_text bytes.now)) }
-        ensures after { OnOk result (self.new ≡ after.items) }
-        ensures part { OnErr result (AppendsPart (K.written sink.old) (K.written sink.new) (self.old ++ bytes_text bytes.now)) }
+        requires { place ≤ length self.old }
+        ensures all { OnOk result (Appends (K.written sink.old) (K.written sink.new) (take place self.old ++ bytes_text bytes.now)) }
+        ensures after { OnOk result (self.new ≡ drop place self.old) }
+        ensures part { OnErr result (AppendsPart (K.written sink.old) (K.written sink.new) (take place self.old ++ bytes_text bytes.now)) }
         ensures none { OnErr result (self.new ≡ []) }
         ensures last { OnErr result (FailsLast (K.faults sink.old) (K.faults sink.new) (K.written sink.new).since_fault) }
         ensures cause { HasCause (K.faults sink.old) (K.faults sink.new) result }
     {
-        self.put(sink)?;
-        write_bytes(sink, bytes)?;
-        self.text = after;
-        Ok(())
+        match self.write_around(sink, place, bytes) {
+            Ok(()) => {
+                self.text.drop_front(place);
+                Ok(())
+            }
+            Err(Failed) => {
+                self.text.clear();
+                Err(Failed)
+            }
+        }
     }
 
-    // Gathers and puts the lines of a turn whose answer gives these bytes with this status, up to the bytes and
-    // with them, and gathers the rest.
-    fn add_long_turn<K: Sink>(
+    // Adds the lines of a turn whose answer gives these bytes with this status: puts all up to the bytes, and the
+    // bytes, for whose digits it takes no memory; what follows them is gathered.
+    fn add_around<K: Sink>(
         &mut self,
-        alloc: Global,
         sink: &mut K,
         names: &ClientList,
         call: &Call,
@@ -215,21 +219,15 @@ impl TextBuffer {
         ensures adds { Adds (K.written sink.old) (K.written sink.new) self.old self.new (turn_text (map client_of names.now.items) call.now (out_of out.now)) result }
         ensures faults { TellsFaults (K.faults sink.old) (K.faults sink.new) (K.written sink.new).since_fault result }
     {
-        let mut after = Vec::new(alloc);
-        match self.gather_around(names, call, status, out.ended.as_slice(), &mut after) {
-            Ok(()) => Ok(self.put_around(sink, bytes, after)?),
+        match self.gather_around(names, call, status, out.ended.as_slice()) {
+            Ok(place) => Ok(self.put_around(sink, place, bytes)?),
             Err(NoMemory) => Err(self.give_up(sink)),
         }
     }
 
-    /// Adds the lines of a turn of this call, which gave this out: gathers them, and puts what is gathered where
-    /// that makes a block, or where the answer gives so many bytes that they are put part by part. A client
-    /// that isn't in the list has no name. `Failed` where the sink failed: a part of what was gathered and of
-    /// the lines is put then. `NoMemory` where there was no memory: what was gathered before is put then, and
-    /// none of the lines. Nothing is gathered after either.
-    pub fn add_turn<K: Sink>(
+    // Adds the lines of a turn for which there was no memory: around the bytes, where its answer gives some.
+    fn add_ungathered<K: Sink>(
         &mut self,
-        alloc: Global,
         sink: &mut K,
         names: &ClientList,
         call: &Call,
@@ -238,11 +236,32 @@ impl TextBuffer {
         ensures adds { Adds (K.written sink.old) (K.written sink.new) self.old self.new (turn_text (map client_of names.now.items) call.now (out_of out.now)) result }
         ensures faults { TellsFaults (K.faults sink.old) (K.faults sink.new) (K.written sink.new).since_fault result }
     {
-        match long_answer(&out.answer) {
-            Some((status, bytes)) => {
-                self.add_long_turn(alloc, sink, names, call, out, status, bytes)
-            }
-            None => self.add_short_turn(sink, names, call, out),
+        match bytes_given(&out.answer) {
+            Some((status, bytes)) => self.add_around(sink, names, call, out, status, bytes),
+            None => Err(self.give_up(sink)),
+        }
+    }
+
+    /// Adds the lines of a turn of this call, which gave this out: gathers them, and puts what is gathered where
+    /// that makes a block. Where there is no memory to gather them, and the answer gives bytes, all up to these
+    /// is put, then they themselves part by part, and what follows them is gathered. A client that isn't in the
+    /// list has no name. `Failed` where the sink failed: a part of what was gathered and of the lines is put
+    /// then. `NoMemory` where there was no memory: what was gathered before is put then, and none of the lines.
+    /// Nothing is gathered after either.
+    pub fn add_turn<K: Sink>(
+        &mut self,
+        _alloc: Global,
+        sink: &mut K,
+        names: &ClientList,
+        call: &Call,
+        out: &Out,
+    ) -> Result<(), TextFault>
+        ensures adds { Adds (K.written sink.old) (K.written sink.new) self.old self.new (turn_text (map client_of names.now.items) call.now (out_of out.now)) result }
+        ensures faults { TellsFaults (K.faults sink.old) (K.faults sink.new) (K.written sink.new).since_fault result }
+    {
+        match self.gather_turn(names, call, out) {
+            Ok(()) => Ok(self.put_block(sink)?),
+            Err(NoMemory) => self.add_ungathered(sink, names, call, out),
         }
     }
 
@@ -251,10 +270,14 @@ impl TextBuffer {
         ensures ok { OnOk result (self.new ≡ self.old ++ last_line turns) }
         ensures err { OnErr result (self.new ≡ self.old) }
     {
-        self.turn.clear();
-        push_last(&mut self.turn, turns)?;
-        self.text.extend_from_slice(&self.turn)?;
-        Ok(())
+        self.text.begin();
+        match push_last(&mut self.text, turns) {
+            Ok(()) => Ok(()),
+            Err(NoMemory) => {
+                self.text.drop_lines();
+                Err(NoMemory)
+            }
+        }
     }
 
     /// Puts all that is gathered, and the last line behind it: the number of turns. `Failed` and `NoMemory` are

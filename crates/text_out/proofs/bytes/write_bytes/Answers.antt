@@ -16,4 +16,4 @@ returns-clause-part g c =
     OnErr-weaker (AppendsPart (g.K.Sink.written c.put_all.new.sink) (g.K.Sink.written c.write_hex.new.sink) (hex_digits c.args.bytes.now))
     (AppendsPart (g.K.Sink.written c.args.sink.now) (g.K.Sink.written c.write_hex.new.sink) (bytes_text c.args.bytes.now)) c.write_hex.result
     (λ part. AppendsPart-append (g.K.Sink.written c.args.sink.now) (g.K.Sink.written c.put_all.new.sink) (g.K.Sink.written c.write_hex.new.sink) (120 ∷ []) (hex_digits c.args.bytes.now) c.in_ok-put_all.ensures.all part)
-    (rw c.bytes.ensures at c.write_hex.ensures.part)
+    c.write_hex.ensures.part

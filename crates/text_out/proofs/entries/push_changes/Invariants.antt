@@ -7,7 +7,8 @@ use Rattle.text_out.proofs.entries.push_changes.Given as goal
 abbrev pub invariant-entries : goal.invariant-entries
 invariant-entries l = record {
   kind : l.walk.kind ≡ Changes;
-  text : l.line.items ++ packed_text Changes (left_of l.walk) ≡ l.fn.line.items ++ packed_text Changes l.bytes;
+  lines : l.draft.lines ++ packed_text Changes (left_of l.walk) ≡ l.fn.draft.lines ++ packed_text Changes l.bytes;
+  before : l.draft.before ≡ l.fn.draft.before;
 }
 
 abbrev pub decreases-entries : goal.decreases-entries

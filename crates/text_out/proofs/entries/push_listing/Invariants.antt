@@ -7,7 +7,8 @@ use Rattle.text_out.proofs.entries.push_listing.Given as goal
 abbrev pub invariant-entries : goal.invariant-entries
 invariant-entries l = record {
   kind : l.walk.kind ≡ pack_kind l.kind;
-  text : l.line.items ++ packed_text (pack_kind l.kind) (left_of l.walk) ≡ l.fn.line.items ++ packed_text (pack_kind l.kind) l.bytes;
+  lines : l.draft.lines ++ packed_text (pack_kind l.kind) (left_of l.walk) ≡ l.fn.draft.lines ++ packed_text (pack_kind l.kind) l.bytes;
+  before : l.draft.before ≡ l.fn.draft.before;
 }
 
 abbrev pub decreases-entries : goal.decreases-entries
