@@ -26,7 +26,6 @@ use wire_io::{Gate, Sink};
 
 // Adds the lines of the turn at this place of a machine's history to the text.
 fn add_turn<K: Sink>(
-    alloc: Global,
     machine: &VolumeMachine,
     script: &Script,
     turn: u64,
@@ -40,7 +39,6 @@ fn add_turn<K: Sink>(
     ensures faults { TellsFaults (K.faults sink.old) (K.faults sink.new) (K.written sink.new).since_fault result }
 {
     buffer.add_turn(
-        alloc,
         sink,
         script.clients(),
         machine.call_at(turn),
@@ -50,7 +48,6 @@ fn add_turn<K: Sink>(
 
 // Adds the lines of each turn of a machine's history to the text, which is empty.
 fn add_turns<K: Sink>(
-    alloc: Global,
     machine: &VolumeMachine,
     script: &Script,
     buffer: &mut TextBuffer,
@@ -64,7 +61,7 @@ fn add_turns<K: Sink>(
     ensures faults { TellsFaults (K.faults sink.old) (K.faults sink.new) (K.written sink.new).since_fault result }
 {
     for turn in 0..machine.len() {
-        add_turn(alloc, machine, script, turn, buffer, sink)?;
+        add_turn(machine, script, turn, buffer, sink)?;
     }
     Ok(())
 }
@@ -84,7 +81,7 @@ fn put_text<K: Sink>(
     ensures faults { TellsFaults (K.faults sink.old) (K.faults sink.new) (K.written sink.new).since_fault result }
 {
     let mut buffer = TextBuffer::new(alloc);
-    add_turns(alloc, machine, script, &mut buffer, sink)?;
+    add_turns(machine, script, &mut buffer, sink)?;
     buffer.finish(sink, machine.len() as u32)
 }
 

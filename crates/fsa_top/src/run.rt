@@ -55,7 +55,7 @@ fn make_turn<K: Sink>(
     ensures faults { TellsFaults (K.faults sink.old) (K.faults sink.new) (K.written sink.new).since_fault result }
 {
     match turn_of(alloc, machine, call) {
-        Ok(out) => buffer.add_turn(alloc, sink, clients, call, &out),
+        Ok(out) => buffer.add_turn(sink, clients, call, &out),
         Err(NoMemory) => Err(buffer.give_up(sink)),
     }
 }

@@ -74,7 +74,7 @@ fn is_text(alloc: Global, kind: PackKind, bytes: &[u8], text: &[u8]) -> Result<b
     };
     let mut sink = MemorySink::new(alloc, 300, 300, &[])?;
     let mut buffer = TextBuffer::new(alloc);
-    match buffer.add_turn(alloc, &mut sink, &names, &call, &out) {
+    match buffer.add_turn(&mut sink, &names, &call, &out) {
         Ok(()) => match buffer.give_up(&mut sink) {
             TextFault::NoMemory => Ok(sink.bytes() == text),
             TextFault::Failed => Ok(false),

@@ -250,7 +250,6 @@ impl TextBuffer {
     /// Nothing is gathered after either.
     pub fn add_turn<K: Sink>(
         &mut self,
-        _alloc: Global,
         sink: &mut K,
         names: &ClientList,
         call: &Call,
