@@ -12,7 +12,7 @@ use Rattle.fsa_model.specs.Outcome.{TurnOut}
 use Rattle.fsa_types.specs.Status.{status_name}
 use Rattle.fsa_model.specs.Text.{bytes_text, call_text, digit, ended_lines, hex_digits, turn_text}
 use Rattle.fsa_model.specs.Verbs.{verb}
-use Rattle.text_out.specs.LongTurns.{after_bytes, before_bytes}
+use Rattle.text_out.specs.AroundBytes.{after_bytes, before_bytes}
 use Rattle.wire_io.specs.Sink.{Written, Appends, AppendsPart}
 use Rattle.wire_io.proofs.SinkLaws.{Appends-append, AppendsPart-append, AppendsPart-longer}
 

@@ -1,4 +1,4 @@
+pub mod AroundBytes
 pub mod Drafts
 pub mod EntrySteps
-pub mod LongTurns
 pub mod Writes

@@ -7,7 +7,7 @@ ghost use Rattle.fsa_model.specs.Setup.{client_of};
 ghost use Rattle.fsa_model.specs.Outcome.{out_of};
 ghost use Rattle.fsa_model.specs.Text.{action_text, answer_line, body_text, bytes_text, call_text, end_line, ended_lines, interim_text, last_line, level_word, name_of, turn_text};
 ghost use Rattle.fsa_model.specs.Verbs.{request_word, verb};
-ghost use Rattle.text_out.specs.LongTurns.{after_bytes, answer_begun, before_bytes};
+ghost use Rattle.text_out.specs.AroundBytes.{after_bytes, answer_begun, before_bytes};
 
 use crate::bodies::{push_broken, push_quota, push_stopped};
 use crate::draft::Draft;

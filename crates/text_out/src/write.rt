@@ -6,7 +6,7 @@ ghost use Rattle.fsa_model.specs.Setup.{client_of};
 ghost use Rattle.fsa_model.specs.Text.{bytes_text, last_line, turn_text};
 ghost use Rattle.wire_io.specs.Faults.{FailsLast, HasCause};
 ghost use Rattle.wire_io.specs.Sink.{Appends, AppendsPart};
-ghost use Rattle.text_out.specs.LongTurns.{after_bytes, before_bytes};
+ghost use Rattle.text_out.specs.AroundBytes.{after_bytes, before_bytes};
 ghost use Rattle.text_out.specs.Writes.{Adds, Finishes, Gathers, GivesUp, TellsFaults};
 
 use crate::bytes::write_bytes;

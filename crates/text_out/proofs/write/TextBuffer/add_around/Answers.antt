@@ -3,7 +3,7 @@ use Rattle.std.proofs.lemmas.Result.{err_from_is_err_and}
 use Rattle.fsa_model.specs.Outcome.{out_of}
 use Rattle.fsa_model.specs.Setup.{client_of}
 use Rattle.fsa_model.specs.Text.{bytes_text, turn_text}
-use Rattle.text_out.specs.LongTurns.{after_bytes, before_bytes}
+use Rattle.text_out.specs.AroundBytes.{after_bytes, before_bytes}
 use Rattle.text_out.proofs.GatherLaws.{GivesUp-adds, around-failed, around-put}
 use Rattle.text_out.proofs.PartLaws.{around_bytes}
 use Rattle.text_out.proofs.write.TextBuffer.add_around.Goals as goal
