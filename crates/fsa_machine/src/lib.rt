@@ -13,7 +13,7 @@
 //! log of changes begins. Its volume is that of the run of its entries, and what it keeps of each turn is what that
 //! turn of the run gave out; no call goes over the history again.
 //!
-//! - A turn (`turns`) takes its room, tries its own call (`own`), and settles what is pending (`settle`). The
+//! - A turn (`turns`) takes its room, tries its own call (`own_call`), and settles what is pending (`settle`). The
 //!   definitions are `Turn` and `Settle` of `fsa_model`. What a turn gives out it makes twice (`ends`, `replies`): the
 //!   history keeps one copy, and the caller gets the other; bytes of a reply, of 128 or more, are shared where they can
 //!   be. It fills lists that the machine keeps, and in the end moves what they hold into short ones, or, where there is

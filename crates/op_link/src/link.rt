@@ -85,7 +85,7 @@ fn link_in_place(volume: &mut Volume, named: &Named, dir: u64, replaced: u64, na
     set_change_time(volume, named.file());
 }
 
-// The link that is replaced has no handle. Gives how the call ends.
+// The link that is replaced must have no handle. Gives how the call ends.
 #[tactic(auto, unfolding(fsa_model::specs::Link::link_over_closed))]
 fn link_over_closed(
     volume: &mut Volume,
