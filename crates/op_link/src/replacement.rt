@@ -63,7 +63,7 @@ pub fn replace_link(volume: &mut Volume, replaced: u64, dir: u64, name: &[u16])
     ensures others { (link : ℕ) → (link == replaced) ≡ false → linked_file volume.new.content link ≡ linked_file volume.old.content link }
     ensures units { (link : ℕ) → units_noted volume.new.content link None ≤ units_noted volume.old.content link None }
     ensures dirs { (link : ℕ) → dirs_noted volume.new.content link None ≤ dirs_noted volume.old.content link None }
-    ensures units_noted_in { units_noted_in volume.new.content dir (length name.now) ≤ units_noted_in volume.old.content dir (length name.now) }
+    ensures units_in { units_noted_in volume.new.content dir (length name.now) ≤ units_noted_in volume.old.content dir (length name.now) }
     ensures dirs_in { dirs_in volume.new.content dir ≤ dirs_in volume.old.content dir }
     ensures changes_left { volume.old.spare.changes ≤ volume.new.spare.changes + 1 }
     ensures units_left { volume.old.spare.units ≤ volume.new.spare.units + units_noted volume.old.content replaced None }
