@@ -18,10 +18,10 @@
 mod calls;
 mod drive;
 mod pass_desk;
-mod race;
 mod racing;
+mod run_race;
 mod runner;
 
 pub use pass_desk::PassDesk;
-pub use race::race;
 pub use racing::race_history;
+pub use run_race::race;

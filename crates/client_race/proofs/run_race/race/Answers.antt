@@ -5,7 +5,7 @@ use Rattle.shared_volume.proofs.HistoryLaws.{numbered-differ}
 use Rattle.script_read.specs.ScriptView.{contents}
 use Rattle.client_race.proofs.Facing.{some_at}
 use Rattle.client_race.proofs.RaceLaws.{made-at, whole}
-use Rattle.client_race.proofs.race.race.Goals as goal
+use Rattle.client_race.proofs.run_race.race.Goals as goal
 
 pub returns-clause-whole : goal.returns-clause-whole
 returns-clause-whole g c =
