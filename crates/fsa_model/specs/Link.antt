@@ -32,7 +32,7 @@ with_linked v naming dir replaced = with_change_time (with_link_added (with_repl
 
 -- ---- the checks
 
--- the link that is replaced has no handle
+-- the link that is replaced must have no handle
 unfoldable pub link_over_closed : Volume → Naming → ℕ → ℕ → Outcome
 link_over_closed v naming dir replaced =
     if is_any_open v (set.Link replaced) then refused v AccessDenied

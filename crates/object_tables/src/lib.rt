@@ -11,8 +11,8 @@
 //!
 //! The lists are [`Series`], whose room may grow as items go, [`SpareList`], whose room stays, [`ShiftList`],
 //! where an item that goes moves those before its place or those behind it, whichever are fewer, and one that comes
-//! those behind it, or those before it where they are fewer and a slot before them is free, and [`ShiftRows`], where one
-//! that goes moves the fewer too, and items need not be `Copy`.
+//! those behind it, or those before it where they are fewer and a slot before them is free, or all where no slot behind
+//! them is, and [`ShiftRows`], where one that goes moves the fewer too, and items need not be `Copy`.
 //!
 //! It asks of its caller that fewer than 2^64 - 1 numbers were given. Adding takes constant time on average, and `get`
 //! and `get_mut` time logarithmic in the rows: a row is found at once where no number between its own and the first

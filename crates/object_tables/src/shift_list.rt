@@ -12,8 +12,8 @@ use std::marker::Model;
 
 /// Items in order, with spare room. Taking some out moves the items before the place or those behind it, whichever are
 /// fewer: where most go from the front, little moves. Putting one in moves those behind the place, or those before it
-/// where they are fewer and a slot before them is free, as it is where some were taken out at the front; where it goes
-/// behind and no slot behind the items is free, all move to the first slot before.
+/// where they are fewer and a slot before them is free, as it is where some were taken out at the front. Where those
+/// behind are to move and no slot behind the items is free, all items are first moved down to the first slot.
 #[derive(Debug, Drop)]
 pub struct ShiftList<T> {
     // The first `start` slots are free: what stands there was moved or taken out.

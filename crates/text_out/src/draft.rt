@@ -8,8 +8,8 @@ use fsa_types::NoMemory;
 use std::alloc::Global;
 use std::marker::Model;
 
-/// A text, and the lines that are made at its end. Where memory is wanting for one of them, all are taken away,
-/// and the text is as it was before them.
+/// A text, and the lines that are made at its end. Where memory is wanting for one of them, `drop_lines` takes all
+/// away, and the text is as it was before them.
 #[derive(Drop)]
 pub struct Draft {
     // the text, and the lines behind it

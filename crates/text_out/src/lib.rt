@@ -15,11 +15,12 @@
 //! [`write_bytes`] writes a string of bytes, part by part and without memory.
 //!
 //! **Cost.** The lines of a turn are made behind what is gathered. Once there are 65,536 bytes, all are put, so
-//! that most turns cost no put, and none more than one. Where there is no memory for a turn's lines they are
-//! taken away again. Where its answer gives bytes, it goes out around these then: what stands before them is put,
-//! their digits are put in parts of 8,192 bytes, which takes no memory, and what follows them is gathered. Where
-//! there is no memory for that either, or no such answer, none of the lines is put, and what was gathered before
-//! is. Time is linear in what is put, and memory in a block and the longest turn's lines.
+//! that most turns cost no put, and none more than one of a sink that takes all that it is handed. Where there is
+//! no memory for a turn's lines they are taken away again. Where its answer is bytes alone (`Body::Got`), it goes
+//! out around these then, in up to four puts: what stands before them is put, their digits are put, those of 8,192
+//! bytes at a time, which takes no memory, and what follows them is gathered. Where there is no memory for that
+//! either, or no such answer, none of the lines is put, and what was gathered before is. Time is linear in what is
+//! put, and memory in a block and the longest turn's lines.
 #![tactic(auto)]
 
 mod bodies;

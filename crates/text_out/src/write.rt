@@ -142,7 +142,7 @@ impl TextBuffer {
         }
     }
 
-    // Gathers the lines of a turn without the bytes that its answer gives, or nothing. The place of the bytes is given.
+    // Gathers the lines of a turn without the bytes that its answer is, or nothing. The place of the bytes is given.
     fn gather_around(
         &mut self,
         names: &ClientList,
