@@ -71,8 +71,6 @@ mod pass;
 mod plays;
 mod rule;
 mod start;
-#[cfg(test)]
-mod tests;
 mod view;
 
 pub use answers::{Looked, TurnAnswer};

@@ -1,6 +1,6 @@
-//! Tests of leaves and edges over their public calls: each call that can answer NO_MEMORY is made with ample memory,
-//! and its answer is compared. It has no code of its own, and stands apart from the crates that it tests, since a
-//! test inside a crate has the whole crate proved a second time.
+//! Tests of leaves, edges and the turn lock over their public calls: each call that can answer NO_MEMORY is made with
+//! ample memory, and its answer is compared. It has no code of its own, and stands apart from the crates that it
+//! tests, since a test inside a crate has the whole crate proved a second time.
 #![tactic(auto)]
 
 #[cfg(test)]
@@ -25,5 +25,7 @@ mod scripts;
 mod stream_bytes;
 #[cfg(test)]
 mod tables;
+#[cfg(test)]
+mod turn_lock;
 #[cfg(test)]
 mod turn_texts;

@@ -14,8 +14,6 @@ mod program;
 #[cfg(test)]
 mod races;
 #[cfg(test)]
-mod rows;
-#[cfg(test)]
 mod shared;
 #[cfg(test)]
 mod tests;
