@@ -230,6 +230,8 @@ class Builder:
 
     def all(self):
         self.whole = self.chain()
+        if self.libraries:
+            say(f"{len(self.libraries)} crates are to be proved, up to {self.lanes} side by side; the first lines come after some minutes")
         left = sorted(self.libraries, key=lambda it: -self.behind[it])
         with self.turn:
             while (left and not self.failed) or self.running:

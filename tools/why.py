@@ -34,7 +34,7 @@ VERBS = {
     "setquota": [("SID", MOST_ID), ("limit", MOST_LIMIT)],
     "queryquota": [("SID", MOST_ID)],
     "cancel": [("number of a call", MOST_ID)],
-    "tick": [("ticks", MOST_ID)],
+    "tick": [("number of ticks", MOST_ID)],
     "wait": [("number of a call", MOST_ID)],
 }
 
@@ -111,7 +111,7 @@ def field(word, what, form):
     if isinstance(form, int):
         return number(word, form, what)
     if isinstance(form, tuple):
-        return None if word in form else f"the {what} is {' or '.join(f'`{it}`' for it in form)}, not {word!r}"
+        return None if word in form else f"{word!r} stands where {' or '.join(f'`{it}`' for it in form)} belongs"
     if form == "start":
         fault = None if word == "end" else number(word, MOST_PLACE, "place")
         return fault if not fault or word.isdigit() else f"{fault}; the end of the stream is `end`"
