@@ -4,6 +4,7 @@ use Rattle.fsa_types.specs.declared.reply.Out.{Out}
 use Rattle.fsa_types.specs.declared.reply.Why.{Why}
 use Rattle.fsa_types.specs.declared.reply.Why.TheVariants.{NoMemory, HistoryFull}
 use Rattle.fsa_types.specs.declared.request.Call.{Call}
+use Rattle.fsa_model.specs.Bounds.{most_entries}
 use Rattle.fsa_model.specs.Engine.{is_entry_of}
 use Rattle.fsa_model.specs.History.{HistoryEntry, Run, run}
 use Rattle.fsa_model.specs.Once.{how_many, made}
@@ -11,7 +12,7 @@ use Rattle.fsa_model.specs.Outcome.{TurnOut}
 use Rattle.fsa_model.specs.Schedule.{calls_of}
 use Rattle.fsa_model.specs.Setup.{Setup}
 use Rattle.fsa_model.specs.Volume.{Volume}
-use Rattle.fsa_machine.specs.Serves.{Serves, most_entries}
+use Rattle.fsa_machine.specs.Serves.{Serves}
 
 -- what contracts see of a machine
 pub record MachineView : Type 0 where

@@ -1,3 +1,4 @@
+pub mod Bounds
 pub mod Breaks
 pub mod ByteLines
 pub mod Changes
