@@ -37,7 +37,7 @@ asks setup what number answer v w s =
       seen = m.seen;
       after = m.after;
       called = m.called;
-      answers = record { state = s.answers.gave.state; runs = s.answers.gave.runs; out = s.answers.out; before = s.answers.gave.before; last = s.answers.gave.last; is = s.answers.is };
+      answers = s.answers;
       loads = omega arith;
       lost = omega arith;
     }
