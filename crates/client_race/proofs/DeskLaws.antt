@@ -19,7 +19,7 @@ use Rattle.history_laws.specs.CallAnswers.{EndedWithList, HasEnded, IfBusy, IfDi
 use Rattle.shared_volume.proofs.HistoryLaws.{numbered-differ}
 use Rattle.client_run.specs.Calls.{calls_in}
 use Rattle.client_run.specs.Desks.{Asks, OnlySees, SeesHistory}
-use Rattle.client_run.specs.Shown.{IsRunOfDistinctCalls}
+use Rattle.client_run.specs.ClientHistory.{IsRunOfDistinctCalls}
 use Rattle.client_race.specs.Passes.{shown_by}
 
 pub asks : (setup : Setup) (what : What) (number : ℕ) (answer : Answer) (v w : Known) → Submits setup what number answer v w → Asks what number answer (shown_by setup v) (shown_by setup w)

@@ -17,7 +17,7 @@ use Rattle.history_laws.specs.CallAnswers.{CanAsk, HasEnded}
 use Rattle.client_run.specs.Calls.{HasLeft, IsLined, calls_in}
 use Rattle.client_run.specs.Desks.{Asks, DeskView, OnlySees, SeesHistory}
 use Rattle.client_run.specs.Serving.{MakesNextCall, FitsDesk, holding, planned, todo_in}
-use Rattle.client_run.specs.Shown.{IsOrderly, WaitsOnlyBy}
+use Rattle.client_run.specs.ClientHistory.{IsOrderly, WaitsOnlyBy}
 use Rattle.client_run.proofs.Ordering.{at_front, last_same, none_added, orderly_did, orderly_more, orderly_none}
 use Rattle.client_run.proofs.RunLaws.{differ-front, run-front, run-last}
 use Rattle.client_run.proofs.WaitLaws.{only_later, only_over, only_own}
