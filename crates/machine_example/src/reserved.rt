@@ -67,7 +67,7 @@ fn open(
 ) -> Result<What, NoMemory>
     ensures { IfOk result CanBeMade }
 {
-    // `\o`, as UTF-16 units
+    // `\o`, in UTF-16 units
     let path = Name::copy_of(alloc, &[92, 111])?;
     Ok(What::Ask(Request::Create {
         path,

@@ -19,8 +19,8 @@ const RUNS: [(&str, u8, &str); 3] = [
     ("", 2, "bad line 1\n"),
 ];
 
-// Scripts are read and texts are written in pieces of any size. With ample memory the run succeeds: no clause can say
-// that, and a program that always answers 5 is caught here.
+// Scripts are read and texts are written in pieces of 1, 32 and 65,536 bytes. With ample memory the run succeeds: no
+// clause can say that, and a program that always answers 5 is caught here.
 #[test]
 fn scripts_in_pieces_give_their_texts(rt: HostRuntime) -> Result<(), Fail> {
     for (script, status, text) in RUNS {
