@@ -20,7 +20,7 @@ use Rattle.history_laws.specs.CallAnswers.{EndedWithList, HasEnded, IfBusy, IfDi
 use Rattle.shared_volume.proofs.HistoryLaws.{numbered-differ}
 use Rattle.client_run.specs.Calls.{calls_in}
 use Rattle.client_run.specs.Desks.{Asks, OnlySees, SeesHistory}
-use Rattle.client_run.specs.Shown.{IsRunOfDistinctCalls}
+use Rattle.client_run.specs.ClientHistory.{IsRunOfDistinctCalls}
 use Rattle.client_race.specs.Passes.{shown_by}
 
 pub asks : (setup : Setup) (what : What) (number : ℕ) (answer : Answer) (v w : Known) → Submits setup what number answer v w → Asks what number answer (shown_by setup v) (shown_by setup w)
@@ -38,7 +38,7 @@ asks setup what number answer v w s =
       seen = m.seen;
       after = m.after;
       called = m.called;
-      answers = record { state = s.answers.gave.state; runs = s.answers.gave.runs; out = s.answers.out; before = s.answers.gave.before; last = s.answers.gave.last; is = s.answers.is };
+      answers = s.answers;
       loads = omega arith;
       lost = omega arith;
     }

@@ -11,7 +11,7 @@ use Rattle.client_run.specs.declared.run.Step.{Step}
 use Rattle.client_run.specs.declared.run.Step.TheVariants.{Moved, Waiting, Busy, Ended, Refused}
 use Rattle.client_run.specs.Calls.{IsLined}
 use Rattle.client_run.specs.Desks.{DeskView, SeesHistory}
-use Rattle.client_run.specs.Shown.{IsOrderly, WaitsOnlyBy}
+use Rattle.client_run.specs.ClientHistory.{IsOrderly, WaitsOnlyBy}
 
 -- ---- a run
 

@@ -1,5 +1,5 @@
 -- What a machine is seen as: a setup, the history of its turns, the room for turns to come, and where its log begins.
-use Rattle.std.specs.Prelude.{◌≡◌, ℕ, ◌≤◌, ◌&&◌, nat_le, nat_lt, cond, Bool, true, false, List, [], ◌∷◌, ◌++◌, length, map, Result, Ok, Err, Some}
+use Rattle.std.specs.Prelude.{◌≡◌, ℕ, ◌≤◌, ◌&&◌, nat_le, nat_lt, cond, Bool, true, false, List, length, map, Result, Ok, Err, Some}
 use Rattle.fsa_types.specs.declared.reply.Out.{Out}
 use Rattle.fsa_types.specs.declared.reply.Why.{Why}
 use Rattle.fsa_types.specs.declared.reply.Why.TheVariants.{NoMemory, HistoryFull}
@@ -45,13 +45,6 @@ pub record RunsTo (setup : Setup) (entries : List HistoryEntry) (outs : List Tur
   pub count : made v ≡ length entries
   pub numbered : CallsNumbered entries
   pub few : length entries ≤ most_entries
-
--- the last turn of the history gave this out
-pub record GaveOut (setup : Setup) (entries : List HistoryEntry) (out : TurnOut) : Type 0 where
-  pub state : Run
-  pub runs : run setup entries ≡ Some state
-  pub before : List TurnOut
-  pub last : state.outs ≡ before ++ out ∷ []
 
 -- the turn was refused since the history is full
 abbrev pub is_full : Result Out (Call × Why) → Bool

@@ -54,7 +54,7 @@ pub mod SetEnd
 pub mod Settle
 pub mod Settling
 pub mod Setup
-pub mod Shown
+pub mod ShownNumbers
 pub mod Sound
 pub mod Soundness
 pub mod Spelled

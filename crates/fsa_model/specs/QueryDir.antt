@@ -20,7 +20,7 @@ use Rattle.fsa_types.specs.declared.status.Status.TheVariants.{Success, InvalidH
 use Rattle.fsa_model.specs.Edits.{with_cursor}
 use Rattle.fsa_model.specs.Lookups.{file_of_link, handle_of, link_of_file}
 use Rattle.fsa_model.specs.Outcome.{Outcome, Done, ends_with, refused}
-use Rattle.fsa_model.specs.Shown.{listed_numbers}
+use Rattle.fsa_model.specs.ShownNumbers.{listed_numbers}
 use Rattle.fsa_model.specs.Volume.{Cursor, Start, Dot, DotDot, After, Handle, Link, Volume}
 
 -- ---- the entries

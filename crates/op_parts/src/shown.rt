@@ -2,7 +2,7 @@
 
 ghost use Rattle.std.specs.Prelude.{◌≡◌, ◌≤◌, ◌^◌, is_some, if◌then◌else◌};
 ghost use Rattle.fsa_types.specs.Masks.{DIRECTORY, FILE_ATTRIBUTE_REPARSE_POINT};
-ghost use Rattle.fsa_model.specs.Shown.{all_attributes, change_time, length_shown, shown_attributes, space_shown};
+ghost use Rattle.fsa_model.specs.ShownNumbers.{all_attributes, change_time, length_shown, shown_attributes, space_shown};
 
 use bitflags::Flags;
 use fsa_types::{CLUSTER_SIZE, FILE_ATTRIBUTE_REPARSE_POINT, FileAttributes, clusters_for};
