@@ -2,6 +2,7 @@
 use Rattle.std.specs.Prelude.{ℕ, ◌+◌, ◌-◌, ◌*◌, ◌^◌, ◌==◌, ◌&&◌, ◌||◌, not, nat_le, nat_lt, nat_eq, Bool, true, false, List, [], ◌∷◌, Result, Ok, Err, if◌then◌else◌, length, drop, codes}
 use Rattle.std.specs.List.{before_first, position_or_len, list_all}
 use Rattle.std.specs.Cmp.Lexicographic.{pointwise}
+pub use Rattle.fsa_types.specs.Request.{most_bytes}
 use Rattle.fsa_model.specs.Fault.{Kind, BadSyntax, ◌>>=◌, read_as, only_if}
 use Rattle.fsa_model.specs.Numbers.{digit_of, written_number}
 
@@ -12,10 +13,6 @@ most_id = 4294967295
 -- masks are below 2 ^ 32
 abbrev pub most_mask : ℕ
 most_mask = 4294967295
-
--- the lengths of reads, writes and buffers go up to here
-abbrev pub most_bytes : ℕ
-most_bytes = 16384
 
 -- places in a stream, and the lengths of locks, are below 2 ^ 64
 abbrev pub most_place : ℕ

@@ -3,6 +3,7 @@
 use Rattle.std.specs.Prelude.{ℕ, codes, ◌==◌, nat_lt, Bool, true, false, not, ◌&&◌, ◌||◌, List, [], ◌∷◌, length, if◌then◌else◌}
 use Rattle.std.specs.List.{list_any}
 use Rattle.fsa_types.specs.CaseTable.{up}
+use Rattle.fsa_types.specs.Paths.{most_name_units}
 
 -- what a unit of an expression stands for: `*`, `?`, `<` (DOS_STAR), `>` (DOS_QM), `"` (DOS_DOT), or
 -- itself
@@ -89,6 +90,6 @@ matches table (unit ∷ rest) name = first_matches table unit (sign_of unit) (ma
 abbrev pub is_bad_expression_unit : ℕ → Bool
 is_bad_expression_unit unit = nat_lt unit 0x20 || list_any (λ bad. unit == bad) (codes "\\/:|")
 
--- an expression is refused: more than 255 units, or a bad one
+-- an expression is refused: too many units, or a bad one
 abbrev pub is_refused : List ℕ → Bool
-is_refused units = nat_lt 255 (length units) || list_any is_bad_expression_unit units
+is_refused units = nat_lt most_name_units (length units) || list_any is_bad_expression_unit units

@@ -34,17 +34,21 @@ is_bad_unit unit = nat_lt unit 32 || list_any (λ bad. bad == unit) (codes "\"/:
 abbrev pub is_dots : List ℕ → Bool
 is_dots name = pointwise nat_eq name (codes ".") || pointwise nat_eq name (codes "..")
 
+-- the most units of a component, of a stream's name and of an expression
+abbrev pub most_name_units : ℕ
+most_name_units = 255
+
 -- the fault of a component whose first unit has this place
 abbrev pub component_fault : ℕ → List ℕ → Option PathFault
 component_fault place name =
     if length name == 0 then Some Empty
-    else if nat_lt 255 (length name) then Some TooLong
+    else if nat_lt most_name_units (length name) then Some TooLong
     else if is_dots name then Some (BadUnit place)
     else option_map (λ i. BadUnit (place + i)) (position is_bad_unit name)
 
--- a stream's name that is refused: more than 255 units, or one that is 0 or `/`
+-- a stream's name that is refused: too many units, or one that is 0 or `/`
 abbrev pub is_bad_stream : List ℕ → Bool
-is_bad_stream stream = nat_lt 255 (length stream) || list_any (λ unit. unit == 0 || unit == 47) stream
+is_bad_stream stream = nat_lt most_name_units (length stream) || list_any (λ unit. unit == 0 || unit == 47) stream
 
 -- `$DATA` in any case of its letters
 abbrev pub is_data : List ℕ → Bool
@@ -70,10 +74,14 @@ pieces_fault place (piece ∷ more) =
     if length more == 0 then last_fault place piece
     else option_or (component_fault place piece) (pieces_fault (place + length piece + 1) more)
 
--- the fault of a path: more than 32,760 units, no `\` first, or that of its pieces; the root has none
+-- the most units of a path
+abbrev pub most_path_units : ℕ
+most_path_units = 32760
+
+-- the fault of a path: too many units, no `\` first, or that of its pieces; the root has none
 abbrev pub path_fault : List ℕ → Option PathFault
 path_fault path =
-    if nat_lt 32760 (length path) then Some TooLong
+    if nat_lt most_path_units (length path) then Some TooLong
     else if not (slice_index path 0 == 92) then Some Empty
     else if length path == 1 then None
     else pieces_fault 1 (path_pieces path)

@@ -4,7 +4,7 @@ ghost use Rattle.std.specs.Prelude.{◌≡◌, ◌+◌, ◌<◌, ◌≤◌, ◌^
 ghost use Rattle.std.specs.Iterator.{YieldsFirstBy, item_count};
 ghost use Rattle.std.specs.List.{slice_split};
 ghost use Rattle.std.specs.Option.{option_map};
-ghost use Rattle.fsa_types.specs.Paths.{is_separator, path_pieces, pieces_fault, last_fault, path_fault, components, rest_of, stream_part};
+ghost use Rattle.fsa_types.specs.Paths.{components, is_separator, last_fault, most_path_units, path_fault, path_pieces, pieces_fault, rest_of, stream_part};
 ghost use Rattle.names.specs.NameFault.{FindsFault};
 
 use crate::component::check_component;
@@ -184,7 +184,7 @@ pub fn split_path<'a>(units: &'a [u16]) -> Result<PathParts<'a>, NameFault>
 
 // Whether the pieces of what follows the first `\` of a path are sound, and how many there are.
 fn check_pieces(rest: &[u16]) -> Result<usize, NameFault>
-    requires { length rest.now < 32760 }
+    requires { length rest.now < most_path_units }
     ensures count { IfOk result (λ count. count ≡ length (slice_split is_separator rest.now)) }
     ensures fault { FindsFault (pieces_fault 1 (slice_split is_separator rest.now)) result }
 {

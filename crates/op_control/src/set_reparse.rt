@@ -1,7 +1,7 @@
 //! A reparse point is set.
 
 ghost use Rattle.std.specs.Prelude.{◌≡◌, ◌≤◌, IsTrue, OnOk, OnErr, Some, length};
-ghost use Rattle.fsa_types.specs.Request.{what_fits};
+ghost use Rattle.fsa_types.specs.Request.{most_bytes, what_fits};
 ghost use Rattle.fsa_model.specs.Bounds.{most_point_bytes};
 ghost use Rattle.fsa_model.specs.ReparsePoints.{has_other_tag, is_no_tag, set_buffer, set_point, set_reparse_at, try_set_reparse, with_point_noted};
 ghost use Rattle.op_control.specs.Calls.{IsSetReparse, asked_set_reparse};
@@ -87,7 +87,7 @@ fn set_point(
 // The point that this buffer spells is set.
 #[tactic(auto, unfolding(fsa_model::specs::ReparsePoints::set_buffer))]
 fn set_buffer(alloc: Global, volume: &mut Volume, link: u64, file: u64, bytes: &[u8]) -> Tried
-    requires few { length bytes.now ≤ 16384 }
+    requires few { length bytes.now ≤ most_bytes }
     ensures leaves { Leaves (set_buffer volume.old.content link file bytes.now) volume.old volume.new result }
 {
     let Some((tag, content)) = read_reparse(bytes) else {
@@ -99,7 +99,7 @@ fn set_buffer(alloc: Global, volume: &mut Volume, link: u64, file: u64, bytes: &
 // The point of the file of the handle of this number is set; its right comes first, and the root has none.
 #[tactic(auto, unfolding(fsa_model::specs::ReparsePoints::set_reparse_at, fsa_model::specs::ReparsePoints::set_reparse_by))]
 fn set_reparse_at(alloc: Global, volume: &mut Volume, id: u64, bytes: &[u8]) -> Tried
-    requires few { length bytes.now ≤ 16384 }
+    requires few { length bytes.now ≤ most_bytes }
     ensures leaves { Leaves (set_reparse_at volume.old.content id bytes.now) volume.old volume.new result }
 {
     let Some(handle) = volume.handle(id) else {
@@ -127,7 +127,7 @@ fn set_by_handle(
     handle: u32,
     bytes: &[u8],
 ) -> Tried
-    requires few { length bytes.now ≤ 16384 }
+    requires few { length bytes.now ≤ most_bytes }
     ensures leaves { Leaves (try_set_reparse volume.old.content client handle bytes.now) volume.old volume.new result }
 {
     let Some(id) = volume.handle_of(client, handle) else {

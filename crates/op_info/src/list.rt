@@ -2,7 +2,7 @@
 
 ghost use Rattle.std.specs.Prelude.{◌≡◌, ◌≤◌, IfOk, IsTrue, length, option_map};
 ghost use Rattle.fsa_types.specs.Access.{map_generic};
-ghost use Rattle.fsa_types.specs.Request.{dacl_fits};
+ghost use Rattle.fsa_types.specs.Request.{dacl_fits, most_aces};
 ghost use Rattle.fsa_model.specs.Security.{mapped};
 ghost use Rattle.op_info.specs.Conditions.{list_put};
 
@@ -24,7 +24,7 @@ fn mapped_entry(entry: &Ace) -> Ace
 // A list of these entries, each generic right replaced by what it stands for. At most 32 entries.
 // `NoMemory` where there is none for them.
 fn mapped(alloc: Global, entries: &[Ace]) -> Result<Dacl, NoMemory>
-    requires few { length entries.now ≤ 32 }
+    requires few { length entries.now ≤ most_aces }
     ensures { IfOk result (λ list. list.items ≡ mapped entries.now) }
 {
     let mut list = Dacl::with_room(alloc, entries.len() as u32)?;
