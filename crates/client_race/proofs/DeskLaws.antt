@@ -9,6 +9,7 @@ use Rattle.fsa_types.specs.declared.reply.Submitted.TheVariants.{Did, Busy, Refu
 use Rattle.fsa_types.specs.declared.reply.Why.{Why}
 use Rattle.fsa_types.specs.declared.reply.Why.TheVariants.{NoMemory, HistoryFull}
 use Rattle.fsa_types.specs.declared.request.What.{What}
+use Rattle.fsa_model.specs.Bounds.{most_entries}
 use Rattle.fsa_model.specs.History.{HistoryEntry}
 use Rattle.fsa_model.specs.Setup.{Setup}
 use Rattle.history_lock.specs.Passes.{Refreshed}
@@ -19,7 +20,7 @@ use Rattle.history_laws.specs.CallAnswers.{EndedWithList, HasEnded, IfBusy, IfDi
 use Rattle.shared_volume.proofs.HistoryLaws.{numbered-differ}
 use Rattle.client_run.specs.Calls.{calls_in}
 use Rattle.client_run.specs.Desks.{Asks, OnlySees, SeesHistory}
-use Rattle.client_run.specs.Shown.{IsRunOfDistinctCalls}
+use Rattle.client_run.specs.ClientHistory.{IsRunOfDistinctCalls}
 use Rattle.client_race.specs.Passes.{shown_by}
 
 pub asks : (setup : Setup) (what : What) (number : ℕ) (answer : Answer) (v w : Known) → Submits setup what number answer v w → Asks what number answer (shown_by setup v) (shown_by setup w)
@@ -37,7 +38,7 @@ asks setup what number answer v w s =
       seen = m.seen;
       after = m.after;
       called = m.called;
-      answers = record { state = s.answers.gave.state; runs = s.answers.gave.runs; out = s.answers.out; before = s.answers.gave.before; last = s.answers.gave.last; is = s.answers.is };
+      answers = s.answers;
       loads = omega arith;
       lost = omega arith;
     }
@@ -74,7 +75,7 @@ pub lost_rose : (v w : Known) → w ≡ beaten v → v.lost + 1 ≤ w.lost
 lost_rose v w is = (let lost : w.lost ≡ v.lost + 1 = ap (λ (z : Known). z.lost) is in omega arith)
 
 -- only a history of 1,000,000 entries is full
-pub full_at : (seen : List HistoryEntry) (why : Why) → MayRefuse seen why → why ≡ HistoryFull → length seen ≡ 1000000
+pub full_at : (seen : List HistoryEntry) (why : Why) → MayRefuse seen why → why ≡ HistoryFull → length seen ≡ most_entries
 full_at seen HistoryFull may is = eqb-true (length seen) 1000000 (sym may)
 full_at seen NoMemory may is = cc
 
@@ -100,7 +101,7 @@ busy_sees setup what clients v w (Busy back) busy = (busy.0, sees_beaten setup v
 busy_sees setup what clients v w (Refused back why) busy = tt
 
 pub refused_sees : (setup : Setup) (what : What) (v w : Known) (result : Submitted) → IfRefused result (λ back why. (back ≡ what) × Refreshed v w × MayRefuse w.own.seen why)
-    → IfRefused result (λ back why. (back ≡ what) × OnlySees (shown_by setup v) (shown_by setup w) × (why ≡ HistoryFull → length w.own.seen ≡ 1000000))
+    → IfRefused result (λ back why. (back ≡ what) × OnlySees (shown_by setup v) (shown_by setup w) × (why ≡ HistoryFull → length w.own.seen ≡ most_entries))
 refused_sees setup what v w (Did number answer) refused = tt
 refused_sees setup what v w (Busy back) refused = tt
 refused_sees setup what v w (Refused back why) refused = (refused.0, sees_refreshed setup v w refused.1, full_at w.own.seen why refused.2)

@@ -13,7 +13,7 @@ use Rattle.history_lock.proofs.Places.{all_middle, given_below}
 use Rattle.shared_volume.specs.declared.shared.SharedVolume.{SharedVolume}
 use Rattle.shared_volume.specs.Shared.{IsPass, entry_call, call_client as client_of_call, setup_at}
 use Rattle.client_run.specs.Calls.{IsLined, calls_in}
-use Rattle.client_run.specs.Shown.{IsOrderly}
+use Rattle.client_run.specs.ClientHistory.{IsOrderly}
 use Rattle.client_run.proofs.Ordering.{orderly_closed}
 use Rattle.client_run.proofs.ServeLaws.{serves_new}
 use Rattle.client_race.specs.declared.runner.Runner.{Runner}

@@ -4,6 +4,7 @@ use Rattle.std.specs.Prelude.{◌&&◌, nat_le}
 use Rattle.fsa_types.specs.declared.request.Call.{Call}
 use Rattle.fsa_types.specs.declared.request.What.{What}
 use Rattle.fsa_types.specs.declared.request.What.TheVariants.{Leave}
+use Rattle.fsa_model.specs.Bounds.{most_client_lines, most_line_feeds}
 use Rattle.fsa_model.specs.Lines.{Line}
 use Rattle.fsa_model.specs.Script.{script_of}
 use Rattle.fsa_model.specs.ScriptText.{SpellsLines, call_line, client_line}
@@ -44,7 +45,7 @@ no_line_leaves bytes script is place call at leaves =
     leave_isnt_built call.what leaves (and_right (is_name (name_of script.setup.clients call.client) && nat_le call.number most_id) (can_be_spelled call.what) line)
 
 -- so a script that was read can be raced, where it is within the limits
-pub script-races : (bytes : List ℕ) (script : Script) → script_of bytes ≡ Ok script → length script.lines ≤ 40000 → length script.setup.clients ≤ 64 → CanRace script
+pub script-races : (bytes : List ℕ) (script : Script) → script_of bytes ≡ Ok script → length script.lines ≤ most_line_feeds → length script.setup.clients ≤ most_client_lines → CanRace script
 script-races bytes script is lines clients = record {
   lines = lines;
   some = (script_of-spelled bytes script is).says.some_client;

@@ -6,7 +6,7 @@ ghost use Rattle.history_laws.specs.Races.{own_calls};
 ghost use Rattle.shared_volume.specs.Shared.{IsPass, setup_at};
 ghost use Rattle.script_read.specs.ScriptView.{contents};
 ghost use Rattle.client_run.specs.Calls.{IsLined};
-ghost use Rattle.client_run.specs.Shown.{IsOrderly};
+ghost use Rattle.client_run.specs.ClientHistory.{IsOrderly};
 ghost use Rattle.client_race.specs.Lists.{Pointwise, Faces};
 ghost use Rattle.client_race.specs.Races.{CanRace};
 ghost use Rattle.client_race.specs.Runners.{IsFresh, todo_of};

@@ -1,5 +1,6 @@
 //! The history of a race.
 ghost use Rattle.std.specs.Prelude.{◌≡◌, ◌≤◌, ℕ, IfOk, length};
+ghost use Rattle.fsa_model.specs.Bounds.{most_entries};
 ghost use Rattle.fsa_model.specs.Engine.{CallsDiffer};
 ghost use Rattle.history_laws.specs.Races.{Whole};
 ghost use Rattle.script_read.specs.ScriptView.{contents};
@@ -28,7 +29,7 @@ pub fn race<R: Threads + Wait + Clock + Sync, G: Gate + Sync>(
     ensures setup { IfOk result (λ machine. machine.setup ≡ (contents script.now).setup) }
     ensures whole { IfOk result (λ machine. Whole (contents script.now) machine.entries) }
     ensures differ { IfOk result (λ machine. CallsDiffer machine.entries) }
-    ensures few { IfOk result (λ machine. length machine.entries ≤ 1000000) }
+    ensures few { IfOk result (λ machine. length machine.entries ≤ most_entries) }
 {
     let (volume, passes) = race_history(rt, alloc, script, gate)?;
     Ok(volume.close(passes))

@@ -15,7 +15,9 @@ use wire_io::Gate;
 /// One client: its pass, and the run of its calls.
 #[derive(Drop)]
 pub struct Runner {
+    /// The client's pass at the volume.
     pub pass: Pass,
+    /// The run of its calls: those still to make, and the wait that is pending.
     pub run: ClientRun,
     /// The number of entries that the history had, at least, when the run's wait was found pending.
     pub pending_at: Option<u64>,

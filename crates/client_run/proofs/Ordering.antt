@@ -9,7 +9,7 @@ use Rattle.fsa_model.specs.Waiting.{waits}
 use Rattle.history_lock.proofs.Places.{calls_by-append}
 use Rattle.history_lock.specs.History.{Begins}
 use Rattle.client_run.specs.Calls.{calls_in}
-use Rattle.client_run.specs.Shown.{IsOrderly}
+use Rattle.client_run.specs.ClientHistory.{IsOrderly}
 
 module _ {A : Type 0} where
   pub at_front : (front later : List A) (a : A) → slice_get (front ++ a ∷ later) (length front) ≡ Some a

@@ -17,7 +17,7 @@ use Rattle.history_laws.specs.CallAnswers.{CanAsk, HasEnded}
 use Rattle.client_run.specs.Calls.{HasLeft, IsLined, calls_in}
 use Rattle.client_run.specs.Desks.{Asks, DeskView, OnlySees, SeesHistory}
 use Rattle.client_run.specs.Serving.{MakesNextCall, FitsDesk, holding, planned, todo_in}
-use Rattle.client_run.specs.Shown.{IsOrderly, WaitsOnlyBy}
+use Rattle.client_run.specs.ClientHistory.{IsOrderly, WaitsOnlyBy}
 use Rattle.client_run.proofs.Ordering.{at_front, last_same, none_added, orderly_did, orderly_more, orderly_none}
 use Rattle.client_run.proofs.RunLaws.{differ-front, run-front, run-last}
 use Rattle.client_run.proofs.WaitLaws.{only_later, only_over, only_own}
@@ -127,9 +127,9 @@ serves_did v w number answer call client_run by held free before a history ended
           = ap (λ (rest : List Call). length (v.made ++ call ∷ rest)) (sym (rest_is client_run held) ∙ done) ∙ length-append v.made (call ∷ []) in
           leave_isnt_wait call.what ((s.lined.leaves (length v.made) call last_here).1 (sym whole)) (only n e).1);
       waited = λ r runs. (let last = run-last w.setup a.front a.entry r (ap (run w.setup) (sym a.seen) ∙ runs) in
-          let same : r ≡ a.answers.state = some_equal r a.answers.state (sym runs ∙ a.answers.runs) in
-          let outs : last.before.outs ++ last.turned.out ∷ [] ≡ a.answers.before ++ a.answers.out ∷ [] = ap (λ (z : Run). z.outs) (last.is ∙ same) ∙ a.answers.last in
-          let answered : last.turned.out.answer ≡ answer = ap (λ (o : TurnOut). o.answer) (last_same last.before.outs a.answers.before last.turned.out a.answers.out outs).1 ∙ a.answers.is in
+          let same : r ≡ a.answers.gave.state = some_equal r a.answers.gave.state (sym runs ∙ a.answers.gave.runs) in
+          let outs : last.before.outs ++ last.turned.out ∷ [] ≡ a.answers.gave.before ++ a.answers.out ∷ [] = ap (λ (z : Run). z.outs) (last.is ∙ same) ∙ a.answers.gave.last in
+          let answered : last.turned.out.answer ≡ answer = ap (λ (o : TurnOut). o.answer) (last_same last.before.outs a.answers.gave.before last.turned.out a.answers.out outs).1 ∙ a.answers.is in
           only_own w.setup w.client by a.front a.entry r differ last (quiet last.before last.runs)
           (λ n e. ap (λ (c : Call). c.number) a.called ∙ sym (only n e).0)
           (λ is wait. ap ends_at_once answered ∙ ended is (ap (λ (c : Call). is_wait c.what) (sym called) ∙ wait)));

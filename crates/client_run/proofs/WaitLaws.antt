@@ -13,7 +13,7 @@ use Rattle.fsa_model.specs.Volume.{Pending, Volume}
 use Rattle.fsa_model.specs.Waiting.{is_wait, waits}
 use Rattle.fsa_model.proofs.CountLaws.{and_left, and_right, how_many-none, how_many-split, how_many-weaker, none-how_many}
 use Rattle.client_run.specs.Calls.{calls_in}
-use Rattle.client_run.specs.Shown.{WaitsOnlyBy}
+use Rattle.client_run.specs.ClientHistory.{WaitsOnlyBy}
 use Rattle.client_run.proofs.Ordering.{none_of}
 use Rattle.client_run.proofs.RunLaws.{LastTurn, ended-not_pending, last-fewer, later-fewer, pending_that}
 

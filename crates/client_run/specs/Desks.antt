@@ -5,9 +5,10 @@ use Rattle.fsa_types.specs.declared.request.Call.{Call}
 use Rattle.fsa_types.specs.declared.request.What.{What}
 use Rattle.fsa_model.specs.History.{HistoryEntry}
 use Rattle.fsa_model.specs.Setup.{Setup}
+use Rattle.history_laws.specs.CallAnswers.{LastTurnAnswered}
 use Rattle.history_lock.specs.History.{Begins}
 use Rattle.client_run.specs.Calls.{calls_in}
-use Rattle.client_run.specs.Shown.{LastTurnAnswered, IsRunOfDistinctCalls}
+use Rattle.client_run.specs.ClientHistory.{IsRunOfDistinctCalls}
 
 -- what a desk shows of itself
 pub record DeskView : Type 0 where

@@ -1,4 +1,4 @@
 pub mod Calls
+pub mod ClientHistory
 pub mod Desks
 pub mod Serving
-pub mod Shown

@@ -3,6 +3,7 @@ use Rattle.std.specs.Prelude.{◌≡◌, ◌⊎◌, ℕ, ◌+◌, ◌≤◌, Lis
 use Rattle.fsa_types.specs.declared.reply.Reply.{Reply}
 use Rattle.fsa_types.specs.declared.reply.Why.TheVariants.{HistoryFull}
 use Rattle.fsa_types.specs.declared.request.Call.{Call}
+use Rattle.fsa_model.specs.Bounds.{most_entries}
 use Rattle.fsa_model.specs.History.{Run, run}
 use Rattle.history_laws.specs.CallAnswers.{HasEnded, Pends}
 use Rattle.client_run.specs.declared.run.ClientRun.{ClientRun}
@@ -10,7 +11,7 @@ use Rattle.client_run.specs.declared.run.Step.{Step}
 use Rattle.client_run.specs.declared.run.Step.TheVariants.{Moved, Waiting, Busy, Ended, Refused}
 use Rattle.client_run.specs.Calls.{IsLined}
 use Rattle.client_run.specs.Desks.{DeskView, SeesHistory}
-use Rattle.client_run.specs.Shown.{IsOrderly, WaitsOnlyBy}
+use Rattle.client_run.specs.ClientHistory.{IsOrderly, WaitsOnlyBy}
 
 -- ---- a run
 
@@ -73,4 +74,4 @@ Steps v w before after Moved = MakesNextCall v w before after ⊎ WaitEnds v w b
 Steps v w before after Waiting = WaitPends v w before after
 Steps v w before after Busy = (v.lost + 1 ≤ w.lost) × StaysNext v w before after
 Steps v w before after Ended = todo_in after ≡ []
-Steps v w before after (Refused why) = (why ≡ HistoryFull → length w.seen ≡ 1000000) × StaysNext v w before after
+Steps v w before after (Refused why) = (why ≡ HistoryFull → length w.seen ≡ most_entries) × StaysNext v w before after

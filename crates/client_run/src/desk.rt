@@ -1,6 +1,7 @@
 //! What a client's run asks its calls of.
 ghost use Rattle.std.specs.Prelude.{◌≡◌, ℕ, ◌+◌, ◌≤◌, List, length};
 ghost use Rattle.fsa_types.specs.declared.reply.Why.TheVariants.{HistoryFull};
+ghost use Rattle.fsa_model.specs.Bounds.{most_entries};
 ghost use Rattle.history_laws.specs.CallAnswers.{CanAsk, EndedWithList, HasEnded, IfBusy, IfDid, IfDone, IfRefused, OnBusy, OnNoMemory, OnPending, Pends};
 ghost use Rattle.client_run.specs.Desks.{Asks, DeskView, OnlySees, SeesHistory};
 
@@ -37,7 +38,7 @@ pub trait Desk {
         ensures history { SeesHistory (view self.new) }
         ensures did { IfDid result (λ number answer. Asks what number answer (view self.old) (view self.new)) }
         ensures busy { IfBusy result (λ back. (back ≡ what) × OnlySees (view self.old) (view self.new) × ((view self.old).lost + 1 ≤ (view self.new).lost)) }
-        ensures refused { IfRefused result (λ back why. (back ≡ what) × OnlySees (view self.old) (view self.new) × (why ≡ HistoryFull → length (view self.new).seen ≡ 1000000)) };
+        ensures refused { IfRefused result (λ back why. (back ≡ what) × OnlySees (view self.old) (view self.new) × (why ≡ HistoryFull → length (view self.new).seen ≡ most_entries)) };
 
     /// How the client's call of this number stands, which was made.
     ///

@@ -15,8 +15,9 @@ use Rattle.fsa_types.specs.declared.reply.Why.{Why}
 use Rattle.fsa_types.specs.declared.request.CallId.{CallId}
 use Rattle.fsa_types.specs.declared.request.What.{What}
 use Rattle.fsa_types.specs.declared.request.What.TheVariants.{WaitFor}
+use Rattle.fsa_model.specs.Bounds.{most_entries}
 use Rattle.fsa_model.specs.Engine.{CallsDiffer, EndsOnce, NoneReady, TakesReleased, is_entry_of}
-use Rattle.fsa_model.specs.History.{HistoryEntry, Run, run, with_turn}
+use Rattle.fsa_model.specs.History.{GaveOut, HistoryEntry, Run, run, with_turn}
 use Rattle.fsa_model.specs.LineCalls.{IsLineCall}
 use Rattle.fsa_model.specs.Lookups.{is_opened_by}
 use Rattle.fsa_model.specs.Once.{how_many, is_end, made, times}
@@ -37,8 +38,8 @@ use Rattle.fsa_model.proofs.SettleLaws.{some_equal}
 use Rattle.fsa_model.proofs.TurnLaws.{Turns, turn-turns}
 use Rattle.fsa_machine.specs.Kept.{kept_entry}
 use Rattle.fsa_machine.specs.declared.kept.KeptTurn.{KeptTurn}
-use Rattle.fsa_machine.specs.Serves.{KnowsWaited, MayTry, SameBase, Serves, ServesOn, most_entries, most_turns}
-use Rattle.fsa_machine.specs.MachineView.{CallsNumbered, GaveOut, RunsTo, calls_of_entries, setup_in}
+use Rattle.fsa_machine.specs.Serves.{KnowsWaited, MayTry, SameBase, Serves, ServesOn, most_turns}
+use Rattle.fsa_machine.specs.MachineView.{CallsNumbered, RunsTo, calls_of_entries, setup_in}
 use Rattle.fsa_model.specs.Ended.{ended_with_list, reply_in}
 use Rattle.fsa_machine.proofs.LookLaws.{some-found}
 use Rattle.fsa_machine.proofs.ServeLaws.{All-each, GivesUpTo-more, Serves-fresh, few-oplocks}

@@ -13,6 +13,7 @@ use Rattle.fsa_types.specs.declared.reply.Reply.{Reply}
 use Rattle.fsa_types.specs.declared.status.Status.TheVariants.{Success, NoMemory}
 use Rattle.fsa_types.specs.declared.request.Call.{Call}
 use Rattle.fsa_types.specs.declared.reply.Interim.{Interim}
+use Rattle.fsa_model.specs.Bounds.{most_entries}
 use Rattle.fsa_model.specs.Edits.{with_blockers, with_end}
 use Rattle.fsa_model.specs.Outcome.{Outcome, Done, Stay, Hold}
 use Rattle.fsa_model.specs.Settle.{with_ended, with_reported, with_tried, starves}
@@ -44,7 +45,7 @@ use Rattle.fsa_model.proofs.SettleLaws.{IsNext, MaySettle-kept, next_ready-is, n
 use Rattle.fsa_model.proofs.TryFrame.{try-frame}
 use Rattle.fsa_model.proofs.WatchLaws.{come_cases}
 use Rattle.fsa_model.proofs.TryLaws.{Leaves, Tries, TriesTo}
-use Rattle.fsa_machine.specs.Serves.{KnowsWaited, MayHoldAnew, MayTry, Serves, ServesOn, is_line_call, most_entries, most_turns}
+use Rattle.fsa_machine.specs.Serves.{KnowsWaited, MayHoldAnew, MayTry, Serves, ServesOn, is_line_call, most_turns}
 use Rattle.fsa_machine.specs.Step.{AreBare, Starves, ready_of, report_to}
 use Rattle.fsa_machine.proofs.ServeLaws.{Comes, ComesTo, GivesUpTo-more, few-oplocks, All-each, none-fails, line-asked, try-comes, SameBase-next, Serves-ends, Serves-over, Serves-blockers}
 use Rattle.fsa_machine.specs.declared.store.Ready.{Ready}

@@ -1,9 +1,10 @@
 -- What a machine is seen as: a setup, the history of its turns, the room for turns to come, and where its log begins.
-use Rattle.std.specs.Prelude.{◌≡◌, ℕ, ◌≤◌, ◌&&◌, nat_le, nat_lt, cond, Bool, true, false, List, [], ◌∷◌, ◌++◌, length, map, Result, Ok, Err, Some}
+use Rattle.std.specs.Prelude.{◌≡◌, ℕ, ◌≤◌, ◌&&◌, nat_le, nat_lt, cond, Bool, true, false, List, length, map, Result, Ok, Err, Some}
 use Rattle.fsa_types.specs.declared.reply.Out.{Out}
 use Rattle.fsa_types.specs.declared.reply.Why.{Why}
 use Rattle.fsa_types.specs.declared.reply.Why.TheVariants.{NoMemory, HistoryFull}
 use Rattle.fsa_types.specs.declared.request.Call.{Call}
+use Rattle.fsa_model.specs.Bounds.{most_entries}
 use Rattle.fsa_model.specs.Engine.{is_entry_of}
 use Rattle.fsa_model.specs.History.{HistoryEntry, Run, run}
 use Rattle.fsa_model.specs.Once.{how_many, made}
@@ -11,7 +12,7 @@ use Rattle.fsa_model.specs.Outcome.{TurnOut}
 use Rattle.fsa_model.specs.Schedule.{calls_of}
 use Rattle.fsa_model.specs.Setup.{Setup}
 use Rattle.fsa_model.specs.Volume.{Volume}
-use Rattle.fsa_machine.specs.Serves.{Serves, most_entries}
+use Rattle.fsa_machine.specs.Serves.{Serves}
 
 -- what contracts see of a machine
 pub record MachineView : Type 0 where
@@ -44,13 +45,6 @@ pub record RunsTo (setup : Setup) (entries : List HistoryEntry) (outs : List Tur
   pub count : made v ≡ length entries
   pub numbered : CallsNumbered entries
   pub few : length entries ≤ most_entries
-
--- the last turn of the history gave this out
-pub record GaveOut (setup : Setup) (entries : List HistoryEntry) (out : TurnOut) : Type 0 where
-  pub state : Run
-  pub runs : run setup entries ≡ Some state
-  pub before : List TurnOut
-  pub last : state.outs ≡ before ++ out ∷ []
 
 -- the turn was refused since the history is full
 abbrev pub is_full : Result Out (Call × Why) → Bool

@@ -3,6 +3,7 @@ use Rattle.std.specs.Prelude.{◌≡◌, ℕ, ◌+◌, ◌<◌, ◌≤◌, Some,
 use Rattle.fsa_types.specs.declared.memory.NoMemory.{NoMemory}
 use Rattle.fsa_types.specs.declared.reply.Out.{Out}
 use Rattle.fsa_types.specs.declared.request.Call.{Call}
+use Rattle.fsa_model.specs.Bounds.{most_entries}
 use Rattle.fsa_model.specs.Engine.{own_tried}
 use Rattle.fsa_model.specs.Once.{made, times}
 use Rattle.fsa_model.specs.Outcome.{out_of}
@@ -10,7 +11,7 @@ use Rattle.fsa_model.specs.Settling.{MayTurn}
 use Rattle.fsa_model.specs.Turn.{turn}
 use Rattle.fsa_model.specs.Volume.{Volume}
 use Rattle.fsa_machine.specs.Released.{how_many_let_go}
-use Rattle.fsa_machine.specs.Serves.{MayTry, Serves, ServesOn, most_entries}
+use Rattle.fsa_machine.specs.Serves.{MayTry, Serves, ServesOn}
 use Rattle.fsa_machine.specs.declared.turns.MadeTurn.{MadeTurn}
 
 -- a turn of this call can be made: it has a number, and it and the volume are as a try and a settlement need them

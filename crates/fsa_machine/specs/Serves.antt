@@ -7,6 +7,7 @@ use Rattle.fsa_types.specs.declared.reply.Blocker.{Blocker}
 use Rattle.fsa_types.specs.declared.request.Call.{Call}
 use Rattle.fsa_types.specs.declared.request.What.{What}
 use Rattle.fsa_types.specs.declared.request.What.TheVariants.{WaitFor}
+use Rattle.fsa_model.specs.Bounds.{most_entries}
 use Rattle.fsa_model.specs.Frame.{PointsFit}
 use Rattle.fsa_model.specs.LineCalls.{IsLineCall, ticks_fit}
 use Rattle.fsa_model.specs.Lookups.{handle_of}
@@ -17,13 +18,9 @@ use Rattle.fsa_model.specs.Waiting.{blocker_lives, has_ended, is_held, is_pendin
 
 -- ---- numbers
 
--- the most entries of a history
-abbrev pub most_entries : ℕ
-most_entries = 1000000
-
--- numbers are left for one turn more than that
+-- numbers are left for one turn more than a history has entries
 abbrev pub most_turns : ℕ
-most_turns = 1000001
+most_turns = most_entries + 1
 
 -- how many numbers of each kind were given at most in so many turns, and how far the clock went on
 pub record GivesUpTo (v : Volume) (turns : ℕ) : Type 0 where

@@ -3,9 +3,10 @@
 ghost use Rattle.std.specs.Prelude.{◌≡◌, ◌≤◌, ◌<◌, ◌+◌, ◌==◌, ◌++◌, ◌∷◌, [], true, not, is_some, IsSome, length, map, slice_get, Some, IfOk, IfErr, OnOk, OnErr};
 ghost use Rattle.std.specs.List.{list_any};
 ghost use Rattle.std.specs.Vec.{vec_capacity, vec_len};
+ghost use Rattle.fsa_model.specs.Bounds.{most_entries};
 ghost use Rattle.fsa_model.specs.Coherence.{CachingIsCoherent};
 ghost use Rattle.fsa_model.specs.Engine.{EndsOnce, NoneReady, TakesReleased, is_entry_of};
-ghost use Rattle.fsa_model.specs.History.{Run, run};
+ghost use Rattle.fsa_model.specs.History.{GaveOut, Run, run};
 ghost use Rattle.fsa_model.specs.LineCalls.{IsLineCall};
 ghost use Rattle.fsa_model.specs.Outcome.{out_of};
 ghost use Rattle.fsa_model.specs.Schedule.{calls_of};
@@ -14,10 +15,9 @@ ghost use Rattle.fsa_model.specs.Waiting.{is_pending, waits};
 ghost use Rattle.fsa_model.specs.Watched.{WatchesReport};
 ghost use Rattle.fsa_machine.specs.Kept.{kept_entry, out_kept};
 ghost use Rattle.fsa_machine.specs.Released.{how_many_released};
-ghost use Rattle.fsa_machine.specs.Serves.{most_entries};
 ghost use Rattle.fsa_machine.specs.Spare.{AreSpare, is_ack_or_cancel};
 ghost use Rattle.fsa_machine.specs.Trimmed.{trimmed_base};
-ghost use Rattle.fsa_machine.specs.MachineView.{GaveOut, RunsTo, calls_of_entries, is_full, setup_in};
+ghost use Rattle.fsa_machine.specs.MachineView.{RunsTo, calls_of_entries, is_full, setup_in};
 ghost use Rattle.fsa_model.specs.Ended.{ended_with_list, reply_in};
 
 use crate::keeping::reserve_turns;

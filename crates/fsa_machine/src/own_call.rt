@@ -1,12 +1,13 @@
 //! The turn's own call: its try, and what becomes of it.
 
 ghost use Rattle.std.specs.Prelude.{◌≡◌, ◌≤◌, ◌<◌, ◌+◌, ◌-◌, ◌^◌, ◌++◌, [], true, length, drop, IfOk, IfErr, IsOk, OnErr, OnOk};
+ghost use Rattle.fsa_model.specs.Bounds.{most_entries};
 ghost use Rattle.fsa_model.specs.Edits.{with_end, with_pending};
 ghost use Rattle.fsa_model.specs.Frame.{FitsReply};
 ghost use Rattle.fsa_model.specs.Once.{made, times};
 ghost use Rattle.fsa_model.specs.Settling.{MayTurn};
 ghost use Rattle.fsa_model.specs.Turn.{answer_of, answered, ends_between, try, turn_number, volume_after};
-ghost use Rattle.fsa_machine.specs.Serves.{MayPend, MayTry, Serves, most_entries};
+ghost use Rattle.fsa_machine.specs.Serves.{MayPend, MayTry, Serves};
 ghost use Rattle.fsa_machine.specs.Spare.{is_ack_or_cancel};
 ghost use Rattle.fsa_machine.specs.Step.{AreBare, HasReplyRoom};
 

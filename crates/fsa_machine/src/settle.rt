@@ -5,6 +5,7 @@ ghost use Rattle.std.specs.Prelude.{◌≡◌, ◌≤◌, ◌<◌, ◌+◌, ◌+
 ghost use Rattle.fsa_types.specs.declared.request.CallId.{CallId};
 ghost use Rattle.fsa_types.specs.declared.reply.Body.TheVariants.{Nothing};
 ghost use Rattle.fsa_types.specs.declared.status.Status.TheVariants.{Stalled};
+ghost use Rattle.fsa_model.specs.Bounds.{most_entries};
 ghost use Rattle.fsa_model.specs.Close.{with_calls_ended};
 ghost use Rattle.fsa_model.specs.Edits.{with_end};
 ghost use Rattle.fsa_model.specs.Once.{made};
@@ -14,7 +15,7 @@ ghost use Rattle.fsa_model.specs.Turn.{ends_between};
 ghost use Rattle.fsa_model.specs.Waiting.{next_ready, waits_in_order, with_stalled};
 ghost use Rattle.fsa_model.specs.Watching.{due_size, report, with_watch_seen};
 ghost use Rattle.fsa_machine.specs.Released.{how_many_let_go};
-ghost use Rattle.fsa_machine.specs.Serves.{Serves, ServesOn, most_entries};
+ghost use Rattle.fsa_machine.specs.Serves.{Serves, ServesOn};
 ghost use Rattle.volume_state.specs.Waits.{id_of};
 ghost use Rattle.fsa_machine.specs.Step.{HasReplyRoom, HasReportRoom, Starves, ready_of};
 

@@ -2,10 +2,10 @@
 
 ghost use Rattle.std.specs.Prelude.{◌≡◌, ◌≤◌, ◌<◌, ◌+◌, ◌-◌, [], true, length, All, IfOk, IfSome, IsOk, OnErr, OnOk, Some};
 ghost use Rattle.std.specs.Vec.{vec_len};
+ghost use Rattle.fsa_model.specs.Bounds.{most_entries};
 ghost use Rattle.fsa_model.specs.Once.{made};
 ghost use Rattle.fsa_model.specs.Turn.{turn};
 ghost use Rattle.fsa_machine.specs.OneTurn.{CanTurn, TurnsOrStays, first_out};
-ghost use Rattle.fsa_machine.specs.Serves.{most_entries};
 ghost use Rattle.fsa_machine.specs.Spare.{AreLists, HasLists, is_ack_or_cancel};
 ghost use Rattle.fsa_machine.specs.Step.{HasReplyRoom};
 

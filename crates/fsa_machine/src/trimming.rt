@@ -2,6 +2,7 @@
 
 ghost use Rattle.std.specs.Prelude.{◌≡◌, ◌≤◌, ◌<◌, ◌+◌, ◌++◌, ◌∷◌, [], true, map, Some, IfErr, IfOk, IsOk, OnOk};
 ghost use Rattle.std.specs.Vec.{vec_capacity, vec_len};
+ghost use Rattle.fsa_model.specs.Bounds.{most_entries};
 ghost use Rattle.fsa_model.specs.Engine.{own_tried};
 ghost use Rattle.fsa_model.specs.Once.{made, times};
 ghost use Rattle.fsa_model.specs.Outcome.{out_of};
@@ -9,7 +10,7 @@ ghost use Rattle.fsa_model.specs.Settling.{MayTurn};
 ghost use Rattle.fsa_model.specs.Turn.{turn};
 ghost use Rattle.fsa_machine.specs.Kept.{kept_entry, out_kept};
 ghost use Rattle.fsa_machine.specs.Released.{how_many_let_go};
-ghost use Rattle.fsa_machine.specs.Serves.{MayTry, Serves, ServesOn, most_entries};
+ghost use Rattle.fsa_machine.specs.Serves.{MayTry, Serves, ServesOn};
 ghost use Rattle.fsa_machine.specs.Spare.{AreSpare, is_ack_or_cancel};
 ghost use Rattle.fsa_machine.specs.Trimmed.{trimmed_base};
 

@@ -18,6 +18,7 @@ use Rattle.fsa_types.specs.declared.request.Level.{Level}
 use Rattle.fsa_types.specs.declared.request.Level.TheVariants.{Nil}
 use Rattle.fsa_types.specs.declared.request.What.{What}
 use Rattle.fsa_types.specs.declared.status.Status.{Status}
+use Rattle.fsa_model.specs.Bounds.{most_point_bytes}
 use Rattle.fsa_model.specs.Breaks.{with_told, with_break_begun, with_effect, with_breaks, chosen}
 use Rattle.fsa_model.specs.Changes.{with_change_noted}
 use Rattle.fsa_model.specs.Edits.{is_call, with_basic, with_cursor, with_end, without_oplock}
@@ -169,7 +170,7 @@ pub AddsNothing-file : (v : Volume) (change : File → File) (file : ℕ) → ((
     → AddsNothing v (record v { files = with_row_changed change v.files file })
 AddsNothing-file v change file same = AddsNothing-files v (with_row_changed change v.files file) (λ fit.
     All-map (λ entry. PointFits entry.1) (change_at change file) v.files (λ k d within.
-    subst (λ (point : Option (ℕ × List ℕ)). IfSome point (λ p. length p.1 ≤ 16376)) (sym (change_at-same change file (λ row. row.point) same (get_or v.files k d))) (fit k d within)))
+    subst (λ (point : Option (ℕ × List ℕ)). IfSome point (λ p. length p.1 ≤ most_point_bytes)) (sym (change_at-same change file (λ row. row.point) same (get_or v.files k d))) (fit k d within)))
 
 -- another call ended, which was pending at first
 pub AddsNothing-end : {v w : Volume} (client number : ℕ) (reply : Reply) → AddsNothing v w → IsTrue (is_pending v client number) → IsBare reply.body → AddsNothing v (with_end w client number reply)

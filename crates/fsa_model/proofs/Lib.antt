@@ -1,5 +1,6 @@
 mod ScriptExamples
 pub mod BreakLaws
+pub mod BreakTable
 pub mod BytesExamples
 pub mod CloseExamples
 pub mod CoherenceAnswers
@@ -67,7 +68,6 @@ pub mod OpenExamples
 pub mod OpenLeaves
 pub mod OpenTable
 pub mod OplockExamples
-pub mod OplockTable
 pub mod PackedExamples
 pub mod PackedLaws
 pub mod PendLaws

@@ -11,6 +11,7 @@ use Rattle.fsa_types.specs.declared.request.Call.{Call}
 use Rattle.fsa_types.specs.declared.request.Request.TheVariants as request
 use Rattle.fsa_types.specs.declared.request.What.TheVariants.{Ask}
 use Rattle.fsa_types.specs.declared.status.Status.TheVariants.{Success, InvalidHandle, InvalidParameter, AccessDenied, BufferTooSmall, DirectoryNotEmpty, IoReparseDataInvalid, IoReparseTagInvalid, IoReparseTagMismatch, NotAReparsePoint}
+use Rattle.fsa_model.specs.Bounds.{most_point_bytes}
 use Rattle.fsa_model.specs.Close.{is_link_of_parent}
 use Rattle.fsa_model.specs.Edits.{with_limit, with_point}
 use Rattle.fsa_model.specs.Frame.{KeepsFrame, PointsFit}
@@ -44,7 +45,7 @@ read-short bytes point is = elim (cases_Bool (nat_lt (length bytes) 8)) [
     rest false is enough = (let same : (from_le_bytes w32 (take 4 bytes), drop 8 bytes) ≡ point = cc in let short = length-drop 8 bytes in rw (← same) (omega arith))
 
 -- the point of one file, with as few bytes, leaves all points fitting
-points-set : (v : Volume) (file : ℕ) (point : Option (ℕ × List ℕ)) → IfSome point (λ p. length p.1 ≤ 16376) → PointsFit v → PointsFit (with_point v file point)
+points-set : (v : Volume) (file : ℕ) (point : Option (ℕ × List ℕ)) → IfSome point (λ p. length p.1 ≤ most_point_bytes) → PointsFit v → PointsFit (with_point v file point)
 points-set v file point few fit =
     All-map (λ (entry : ℕ × File). PointFits entry.1) (change_at (λ row. record row { point = point }) file) v.files
     (λ k d within. elim (cases_Bool ((get_or v.files k d).0 == file)) [ inl here ↦ rw here few | inr other ↦ rw other (fit k d within) ])

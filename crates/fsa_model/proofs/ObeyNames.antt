@@ -10,6 +10,7 @@ use Rattle.fsa_types.specs.declared.oplock.HandleSet.TheVariants as set
 use Rattle.fsa_types.specs.declared.request.Call.{Call}
 use Rattle.fsa_types.specs.declared.status.Status.{Status}
 use Rattle.fsa_types.specs.declared.status.Status.TheVariants.{Success, InvalidHandle, InvalidParameter, AccessDenied, CannotDelete, DeletePending, DirectoryNotEmpty, FileIsADirectory, ObjectNameCollision, ObjectNameInvalid, TooManyLinks}
+use Rattle.fsa_model.specs.Bounds.{most_point_bytes}
 use Rattle.fsa_model.specs.Breaks.{with_breaks}
 use Rattle.fsa_model.specs.Changes.{with_change_noted}
 use Rattle.fsa_model.specs.Close.{is_link_of_parent, named_stream}
@@ -64,7 +65,7 @@ replace_fault-plain v naming replaced why is =
 
 -- the reply of the call has room for what is left of this path at a reparse point
 pub record HoldsPath (call : Call) (path : List ℕ) : Type 0 where
-  pub bytes : 16376 ≤ most_reply_bytes call.what
+  pub bytes : most_point_bytes ≤ most_reply_bytes call.what
   pub units : length path ≤ most_reply_units call.what
 
 -- ---- renames

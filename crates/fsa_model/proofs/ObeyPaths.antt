@@ -9,6 +9,7 @@ use Rattle.fsa_types.specs.Paths.{rest_of, path_pieces}
 use Rattle.fsa_types.specs.Rows.{row_of}
 use Rattle.fsa_types.specs.declared.request.Call.{Call}
 use Rattle.fsa_types.specs.declared.status.Status.TheVariants as status
+use Rattle.fsa_model.specs.Bounds.{most_point_bytes}
 use Rattle.fsa_model.specs.Frame.{most_reply_bytes, most_reply_units, PointsFit}
 use Rattle.fsa_model.specs.Lookups.{child_of, is_directory}
 use Rattle.fsa_model.specs.Open.{stop_status, stopped}
@@ -82,7 +83,7 @@ stop_status-plain : (tag : ℕ) → is_no_memory (stop_status tag) ≡ false
 stop_status-plain tag = elim (cases_Bool (tag == 0xA000000C)) [ inl is ↦ rw is refl | inr isnt ↦ rw isnt refl ]
 
 -- what is there to be said of a point fits a reply
-short : (v : Volume) (file : ℕ) (point : ℕ × List ℕ) → PointsFit v → point_of v file ≡ Some point → length point.1 ≤ 16376
+short : (v : Volume) (file : ℕ) (point : ℕ × List ℕ) → PointsFit v → point_of v file ≡ Some point → length point.1 ≤ most_point_bytes
 short v file point fit is = elim (option_cases (row_of v.files file)) [
   | inl none ↦ (let impossible : None ≡ Some point = rw none at is in cc)
   | inr some ↦ (let here : some.0.point ≡ Some point = rw some.1 at is in
@@ -90,7 +91,7 @@ short v file point fit is = elim (option_cases (row_of v.files file)) [
 ]
 
 -- a reparse point stops it
-pub stopped-obeys : (call : Call) (v : Volume) (file : ℕ) (rest : List ℕ) → 16376 ≤ most_reply_bytes call.what → length rest ≤ most_reply_units call.what → Obeys call v (stopped v file rest)
+pub stopped-obeys : (call : Call) (v : Volume) (file : ℕ) (rest : List ℕ) → most_point_bytes ≤ most_reply_bytes call.what → length rest ≤ most_reply_units call.what → Obeys call v (stopped v file rest)
 unfolding stopped
 stopped-obeys call v file rest bytes units =
     Obeys-option (point_of v file) _ _

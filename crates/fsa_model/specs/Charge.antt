@@ -1,12 +1,9 @@
--- The space that streams take, in clusters of 4,096 bytes, and what an owner is charged for it.
-use Rattle.std.specs.Prelude.{ℕ, Bool, ◌+◌, ◌*◌, ◌/◌, ◌-◌, ◌^◌, ◌==◌, false, length, filter, sum_by}
+-- The space that streams take, in clusters, and what an owner is charged for it.
+use Rattle.std.specs.Prelude.{ℕ, Bool, ◌*◌, ◌-◌, ◌^◌, ◌==◌, false, length, filter, sum_by}
 use Rattle.std.specs.Option.{option_map_or}
+use Rattle.fsa_types.specs.Clusters.{cluster_size, clusters_for}
 use Rattle.fsa_types.specs.Rows.{row_of}
 use Rattle.fsa_model.specs.Volume.{Volume}
-
--- the clusters that so many bytes take
-abbrev pub clusters_for : ℕ → ℕ
-clusters_for bytes = (bytes + 4095) / 4096
 
 -- the clusters that all streams take
 abbrev pub clusters : Volume → ℕ
@@ -19,11 +16,11 @@ is_owned_by v owner file = option_map_or (λ row. row.owner == owner) (row_of v.
 -- the bytes of the clusters of all streams of the owner's files
 abbrev pub charge : Volume → ℕ → ℕ
 charge v owner =
-    sum_by (λ entry. 4096 * clusters_for (length entry.1.bytes)) (filter (λ entry. is_owned_by v owner entry.1.file) v.streams)
+    sum_by (λ entry. cluster_size * clusters_for (length entry.1.bytes)) (filter (λ entry. is_owned_by v owner entry.1.file) v.streams)
 
 -- the bytes of the clusters of all streams of a file
 abbrev pub charge_of_file : Volume → ℕ → ℕ
-charge_of_file v file = sum_by (λ entry. 4096 * clusters_for (length entry.1.bytes)) (filter (λ entry. entry.1.file == file) v.streams)
+charge_of_file v file = sum_by (λ entry. cluster_size * clusters_for (length entry.1.bytes)) (filter (λ entry. entry.1.file == file) v.streams)
 
 -- the owner's limit, in bytes; one that isn't set is the largest number
 abbrev pub limit : Volume → ℕ → ℕ

@@ -15,6 +15,7 @@ use Rattle.fsa_types.specs.declared.request.Request.TheVariants as request
 use Rattle.fsa_types.specs.declared.request.What.{What}
 use Rattle.fsa_types.specs.declared.request.What.TheVariants.{Ask, Tick, WaitFor, Leave}
 use Rattle.fsa_types.specs.declared.status.Status.{Status}
+use Rattle.fsa_model.specs.Bounds.{most_point_bytes}
 use Rattle.fsa_model.specs.Breaks.{with_breaks}
 use Rattle.fsa_model.specs.Outcome.{Outcome, Done, Stay, Hold}
 use Rattle.fsa_model.specs.Sound.{PointFits}
@@ -50,11 +51,11 @@ is_query_dir _ = false
 
 -- ---- what is replied
 
--- the most bytes that a reply holds: a path may stop at a reparse point, which has at most 16,376
+-- the most bytes that a reply holds: a path may stop at a reparse point
 abbrev pub most_reply_bytes : What → ℕ
-most_reply_bytes (Ask (request.Create path wanted share disposition options attributes key)) = 16376
-most_reply_bytes (Ask (request.Rename handle path replace)) = 16376
-most_reply_bytes (Ask (request.Link handle path replace)) = 16376
+most_reply_bytes (Ask (request.Create path wanted share disposition options attributes key)) = most_point_bytes
+most_reply_bytes (Ask (request.Rename handle path replace)) = most_point_bytes
+most_reply_bytes (Ask (request.Link handle path replace)) = most_point_bytes
 most_reply_bytes (Ask (request.Read handle at count)) = count
 most_reply_bytes (Ask (request.QueryDir handle kind expression restart room)) = room
 most_reply_bytes (Ask (request.Notify handle filter tree room)) = room
@@ -83,7 +84,7 @@ pub record IsBare (body : Body) : Type 0 where
 abbrev pub is_failure : Status → Bool
 is_failure status = nat_le 0x80000000 (status_code status)
 
--- reparse points have at most 16,376 bytes
+-- reparse points are no longer than they may be
 abbrev pub PointsFit : Volume → Type 0
 PointsFit v = All (λ entry. PointFits entry.1) v.files
 

@@ -1,10 +1,11 @@
 -- Whether a stream may grow: the owner's limit, and then the space of the volume.
 use Rattle.std.specs.Prelude.{ℕ, ◌+◌, ◌-◌, ◌*◌, nat_lt, nat_le, Option, Some, None, length, if◌then◌else◌}
 use Rattle.std.specs.Option.{option_map_or}
+use Rattle.fsa_types.specs.Clusters.{cluster_size, clusters_for}
 use Rattle.fsa_types.specs.Rows.{row_of}
 use Rattle.fsa_types.specs.declared.status.Status.{Status}
 use Rattle.fsa_types.specs.declared.status.Status.TheVariants.{QuotaExceeded, DiskFull}
-use Rattle.fsa_model.specs.Charge.{charge, clusters, clusters_for, limit}
+use Rattle.fsa_model.specs.Charge.{charge, clusters, limit}
 use Rattle.fsa_model.specs.Lookups.{bytes_of}
 use Rattle.fsa_model.specs.Volume.{Volume}
 
@@ -29,7 +30,7 @@ clusters_more v stream bytes = clusters_for bytes - clusters_of v stream
 abbrev pub growth_fault : Volume → ℕ → ℕ → Option Status
 growth_fault v stream bytes =
     if nat_le (clusters_for bytes) (clusters_of v stream) then None
-    else if nat_lt (limit v (owner_of_stream v stream)) (charge v (owner_of_stream v stream) + 4096 * clusters_more v stream bytes)
+    else if nat_lt (limit v (owner_of_stream v stream)) (charge v (owner_of_stream v stream) + cluster_size * clusters_more v stream bytes)
     then Some QuotaExceeded
     else if nat_lt most_clusters (clusters v + clusters_more v stream bytes) then Some DiskFull
     else None

@@ -1,5 +1,5 @@
 -- Histories: lists of turns, run one after another from a fresh volume.
-use Rattle.std.specs.Prelude.{List, [], ◌∷◌, ◌++◌, Option, Some, option_and_then, option_map}
+use Rattle.std.specs.Prelude.{◌≡◌, List, [], ◌∷◌, ◌++◌, Option, Some, option_and_then, option_map}
 use Rattle.fsa_types.specs.declared.request.Call.{Call}
 use Rattle.fsa_types.specs.declared.request.CallId.{CallId}
 use Rattle.fsa_model.specs.Setup.{Setup}
@@ -36,3 +36,10 @@ begun setup = record { volume = fresh setup; outs = [] }
 -- the run of a history from a fresh volume
 abbrev pub run : Setup → List HistoryEntry → Option Run
 run setup history = steps turn_on (begun setup) history
+
+-- the last turn of the history gave this out
+pub record GaveOut (setup : Setup) (entries : List HistoryEntry) (out : TurnOut) : Type 0 where
+  pub state : Run
+  pub runs : run setup entries ≡ Some state
+  pub before : List TurnOut
+  pub last : state.outs ≡ before ++ out ∷ []

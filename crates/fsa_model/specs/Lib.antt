@@ -1,3 +1,4 @@
+pub mod Bounds
 pub mod Breaks
 pub mod ByteLines
 pub mod Changes
@@ -53,7 +54,7 @@ pub mod SetEnd
 pub mod Settle
 pub mod Settling
 pub mod Setup
-pub mod Shown
+pub mod ShownNumbers
 pub mod Sound
 pub mod Soundness
 pub mod Spelled

@@ -1,6 +1,6 @@
 -- Listing a directory, after [MS-FSA] 'Server Requests Querying a Directory': the entries of a directory, where an
 -- enumeration stands, and one try of it, its checks in order, each by its name.
-use Rattle.std.specs.Prelude.{ℕ, Bool, true, false, ◌-◌, ◌==◌, ◌&&◌, not, nat_lt, List, [], ◌∷◌, ◌++◌, filter, map, take, length, is_some, slice_get, if◌then◌else◌}
+use Rattle.std.specs.Prelude.{ℕ, Bool, true, false, ◌-◌, ◌==◌, ◌&&◌, not, nat_lt, List, [], ◌∷◌, ◌++◌, filter, map, take, length, is_some, slice_get, if◌then◌else◌, codes}
 use Rattle.std.specs.Option.{option_map_or}
 use Rattle.std.specs.Ordering.{is_lt}
 use Rattle.fsa_types.specs.Access.{has_any}
@@ -20,7 +20,7 @@ use Rattle.fsa_types.specs.declared.status.Status.TheVariants.{Success, InvalidH
 use Rattle.fsa_model.specs.Edits.{with_cursor}
 use Rattle.fsa_model.specs.Lookups.{file_of_link, handle_of, link_of_file}
 use Rattle.fsa_model.specs.Outcome.{Outcome, Done, ends_with, refused}
-use Rattle.fsa_model.specs.Shown.{listed_numbers}
+use Rattle.fsa_model.specs.ShownNumbers.{listed_numbers}
 use Rattle.fsa_model.specs.Volume.{Cursor, Start, Dot, DotDot, After, Handle, Link, Volume}
 
 -- ---- the entries
@@ -35,11 +35,16 @@ pub record DirectoryEntry : Type 0 where
 abbrev pub parent_directory : Volume → ℕ → ℕ
 parent_directory v dir = option_map_or (λ entry. entry.1.parent) (link_of_file v.links dir) dir
 
--- `.` shows the directory and `..` its parent; the root has neither
+-- `.` shows the directory, and `..` its parent
+abbrev pub dot_entry : ℕ → DirectoryEntry
+dot_entry dir = record { place = Dot; name = codes "."; file = dir }
+
+abbrev pub dot_dot_entry : Volume → ℕ → DirectoryEntry
+dot_dot_entry v dir = record { place = DotDot; name = codes ".."; file = parent_directory v dir }
+
+-- `.` and `..`, of which the root has neither
 abbrev pub dots : Volume → ℕ → List DirectoryEntry
-dots v dir =
-    if dir == 1 then []
-    else record { place = Dot; name = 0x2E ∷ []; file = dir } ∷ record { place = DotDot; name = 0x2E ∷ 0x2E ∷ []; file = parent_directory v dir } ∷ []
+dots v dir = if dir == 1 then [] else dot_entry dir ∷ dot_dot_entry v dir ∷ []
 
 -- one link stands before another: in the order of their upcased names
 abbrev pub is_listed_before : List (ℕ × ℕ) → ℕ × Link → ℕ × Link → Bool
@@ -89,7 +94,7 @@ left_to_list v dir expression cursor =
 -- an expression that isn't empty is kept; an empty one keeps the one before, or is `*`
 abbrev pub kept_expression : Handle → List ℕ → List ℕ
 kept_expression handle expression =
-    if not (length expression == 0) then expression else option_map_or (λ kept. kept.0) handle.enumeration (0x2A ∷ [])
+    if not (length expression == 0) then expression else option_map_or (λ kept. kept.0) handle.enumeration (codes "*")
 
 -- the expression and the cursor of a query: the first one and a restart begin anew; a later one goes on, and its
 -- own expression is ignored

@@ -21,7 +21,7 @@ use Rattle.fsa_types.specs.declared.status.Status.TheVariants.{Success, InvalidH
 use Rattle.fsa_model.specs.Close.{named_stream}
 use Rattle.fsa_model.specs.Lookups.{access_time, creation_time, file_of_link, handle_of, is_directory, is_link_marked, is_marked, links_of, write_time}
 use Rattle.fsa_model.specs.Outcome.{Outcome, Done, refused}
-use Rattle.fsa_model.specs.Shown.{change_time, length_shown, shown_attributes, space_shown}
+use Rattle.fsa_model.specs.ShownNumbers.{change_time, length_shown, shown_attributes, space_shown}
 use Rattle.fsa_model.specs.Volume.{Handle, Stream, Volume}
 use Rattle.fsa_model.specs.Walk.{point_of}
 

@@ -11,7 +11,7 @@ use Rattle.fsa_model.specs.Edits.{with_basic}
 use Rattle.fsa_model.specs.Lookups.{access_time, attributes_of, creation_time, file_of_link, handle_of, is_directory, write_time}
 use Rattle.fsa_model.specs.Open.{kept_attributes}
 use Rattle.fsa_model.specs.Outcome.{Outcome, ends_with, refused}
-use Rattle.fsa_model.specs.Shown.{change_time}
+use Rattle.fsa_model.specs.ShownNumbers.{change_time}
 use Rattle.fsa_model.specs.Volume.{Handle, Volume}
 
 -- what is asked: the four times and the attributes

@@ -6,6 +6,7 @@ use Rattle.fsa_types.specs.OplockLists.{AreOplocks}
 use Rattle.fsa_types.specs.Rows.{row_of, lives, IsNumbered}
 use Rattle.fsa_types.specs.declared.reply.Blocker.{Blocker}
 use Rattle.fsa_types.specs.declared.reply.Blocker.TheVariants.{Break, Lock as LockOf}
+use Rattle.fsa_model.specs.Bounds.{most_point_bytes}
 use Rattle.fsa_model.specs.Setup.{Client}
 use Rattle.fsa_model.specs.Volume.{File, Link, Stream, Handle, Lock, Oplock, Pending, Watch, Volume}
 use Rattle.fsa_model.specs.Lookups.{is_named, is_stream_named, is_opened_by, is_directory, has_child, leads_to}
@@ -35,9 +36,9 @@ is_link_of_directory files links link = link == 0 || list_any (λ l. l.0 == link
 abbrev pub has_its_stream : List (ℕ × File) → List (ℕ × Link) → Handle → Bool
 has_its_stream files links handle = is_some handle.stream || is_link_of_directory files links handle.link
 
--- the bounds of a file: a reparse point has at most 16,376 bytes
+-- the bound of a file: that of its reparse point
 abbrev pub PointFits : File → Type 0
-PointFits file = IfSome file.point (λ point. length point.1 ≤ 16376)
+PointFits file = IfSome file.point (λ point. length point.1 ≤ most_point_bytes)
 
 -- the tree: names, parents, and the files of links and streams
 pub record IsTree (table : List (ℕ × ℕ)) (files : List (ℕ × File)) (links : List (ℕ × Link)) (streams : List (ℕ × Stream)) : Type 0 where

@@ -5,6 +5,7 @@ use Rattle.std.proofs.lemmas.List.Elements.{All-cons, All-nil}
 use Rattle.std.proofs.lemmas.Option.{slice_get-get_or}
 use Rattle.fsa_types.specs.declared.request.Call.{Call}
 use Rattle.fsa_types.specs.declared.setup.Client.{Client as GivenClient}
+use Rattle.fsa_model.specs.Bounds.{most_entries}
 use Rattle.fsa_model.specs.History.{HistoryEntry, Run, begun, run, turn_on, with_turn}
 use Rattle.fsa_model.specs.LineCalls.{HaveSids, IsLineCall}
 use Rattle.fsa_model.specs.Outcome.{TurnOut}
@@ -354,5 +355,5 @@ pub Progress-few : (script : Script) (seen : MachineView) (order : Order) → Pr
 Progress-few script seen order progress = (let long = length-all_calls script in omega (arith, long, progress.few, progress.within.lines, progress.within.clients))
 
 -- and fewer before the next one
-pub Progress-room : (script : Script) (seen : MachineView) (order : Order) → Progress script seen order → length seen.entries < 1000000
+pub Progress-room : (script : Script) (seen : MachineView) (order : Order) → Progress script seen order → length seen.entries < most_entries
 Progress-room script seen order progress = (let few = Progress-few script seen order progress in omega (arith, few))

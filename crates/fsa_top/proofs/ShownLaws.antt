@@ -14,7 +14,7 @@ use Rattle.text_out.specs.Writes.{Adds, Finishes, Gathers}
 use Rattle.text_out.specs.declared.write.TextFault.{TextFault}
 use Rattle.text_out.specs.declared.write.TextFault.TheVariants.{Failed, NoMemory}
 use Rattle.text_out.proofs.GatherLaws.{Gathers-all, Gathers-append, Gathers-more, Gathers-more_part, Gathers-none}
-use Rattle.fsa_top.specs.Shown.{ShowsFirst, ShowsTurn}
+use Rattle.fsa_top.specs.ShownTurns.{ShowsFirst, ShowsTurn}
 
 text_of_none : (clients : List Client) (history : List HistoryEntry) → turns_text clients history [] ≡ []
 text_of_none clients [] = refl

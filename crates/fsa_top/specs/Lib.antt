@@ -3,6 +3,6 @@ pub mod Order
 pub mod Progress
 pub mod Promised
 pub mod Runs
-pub mod Shown
+pub mod ShownTurns
 pub mod Summaries
 pub mod Words

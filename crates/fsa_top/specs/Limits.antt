@@ -1,18 +1,14 @@
 -- The limits of a script: on its bytes, on its lines, and on those that name a client.
 use Rattle.std.specs.Prelude.{◌≡◌, ℕ, ◌==◌, nat_eq, nat_lt, Bool, List, length, Option, Some, None, if◌then◌else◌, codes, count_by}
 use Rattle.std.specs.List.{starts_with}
+pub use Rattle.fsa_model.specs.Bounds.{most_client_lines, most_line_feeds}
 use Rattle.fsa_model.specs.Script.{pieces}
 use Rattle.fsa_top.specs.declared.limits.Limit.{Limit}
 use Rattle.fsa_top.specs.declared.limits.Limit.TheVariants.{Bytes, Lines, Clients}
 
+-- the most bytes of a script
 abbrev pub most_script_bytes : ℕ
 most_script_bytes = 16777216
-
-abbrev pub most_line_feeds : ℕ
-most_line_feeds = 40000
-
-abbrev pub most_client_lines : ℕ
-most_client_lines = 64
 
 -- how many line feeds there are
 abbrev pub line_feeds : List ℕ → ℕ

@@ -1,7 +1,7 @@
 -- How far a run has come: the history of the machine, its text, and where each client's next call stands.
 use Rattle.std.specs.Prelude.{◌≡◌, ◌≤◌, ◌+◌, ◌⊎◌, Result, Ok, Err, ℕ, List, [], ◌∷◌, ◌++◌, Some, length, slice_get}
 use Rattle.fsa_types.specs.declared.request.Call.{Call}
-use Rattle.fsa_model.specs.History.{HistoryEntry}
+use Rattle.fsa_model.specs.History.{GaveOut, HistoryEntry}
 use Rattle.fsa_model.specs.Outcome.{TurnOut}
 use Rattle.fsa_model.specs.Schedule.{Scheduled, all_calls, next}
 use Rattle.fsa_model.specs.Setup.{Script}
@@ -9,7 +9,7 @@ use Rattle.fsa_model.specs.Text.{shown_turns, turn_text}
 use Rattle.history_laws.specs.Cursors.{StandAt}
 use Rattle.history_laws.specs.Named.{IsReadScript}
 use Rattle.history_laws.specs.GoesOn.{how_many_left}
-use Rattle.fsa_machine.specs.MachineView.{GaveOut, MachineView}
+use Rattle.fsa_machine.specs.MachineView.{MachineView}
 use Rattle.wire_io.specs.Sink.{Written, Appends, AppendsPart}
 use Rattle.text_out.specs.Writes.{Gathers}
 use Rattle.text_out.specs.declared.write.TextFault.{TextFault}

@@ -11,7 +11,7 @@ ghost use Rattle.script_read.specs.ScriptView.{contents};
 ghost use Rattle.text_out.specs.Writes.{Adds, TellsFaults};
 ghost use Rattle.wire_io.specs.Sink.{Appends, AppendsPart};
 ghost use Rattle.client_race.specs.Races.{CanRace};
-ghost use Rattle.fsa_top.specs.Shown.{ShowsFirst, ShowsTurn};
+ghost use Rattle.fsa_top.specs.ShownTurns.{ShowsFirst, ShowsTurn};
 ghost use Rattle.fsa_top.specs.Runs.{WritesWhole, WritesWholePart};
 
 use client_race::race;

@@ -2,6 +2,7 @@
 
 ghost use Rattle.std.specs.Prelude.{◌≡◌, ◌≤◌, ◌<◌, ◌+◌, ◌-◌, ◌^◌, ◌⊎◌, [], ℕ, length, map, IfOk, OnOk, OnErr, IsErrOf, Some, slice_get};
 ghost use Rattle.fsa_types.specs.declared.request.Call.{Call};
+ghost use Rattle.fsa_model.specs.Bounds.{most_entries};
 ghost use Rattle.fsa_model.specs.LineCalls.{HaveSids, IsLineCall};
 ghost use Rattle.fsa_model.specs.Outcome.{out_of};
 ghost use Rattle.fsa_model.specs.Schedule.{HasAllCalls, all_calls, calls_of, leave_after};
@@ -27,7 +28,7 @@ use wire_io::Sink;
 fn turn_of(alloc: Global, machine: &mut VolumeMachine, call: &Call) -> Result<Out, NoMemory>
     requires asked { IsLineCall (length machine.old.setup.clients) call.now }
     requires number { call.now.number ≡ calls_of call.now.client (map (λ entry. entry.call) machine.old.entries) + 1 }
-    requires few { length machine.old.entries < 1000000 }
+    requires few { length machine.old.entries < most_entries }
     ensures made { IfOk result (λ out. TurnWasMade machine.old machine.new call.now (out_of out)) }
 {
     let call = call.copy(alloc)?;
@@ -49,7 +50,7 @@ fn make_turn<K: Sink>(
 ) -> Result<(), TextFault>
     requires asked { IsLineCall (length machine.old.setup.clients) call.now }
     requires number { call.now.number ≡ calls_of call.now.client (map (λ entry. entry.call) machine.old.entries) + 1 }
-    requires few { length machine.old.entries < 1000000 }
+    requires few { length machine.old.entries < most_entries }
     requires clients { map client_of clients.now.items ≡ machine.old.setup.clients }
     ensures made { MakesTurn machine.old machine.new call.now (K.written sink.old) (K.written sink.new) buffer.old buffer.new result }
     ensures faults { TellsFaults (K.faults sink.old) (K.faults sink.new) (K.written sink.new).since_fault result }
@@ -98,7 +99,7 @@ fn make_turn_at<K: Sink>(
 ) -> Result<(), TextFault>
     requires within { IsWithinLimits (contents script.now) }
     requires setup { machine.old.setup ≡ (contents script.now).setup }
-    requires few { length machine.old.entries < 1000000 }
+    requires few { length machine.old.entries < most_entries }
     requires there { place < length (all_calls (contents script.now)) }
     requires asked { (call : Call) → slice_get (all_calls (contents script.now)) place ≡ Some call → IsLineCall (length machine.old.setup.clients) call × (call.number ≡ calls_of call.client (map (λ entry. entry.call) machine.old.entries) + 1) }
     ensures made { (call : Call) → slice_get (all_calls (contents script.now)) place ≡ Some call → MakesTurn machine.old machine.new call (K.written sink.old) (K.written sink.new) buffer.old buffer.new result }

@@ -3,6 +3,7 @@ pub mod Backing
 pub mod BoundedList
 pub mod CaseTable
 pub mod CaseTableBody
+pub mod Clusters
 pub mod Masks
 pub mod FixedBuffers
 pub mod LittleEndian

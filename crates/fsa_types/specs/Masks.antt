@@ -1,4 +1,6 @@
--- The bits of masks, the actions of changes and the tags of reparse points by their names.
+-- The bits of masks, the actions of changes and the tags of reparse points by the standard's names. Those of rights,
+-- sharing, options and attributes stand without their first word (FILE_, FILE_SHARE_, FILE_ATTRIBUTE_) where nothing
+-- else has the name.
 use Rattle.std.specs.Prelude.{ℕ, List, [], ◌∷◌, fold}
 use Rattle.std.specs.Int.RustNames.{bit_or}
 
@@ -178,8 +180,8 @@ NORMAL = 0x80
 abbrev pub TEMPORARY : ℕ
 TEMPORARY = 0x100
 
-abbrev pub REPARSE_POINT : ℕ
-REPARSE_POINT = 0x400
+abbrev pub FILE_ATTRIBUTE_REPARSE_POINT : ℕ
+FILE_ATTRIBUTE_REPARSE_POINT = 0x400
 
 abbrev pub OFFLINE : ℕ
 OFFLINE = 0x1000
@@ -187,7 +189,7 @@ OFFLINE = 0x1000
 abbrev pub NOT_CONTENT_INDEXED : ℕ
 NOT_CONTENT_INDEXED = 0x2000
 
--- all that a request may have: REPARSE_POINT is shown and never asked for
+-- all that a request may have: FILE_ATTRIBUTE_REPARSE_POINT is shown and never asked for
 abbrev pub known_attributes : ℕ
 known_attributes =
     bits_of (READONLY ∷ HIDDEN ∷ SYSTEM ∷ DIRECTORY ∷ ARCHIVE ∷ NORMAL ∷ TEMPORARY ∷ OFFLINE ∷ NOT_CONTENT_INDEXED ∷ [])

@@ -1,6 +1,6 @@
 -- How an expression matches a name, after [MS-FSA] 'Algorithm for Determining if a FileName Is in an
 -- Expression'. An expression is a list of units; units compare upcased by the case table.
-use Rattle.std.specs.Prelude.{ℕ, ◌==◌, nat_lt, Bool, true, false, not, ◌&&◌, ◌||◌, List, [], ◌∷◌, length, if◌then◌else◌}
+use Rattle.std.specs.Prelude.{ℕ, codes, ◌==◌, nat_lt, Bool, true, false, not, ◌&&◌, ◌||◌, List, [], ◌∷◌, length, if◌then◌else◌}
 use Rattle.std.specs.List.{list_any}
 use Rattle.fsa_types.specs.CaseTable.{up}
 
@@ -87,7 +87,7 @@ matches table (unit ∷ rest) name = first_matches table unit (sign_of unit) (ma
 
 -- a unit that no expression has: below 0x20, or one of `\ / : |`
 abbrev pub is_bad_expression_unit : ℕ → Bool
-is_bad_expression_unit unit = nat_lt unit 0x20 || unit == 92 || unit == 47 || unit == 58 || unit == 124
+is_bad_expression_unit unit = nat_lt unit 0x20 || list_any (λ bad. unit == bad) (codes "\\/:|")
 
 -- an expression is refused: more than 255 units, or a bad one
 abbrev pub is_refused : List ℕ → Bool

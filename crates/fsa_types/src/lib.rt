@@ -11,6 +11,7 @@
 #![tactic(auto)]
 
 mod case;
+mod cluster;
 mod copy;
 mod list;
 mod mask;
@@ -25,10 +26,11 @@ mod status;
 mod text;
 
 pub use case::{TableFault, UpcaseTable};
+pub use cluster::{CLUSTER_SIZE, clusters_for};
 pub use copy::TryCopy;
 pub use list::BoundedList;
 pub use mask::{
-    ATTRIBUTE_REPARSE_POINT, AccessMask, CreateOptions, FileAttributes,
+    AccessMask, CreateOptions, FILE_ATTRIBUTE_REPARSE_POINT, FileAttributes,
     IO_REPARSE_TAG_RESERVED_ONE, IO_REPARSE_TAG_RESERVED_ZERO, IO_REPARSE_TAG_SYMLINK,
     MICROSOFT_TAG, NotifyFilter, ShareAccess,
 };

@@ -1,4 +1,5 @@
-//! The masks of requests and replies, as sets of named bits.
+//! The masks of requests and replies, as sets of named bits. Their names are the standard's without the first word,
+//! which the type says: FILE_, FILE_SHARE_, FILE_ATTRIBUTE_ or FILE_NOTIFY_CHANGE_.
 
 ghost use Rattle.std.specs.Prelude.{⊤, [], ◌∷◌, codes};
 
@@ -332,7 +333,7 @@ impl Flags for NotifyFilter {
 
 /// The attribute that is shown for a file with a reparse point and that no request may ask for,
 /// after [MS-FSCC] 'File Attributes'.
-pub const ATTRIBUTE_REPARSE_POINT: u32 = 0x400;
+pub const FILE_ATTRIBUTE_REPARSE_POINT: u32 = 0x400;
 
 /// The tag 0 is reserved: no reparse point has it. After [MS-FSCC] 'Reparse Tags', as are the three below.
 pub const IO_REPARSE_TAG_RESERVED_ZERO: u32 = 0;

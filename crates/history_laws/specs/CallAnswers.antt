@@ -11,9 +11,10 @@ use Rattle.fsa_types.specs.declared.reply.Submitted.TheVariants.{Did, Busy, Refu
 use Rattle.fsa_types.specs.declared.reply.Why.{Why}
 use Rattle.fsa_types.specs.declared.request.What.{What}
 use Rattle.fsa_model.specs.Ended.{ended_with_list}
-use Rattle.fsa_model.specs.History.{HistoryEntry, Run, run}
+use Rattle.fsa_model.specs.History.{GaveOut, HistoryEntry, Run, run}
 use Rattle.fsa_model.specs.LineCalls.{ticks_fit}
 use Rattle.fsa_model.specs.Once.{is_end}
+use Rattle.fsa_model.specs.Outcome.{TurnOut}
 use Rattle.fsa_model.specs.Setup.{Setup}
 use Rattle.fsa_model.specs.Waiting.{is_pending}
 
@@ -36,6 +37,12 @@ EndedWithList setup seen client number = (r : Run) → run setup seen ≡ Some r
 -- it is pending there
 abbrev pub Pends : Setup → List HistoryEntry → ℕ → ℕ → Type 0
 Pends setup seen client number = (r : Run) → run setup seen ≡ Some r → is_pending r.volume client number ≡ true
+
+-- the turn that the last entry stands for answered its own call so
+pub record LastTurnAnswered (setup : Setup) (seen : List HistoryEntry) (answer : Answer) : Type 0 where
+  pub out : TurnOut
+  pub gave : GaveOut setup seen out
+  pub is : out.answer ≡ answer
 
 -- ---- answers
 

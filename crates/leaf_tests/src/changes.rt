@@ -3,7 +3,8 @@
 
 ghost use Rattle.std.specs.Prelude.{◌≡◌, IfOk};
 
-use fsa_types::{Bytes, NoMemory};
+use bitflags::Flags;
+use fsa_types::{Bytes, FILE_ACTION_ADDED, FILE_ACTION_MODIFIED, NoMemory, NotifyFilter};
 use notify_queue::{ChangeLog, Watch};
 use std::alloc::Global;
 use std::test::Fail;
@@ -19,10 +20,10 @@ fn noted(alloc: Global) -> Result<ChangeLog, NoMemory>
     log.add_unit(92);
     log.add_unit(97);
     log.add_dir(1);
-    log.finish(1, 1);
+    log.finish(FILE_ACTION_ADDED, NotifyFilter::FILE_NAME.bits());
     log.add_unit(99);
     log.add_dir(1);
-    log.finish(3, 16);
+    log.finish(FILE_ACTION_MODIFIED, NotifyFilter::LAST_WRITE.bits());
     Ok(log)
 }
 
@@ -53,34 +54,35 @@ const B: &[u8] = &[0, 0, 0, 0, 1, 0, 0, 0, 2, 0, 0, 0, 98, 0];
 const C: &[u8] = &[0, 0, 0, 0, 3, 0, 0, 0, 2, 0, 0, 0, 99, 0];
 
 fn cases() -> [Case; 6] {
+    let both = NotifyFilter::FILE_NAME.bits() | NotifyFilter::LAST_WRITE.bits();
     [
         Case {
-            watch: watch(1, 17, true, 0),
+            watch: watch(1, both, true, 0),
             size: 34,
             packed: BELOW_AND_IN,
         },
         Case {
-            watch: watch(1, 17, false, 0),
+            watch: watch(1, both, false, 0),
             size: 14,
             packed: C,
         },
         Case {
-            watch: watch(5, 17, false, 0),
+            watch: watch(5, both, false, 0),
             size: 14,
             packed: B,
         },
         Case {
-            watch: watch(1, 17, true, 1),
+            watch: watch(1, both, true, 1),
             size: 14,
             packed: C,
         },
         Case {
-            watch: watch(1, 2, true, 0),
+            watch: watch(1, NotifyFilter::DIR_NAME.bits(), true, 0),
             size: 0,
             packed: &[],
         },
         Case {
-            watch: watch(6, 17, true, 0),
+            watch: watch(6, both, true, 0),
             size: 0,
             packed: &[],
         },

@@ -1,7 +1,8 @@
 //! Buffers of two entries, and those of one layout alone, spelled by hand from their layouts: they are what is
 //! written.
 
-use fsa_types::{DirKind, Name, NoMemory};
+use bitflags::Flags;
+use fsa_types::{ATTRIBUTE_REPARSE_POINT, DirKind, FileAttributes, Name, NoMemory};
 use pack_info::{
     DirRow, StreamInfoRow, pack_basic, pack_entries, pack_internal, pack_reparse, pack_standard,
     pack_streams, pack_tag, read_reparse,
@@ -55,7 +56,7 @@ fn first_row(alloc: Global) -> Result<DirRow, NoMemory> {
         change: 0x14,
         length: 5,
         room: 4096,
-        attributes: 0x20,
+        attributes: FileAttributes::ARCHIVE.bits(),
         file: 7,
         name,
     })
@@ -70,7 +71,7 @@ fn second_row(alloc: Global) -> Result<DirRow, NoMemory> {
         change: 0x24,
         length: 0,
         room: 0,
-        attributes: 0x10,
+        attributes: FileAttributes::DIRECTORY.bits(),
         file: 9,
         name,
     })
@@ -141,7 +142,7 @@ fn streams_are_written(rt: HostRuntime) -> Result<(), Fail> {
 
 #[test]
 fn fixed_buffers(rt: HostRuntime) -> Result<(), Fail> {
-    let made = pack_basic(rt.alloc(), 1, 2, 5, 3, 0x20)?;
+    let made = pack_basic(rt.alloc(), 1, 2, 5, 3, FileAttributes::ARCHIVE.bits())?;
     let expected = [
         1, 0, 0, 0, 0, 0, 0, 0, 2, 0, 0, 0, 0, 0, 0, 0, 5, 0, 0, 0, 0, 0, 0, 0, 3, 0, 0, 0, 0, 0,
         0, 0, 0x20, 0, 0, 0, 0, 0, 0, 0,
@@ -154,7 +155,8 @@ fn fixed_buffers(rt: HostRuntime) -> Result<(), Fail> {
     assert_eq!(rt; made.bytes(), expected.as_slice());
     let made = pack_internal(rt.alloc(), 0x0102)?;
     assert_eq!(rt; made.bytes(), [2, 1, 0, 0, 0, 0, 0, 0].as_slice());
-    let made = pack_tag(rt.alloc(), 0x420, 0x8000_0005)?;
+    let attributes = FileAttributes::ARCHIVE.bits() | ATTRIBUTE_REPARSE_POINT;
+    let made = pack_tag(rt.alloc(), attributes, 0x8000_0005)?;
     assert_eq!(rt; made.bytes(), [0x20, 4, 0, 0, 5, 0, 0, 0x80].as_slice());
     Ok(())
 }

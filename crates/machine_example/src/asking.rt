@@ -1,10 +1,11 @@
 //! A turn of a client's next call.
 
 ghost use Rattle.std.specs.Prelude.{◌≡◌, ◌<◌, ◌≤◌, ◌+◌, ◌-◌, ◌^◌, ◌==◌, ◌++◌, ◌∷◌, [], cond, IfOk, OnErr, length, nat_le};
+ghost use Rattle.fsa_model.specs.Bounds.{most_entries};
 ghost use Rattle.fsa_model.specs.Outcome.{out_of};
 ghost use Rattle.fsa_model.specs.Schedule.{calls_of};
-ghost use Rattle.fsa_machine.specs.MachineView.{GaveOut, calls_of_entries};
-ghost use Rattle.fsa_machine.specs.Serves.{most_entries};
+ghost use Rattle.fsa_model.specs.History.{GaveOut};
+ghost use Rattle.fsa_machine.specs.MachineView.{calls_of_entries};
 ghost use Rattle.machine_example.specs.Asks.{CanBeMade, is_full, next_call};
 
 use fsa_machine::{MOST_ENTRIES, VolumeMachine};

@@ -14,6 +14,7 @@ use std::alloc::Global;
 pub fn open_shared(alloc: Global) -> Result<What, NoMemory>
     ensures { IfOk result CanBeMade }
 {
+    // `\L`, in UTF-16 units
     let path = Name::copy_of(alloc, &[92, 76])?;
     Ok(What::Ask(Request::Create {
         path,

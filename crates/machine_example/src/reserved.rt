@@ -1,10 +1,10 @@
 //! An answer to a break and its cancellation, in room that was taken before.
 
 ghost use Rattle.std.specs.Prelude.{◌≡◌, ◌<◌, ◌≤◌, ◌+◌, ◌++◌, ◌∷◌, [], true, length, IfOk};
+ghost use Rattle.fsa_model.specs.Bounds.{most_entries};
+ghost use Rattle.fsa_model.specs.History.{GaveOut};
 ghost use Rattle.fsa_model.specs.Outcome.{out_of};
-ghost use Rattle.fsa_machine.specs.Serves.{most_entries};
 ghost use Rattle.fsa_machine.specs.Spare.{is_ack_or_cancel};
-ghost use Rattle.fsa_machine.specs.MachineView.{GaveOut};
 ghost use Rattle.machine_example.specs.Asks.{CanBeMade, next_call};
 
 use crate::asking::{ask, next_number};
@@ -67,6 +67,7 @@ fn open(
 ) -> Result<What, NoMemory>
     ensures { IfOk result CanBeMade }
 {
+    // `\o`, in UTF-16 units
     let path = Name::copy_of(alloc, &[92, 111])?;
     Ok(What::Ask(Request::Create {
         path,

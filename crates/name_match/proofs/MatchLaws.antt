@@ -8,7 +8,7 @@ use Rattle.std.proofs.lemmas.List.{length-map}
 use Rattle.fsa_types.specs.CaseTable.{up, upcased, same_name}
 use Rattle.fsa_types.specs.Match.{Sign, Star, QuestionMark, DosStar, DosQm, DosDot, Literal, sign_of, is_dot, is_last_dot, star_matches, first_matches, matches}
 use Rattle.name_match.specs.Plan.{is_literal, is_literal_sign, has_ending}
-use Rattle.name_match.specs.Serves.{plan_before_literals, plan_of}
+use Rattle.name_match.specs.ExpressionPlan.{plan_before_literals, plan_of}
 use Rattle.name_match.specs.declared.plan.Plan.{Plan}
 use Rattle.name_match.specs.declared.plan.Plan.TheVariants.{Every, Literal as ByLiteral, Suffix, Ends}
 use Rattle.name_match.specs.Ends.{cell, cell_of_empty}

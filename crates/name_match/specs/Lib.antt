@@ -1,3 +1,3 @@
 pub mod Ends
+pub mod ExpressionPlan
 pub mod Plan
-pub mod Serves

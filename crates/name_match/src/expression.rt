@@ -25,7 +25,7 @@ pub struct Expression {
 
 impl Model for Expression {
     ghost use Rattle.std.specs.Prelude.{List, ℕ};
-    ghost use Rattle.name_match.specs.Serves.{IsExpression};
+    ghost use Rattle.name_match.specs.ExpressionPlan.{IsExpression};
 
     ghost Value = { List ℕ };
 

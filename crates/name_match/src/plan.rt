@@ -22,7 +22,7 @@ pub(crate) enum Plan {
 
 impl Plan {
     ghost use Rattle.std.specs.Prelude.{◌∷◌};
-    ghost use Rattle.name_match.specs.Serves.{plan_of};
+    ghost use Rattle.name_match.specs.ExpressionPlan.{plan_of};
 
     // The plan for these units.
     pub(crate) fn of(units: &[u16]) -> Plan

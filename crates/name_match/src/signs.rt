@@ -17,6 +17,16 @@ pub(crate) const DOS_DOT: u16 = 34;
 /// `.`.
 pub(crate) const DOT: u16 = 46;
 
+const SPACE: u16 = 32;
+
+const BACKSLASH: u16 = 92;
+
+const SLASH: u16 = 47;
+
+const COLON: u16 = 58;
+
+const BAR: u16 = 124;
+
 // Whether a unit stands for itself.
 pub(crate) fn is_literal(unit: u16) -> bool
     ensures { result ≡ is_literal unit }
@@ -28,5 +38,5 @@ pub(crate) fn is_literal(unit: u16) -> bool
 pub(crate) fn is_bad(unit: u16) -> bool
     ensures { result ≡ is_bad_expression_unit unit }
 {
-    matches!(unit, 0..0x20 | 92 | 47 | 58 | 124)
+    unit < SPACE || matches!(unit, BACKSLASH | SLASH | COLON | BAR)
 }

@@ -1,6 +1,7 @@
 //! A reparse point is asked for.
 
 ghost use Rattle.std.specs.Prelude.{◌≤◌, length, take};
+ghost use Rattle.fsa_model.specs.Bounds.{most_point_bytes};
 ghost use Rattle.fsa_model.specs.ReparsePoints.{answers_with, get_point, get_reparse_at, get_reparse_of, try_get_reparse};
 ghost use Rattle.op_control.specs.Calls.{IsGetReparse, asked_get_reparse};
 ghost use Rattle.volume_state.specs.Tried.{Leaves};
@@ -31,7 +32,7 @@ fn overflows(alloc: Global, volume: &Volume, buffer: &[u8], room: u32) -> Tried
 // The buffer of a point is given, as far as there is room for it.
 #[tactic(auto, unfolding(fsa_model::specs::ReparsePoints::get_point))]
 fn get_point(alloc: Global, volume: &Volume, point: &(u32, Bytes), room: u32) -> Tried
-    requires few { length point.now.1 ≤ 16376 }
+    requires few { length point.now.1 ≤ most_point_bytes }
     ensures leaves { Leaves (get_point volume.now.content point.now room) volume.now volume.now result }
 {
     if room < HEADER {

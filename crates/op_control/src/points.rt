@@ -1,6 +1,7 @@
 //! What a set and a removal of a reparse point share: the right, and the change with its note.
 
 ghost use Rattle.std.specs.Prelude.{◌≡◌, ◌≤◌, None, OnOk, OnErr, IfSome, length};
+ghost use Rattle.fsa_model.specs.Bounds.{most_point_bytes};
 ghost use Rattle.fsa_model.specs.ReparsePoints.{may_set_point, with_point_noted};
 ghost use Rattle.op_parts.specs.Room.{HasNoteRoom};
 ghost use Rattle.volume_state.specs.Room.{KeepsEnds};
@@ -37,7 +38,7 @@ fn room_to_note(volume: &mut Volume, link: u64) -> Result<(), NoMemory>
 
 // The point of a file is set or removed, and noted. The room is taken.
 fn put_in_room(volume: &mut Volume, link: u64, file: u64, point: Option<(u32, Bytes)>)
-    requires few { IfSome point (λ kept. length kept.1 ≤ 16376) }
+    requires few { IfSome point (λ kept. length kept.1 ≤ most_point_bytes) }
     requires room { HasNoteRoom volume.old.content volume.old.spare link None }
     ensures content { volume.new.content ≡ with_point_noted volume.old.content link file point }
     ensures ends { KeepsEnds volume.old volume.new }
@@ -55,7 +56,7 @@ pub fn put_point(
     file: u64,
     point: Option<(u32, Bytes)>,
 ) -> Result<(), NoMemory>
-    requires few { IfSome point (λ kept. length kept.1 ≤ 16376) }
+    requires few { IfSome point (λ kept. length kept.1 ≤ most_point_bytes) }
     ensures done { OnOk result (volume.new.content ≡ with_point_noted volume.old.content link file point) }
     ensures refused { OnErr result (volume.new.content ≡ volume.old.content) }
     ensures ends { KeepsEnds volume.old volume.new }

@@ -2,6 +2,7 @@
 
 ghost use Rattle.std.specs.Prelude.{◌≡◌, ◌≤◌, IsTrue, OnOk, OnErr, Some, length};
 ghost use Rattle.fsa_types.specs.Request.{what_fits};
+ghost use Rattle.fsa_model.specs.Bounds.{most_point_bytes};
 ghost use Rattle.fsa_model.specs.ReparsePoints.{has_other_tag, is_no_tag, set_buffer, set_point, set_reparse_at, try_set_reparse, with_point_noted};
 ghost use Rattle.op_control.specs.Calls.{IsSetReparse, asked_set_reparse};
 ghost use Rattle.volume_state.specs.Room.{KeepsEnds};
@@ -45,7 +46,7 @@ fn put_copy(
     tag: u32,
     content: &[u8],
 ) -> Result<(), NoMemory>
-    requires few { length content.now ≤ 16376 }
+    requires few { length content.now ≤ most_point_bytes }
     ensures done { OnOk result (volume.new.content ≡ with_point_noted volume.old.content link file (Some (tag, content.now))) }
     ensures refused { OnErr result (volume.new.content ≡ volume.old.content) }
     ensures ends { KeepsEnds volume.old volume.new }
@@ -65,7 +66,7 @@ fn set_point(
     tag: u32,
     content: &[u8],
 ) -> Tried
-    requires few { length content.now ≤ 16376 }
+    requires few { length content.now ≤ most_point_bytes }
     ensures leaves { Leaves (set_point volume.old.content link file tag content.now) volume.old volume.new result }
 {
     if is_no_tag(tag) {

@@ -6,7 +6,8 @@ use Rattle.std.proofs.lemmas.Bool.{cases_Bool}
 use Rattle.std.proofs.lemmas.Bool.Decides.{leb_tells}
 use Rattle.std.proofs.lemmas.List.Sums.{sum_by-cons}
 use Rattle.fsa_types.specs.Rows.{row_of}
-use Rattle.fsa_model.specs.Charge.{clusters, clusters_for}
+use Rattle.fsa_types.specs.Clusters.{clusters_for}
+use Rattle.fsa_model.specs.Charge.{clusters}
 use Rattle.fsa_model.specs.Growth.{clusters_of, clusters_more, most_clusters}
 use Rattle.fsa_model.specs.Volume.{Stream, Volume}
 

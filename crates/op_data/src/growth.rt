@@ -2,26 +2,16 @@
 
 ghost use Rattle.std.specs.Prelude.{◌≡◌, ◌≤◌, ◌+◌, ◌^◌, nat_lt, IfNone, IsTrue};
 ghost use Rattle.fsa_types.specs.Rows.{lives};
-ghost use Rattle.fsa_model.specs.Charge.{clusters_for};
+ghost use Rattle.fsa_types.specs.Clusters.{clusters_for};
 ghost use Rattle.fsa_model.specs.Growth.{growth_fault, owner_of_stream};
 
 use crate::bytes::length_of;
-use fsa_types::Status;
+use fsa_types::{CLUSTER_SIZE, Status, clusters_for};
 use op_parts::owner_of;
 use volume_state::Volume;
 
-// The bytes of a cluster, and the clusters of the volume.
-const CLUSTER: u64 = 4096;
-
+// The clusters of the volume.
 const MOST_CLUSTERS: u64 = 16384;
-
-// How many clusters so many bytes take.
-fn clusters_for(bytes: u64) -> u64
-    requires { bytes ≤ 2 ^ 63 }
-    ensures { result ≡ clusters_for bytes }
-{
-    (bytes + 4095) / CLUSTER
-}
 
 // Whether so much more would pass the limit.
 fn passes(limit: u64, taken: u64, more: u64) -> bool
@@ -56,7 +46,11 @@ pub fn growth_fault(volume: &Volume, stream: u64, bytes: u64) -> Option<Status>
     }
     let more = wanted - had;
     let owner = owner_of_stream(volume, stream);
-    if passes(volume.limit(owner), volume.charge(owner), CLUSTER * more) {
+    if passes(
+        volume.limit(owner),
+        volume.charge(owner),
+        CLUSTER_SIZE * more,
+    ) {
         return Some(Status::QuotaExceeded);
     }
     if passes(MOST_CLUSTERS, volume.clusters(), more) {

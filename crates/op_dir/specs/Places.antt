@@ -1,19 +1,12 @@
 -- Entries of a directory by where they stand: `.`, `..` and links by their numbers.
-use Rattle.std.specs.Prelude.{ℕ, Bool, ◌&&◌, not, List, [], ◌∷◌}
+use Rattle.std.specs.Prelude.{ℕ, Bool, ◌&&◌, not, List}
 use Rattle.std.specs.Option.{option_map_or}
 use Rattle.fsa_types.specs.Match.{matches}
 use Rattle.fsa_types.specs.Rows.{row_of}
-use Rattle.fsa_model.specs.QueryDir.{DirectoryEntry, is_still_to_come, link_entry, parent_directory}
-use Rattle.fsa_model.specs.Volume.{Cursor, Dot, DotDot, Link, Volume}
+use Rattle.fsa_model.specs.QueryDir.{DirectoryEntry, dot_dot_entry, dot_entry, is_still_to_come, link_entry}
+use Rattle.fsa_model.specs.Volume.{Cursor, Link, Volume}
 use Rattle.op_dir.specs.declared.places.Place.{Place}
 use Rattle.op_dir.specs.declared.places.Place.TheVariants as place
-
--- `.` and `..` of a directory
-abbrev pub dot_entry : ℕ → DirectoryEntry
-dot_entry dir = record { place = Dot; name = 0x2E ∷ []; file = dir }
-
-abbrev pub dot_dot_entry : Volume → ℕ → DirectoryEntry
-dot_dot_entry v dir = record { place = DotDot; name = 0x2E ∷ 0x2E ∷ []; file = parent_directory v dir }
 
 -- the entry at a place; for a number that no link has, `.`
 abbrev pub place_entry : Volume → ℕ → Place → DirectoryEntry

@@ -1,23 +1,11 @@
-//! The layouts of entries.
+//! The sizes of entries.
 
 ghost use Rattle.std.specs.Prelude.{◌≡◌, ◌≤◌, ◌-◌, ◌<◌, ◌^◌, length};
 ghost use Rattle.fsa_types.specs.PackedRows.{pack_kind};
 ghost use Rattle.fsa_types.specs.Packing.{head_size};
 ghost use Rattle.op_dir.specs.Filling.{padded};
 
-use fsa_types::{DirKind, PackKind};
-
-/// The layout of the entries of a query of this kind.
-pub(crate) fn pack_kind(kind: DirKind) -> PackKind
-    ensures { result ≡ pack_kind kind }
-{
-    match kind {
-        DirKind::Names => PackKind::Names,
-        DirKind::Dir => PackKind::Dir,
-        DirKind::Full => PackKind::Full,
-        DirKind::IdFull => PackKind::IdFull,
-    }
-}
+use fsa_types::DirKind;
 
 /// The bytes of an entry before its name.
 pub(crate) fn head_size(kind: DirKind) -> u32

@@ -4,10 +4,10 @@ ghost use Rattle.std.specs.Prelude.{◌≡◌, ◌-◌, ◌++◌, ◌∷◌, ◌
 ghost use Rattle.fsa_types.specs.PackedRows.{pack_kind};
 ghost use Rattle.fsa_types.specs.Match.{matches};
 ghost use Rattle.fsa_types.specs.Packing.{packed};
-ghost use Rattle.fsa_model.specs.QueryDir.{dots, entry_rows, is_still_to_come, left_to_list, link_entry, listed_links, parent_directory};
+ghost use Rattle.fsa_model.specs.QueryDir.{dot_dot_entry, dot_entry, dots, entry_rows, is_still_to_come, left_to_list, link_entry, listed_links, parent_directory};
 ghost use Rattle.fsa_model.specs.Volume.{After};
 ghost use Rattle.op_dir.specs.Filling.{Fills, padded_size};
-ghost use Rattle.op_dir.specs.Places.{dot_dot_entry, dot_entry, place_entry, is_listed, is_wanted};
+ghost use Rattle.op_dir.specs.Places.{place_entry, is_listed, is_wanted};
 ghost use Rattle.volume_rows.specs.Cursors.{cursor_of};
 ghost use Rattle.volume_state.specs.Children.{links_under};
 

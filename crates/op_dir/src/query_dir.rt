@@ -12,12 +12,13 @@ ghost use Rattle.volume_state.specs.Room.{KeepsEnds};
 ghost use Rattle.volume_state.specs.Tried.{Gives, HasHoldRoom, Leaves};
 
 use crate::begun::{Begun, begun_enumeration, is_refused};
-use crate::kinds::{head_size, pack_kind};
+use crate::kinds::head_size;
 use crate::listing::{Listing, list};
 use bitflags::Flags;
 use fsa_types::{AccessMask, Body, Call, DirKind, Name, NoMemory, Request, Status, What};
 use name_match::Expression;
 use op_parts::{file_of_link, has_right};
+use pack_info::pack_kind;
 use std::alloc::Global;
 use volume_state::{Cursor, Tried, Volume};
 

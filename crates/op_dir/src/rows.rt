@@ -4,7 +4,7 @@ ghost use Rattle.std.specs.Prelude.{◌≡◌, IfOk, map};
 ghost use Rattle.fsa_types.specs.PackedRows.{pack_kind};
 ghost use Rattle.fsa_types.specs.Packing.{packed};
 ghost use Rattle.fsa_model.specs.QueryDir.{entry_row, entry_rows};
-ghost use Rattle.fsa_model.specs.Shown.{listed_numbers};
+ghost use Rattle.fsa_model.specs.ShownNumbers.{listed_numbers};
 ghost use Rattle.op_dir.specs.Places.{place_entry};
 ghost use Rattle.volume_rows.specs.Cursors.{cursor_of};
 

@@ -4,7 +4,7 @@ use Rattle.std.specs.Prelude.{map, IfSome}
 use Rattle.fsa_types.specs.PackedRows.{PackRow, stream_row}
 use Rattle.fsa_types.specs.Rows.{lives, row_of}
 use Rattle.fsa_model.specs.QueryInfo.{streams_of}
-use Rattle.fsa_model.specs.Shown.{space_shown}
+use Rattle.fsa_model.specs.ShownNumbers.{space_shown}
 use Rattle.fsa_model.specs.Volume.{Stream, Volume}
 use Rattle.fsa_model.proofs.RowLaws.{lives-found, option_cases}
 use Rattle.volume_state.specs.InOrder.{streams_after}

@@ -2,7 +2,7 @@
 use Rattle.std.specs.Prelude.{◌≡◌, ℕ, List, ◌++◌, Some, length, map}
 use Rattle.fsa_types.specs.PackedRows.{PackRow, stream_row}
 use Rattle.fsa_model.specs.QueryInfo.{stream_rows}
-use Rattle.fsa_model.specs.Shown.{space_shown}
+use Rattle.fsa_model.specs.ShownNumbers.{space_shown}
 use Rattle.fsa_model.specs.Volume.{Stream, Volume}
 use Rattle.volume_state.specs.InOrder.{streams_after}
 

@@ -4,7 +4,7 @@ ghost use Rattle.std.specs.Prelude.{◌≡◌, [], IfOk, IfSome, IsTrue, Some, l
 ghost use Rattle.fsa_types.specs.PackedRows.{stream_row};
 ghost use Rattle.fsa_types.specs.Rows.{lives, row_of};
 ghost use Rattle.fsa_model.specs.QueryInfo.{query_streams, query_streams_by, stream_rows, streams_reply};
-ghost use Rattle.fsa_model.specs.Shown.{space_shown};
+ghost use Rattle.fsa_model.specs.ShownNumbers.{space_shown};
 ghost use Rattle.op_info.specs.Streams.{IsWalked};
 ghost use Rattle.volume_state.specs.Tried.{Leaves};
 

@@ -3,7 +3,7 @@
 ghost use Rattle.std.specs.Prelude.{◌≡◌, ◌≤◌, Some};
 ghost use Rattle.fsa_model.specs.Grant.{oplock_at, oplock_on, try_oplock};
 ghost use Rattle.op_oplock.specs.Calls.{IsOplock, asked_oplock};
-ghost use Rattle.volume_state.specs.Oplocks.{key_of_handle};
+ghost use Rattle.volume_state.specs.OplockOutcome.{key_of_handle};
 ghost use Rattle.volume_state.specs.Room.{stream_of_handle};
 ghost use Rattle.volume_state.specs.Tried.{Leaves};
 

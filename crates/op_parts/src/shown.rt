@@ -1,11 +1,11 @@
 //! What is shown of a file and of a stream.
 
 ghost use Rattle.std.specs.Prelude.{◌≡◌, ◌≤◌, ◌^◌, is_some, if◌then◌else◌};
-ghost use Rattle.fsa_types.specs.Masks.{DIRECTORY, REPARSE_POINT};
-ghost use Rattle.fsa_model.specs.Shown.{all_attributes, change_time, length_shown, shown_attributes, space_shown};
+ghost use Rattle.fsa_types.specs.Masks.{DIRECTORY, FILE_ATTRIBUTE_REPARSE_POINT};
+ghost use Rattle.fsa_model.specs.ShownNumbers.{all_attributes, change_time, length_shown, shown_attributes, space_shown};
 
 use bitflags::Flags;
-use fsa_types::{ATTRIBUTE_REPARSE_POINT, FileAttributes};
+use fsa_types::{CLUSTER_SIZE, FILE_ATTRIBUTE_REPARSE_POINT, FileAttributes, clusters_for};
 use volume_state::{FileRow, Volume};
 
 // DIRECTORY for a directory.
@@ -19,21 +19,25 @@ fn directory_bit(directory: bool) -> u32
     }
 }
 
-// REPARSE_POINT where there is a reparse point.
+// FILE_ATTRIBUTE_REPARSE_POINT where there is a reparse point.
 fn point_bit(point: bool) -> u32
-    ensures { result ≡ (if point then REPARSE_POINT else 0) }
+    ensures { result ≡ (if point then FILE_ATTRIBUTE_REPARSE_POINT else 0) }
 {
-    if point { ATTRIBUTE_REPARSE_POINT } else { 0 }
+    if point {
+        FILE_ATTRIBUTE_REPARSE_POINT
+    } else {
+        0
+    }
 }
 
-// The attributes that are kept, with DIRECTORY and REPARSE_POINT where they are due.
+// The attributes that are kept, with DIRECTORY and FILE_ATTRIBUTE_REPARSE_POINT where they are due.
 fn all_attributes(file: &FileRow) -> u32
     ensures { result ≡ all_attributes file.now }
 {
     file.attributes | directory_bit(file.directory) | point_bit(file.point.is_some())
 }
 
-/// The attributes of a file, with DIRECTORY for a directory and REPARSE_POINT where there is a reparse point;
+/// The attributes of a file, with DIRECTORY for a directory and FILE_ATTRIBUTE_REPARSE_POINT where there is a reparse point;
 /// NORMAL where none is left, or where there is no such file.
 pub fn shown_attributes(volume: &Volume, file: u64) -> u32
     ensures { result ≡ shown_attributes volume.now.content file }
@@ -73,9 +77,9 @@ pub fn length_shown(volume: &Volume, stream: Option<u64>) -> u64
     }
 }
 
-/// The bytes of the clusters of 4,096 bytes that a stream takes; 0 where there is none.
+/// The bytes of the clusters that a stream takes; 0 where there is none.
 pub fn space_shown(volume: &Volume, stream: Option<u64>) -> u64
     ensures { result ≡ space_shown volume.now.content stream }
 {
-    4096 * ((length_shown(volume, stream) + 4095) / 4096)
+    CLUSTER_SIZE * clusters_for(length_shown(volume, stream))
 }

@@ -96,8 +96,8 @@ pub fn pack_streams(
     Ok((made, count))
 }
 
-// The layout of a directory's entries.
-pub(crate) fn pack_kind(kind: DirKind) -> PackKind
+/// The layout of the entries of a query of a directory of this kind.
+pub fn pack_kind(kind: DirKind) -> PackKind
     ensures { result ≡ pack_kind kind }
 {
     match kind {

@@ -46,12 +46,12 @@ impl From<NoMemory> for ReadFault {
     }
 }
 
-// Why a line is not read.
+/// Why a line is not read.
 #[derive(Clone, Copy, Debug, PartialEq, Eq)]
 pub enum LineFault {
-    // There is no memory for what it says.
+    /// There is no memory for what it says.
     NoMemory,
-    // What is wrong with it.
+    /// What is wrong with it.
     Bad(ScriptKind),
 }
 

@@ -3,7 +3,7 @@
 ghost use Rattle.std.specs.Prelude.{◌≡◌, ◌≤◌, ◌<◌, ◌+◌, ◌*◌, ◌&&◌, nat_lt, nat_le, IfSome, if◌then◌else◌};
 ghost use Rattle.fsa_model.specs.Numbers.{digit_of, number_after, written_number};
 
-// The digit that a byte stands for, 16 where it is none.
+/// The digit that a byte stands for, 16 where it is none.
 pub fn digit_of(byte: u8) -> u8
     ensures digit { result ≡ digit_of byte }
     ensures small { result ≤ 16 }

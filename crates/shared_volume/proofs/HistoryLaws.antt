@@ -8,16 +8,16 @@ use Rattle.std.proofs.lemmas.List.{map-append}
 use Rattle.fsa_types.specs.declared.reply.Out.{Out}
 use Rattle.fsa_types.specs.declared.reply.Why.{Why}
 use Rattle.fsa_types.specs.declared.request.Call.{Call}
+use Rattle.fsa_model.specs.Bounds.{most_entries}
 use Rattle.fsa_model.specs.Engine.{CallsDiffer, is_entry_of}
-use Rattle.fsa_model.specs.History.{HistoryEntry, Run}
+use Rattle.fsa_model.specs.History.{GaveOut, HistoryEntry, Run}
 use Rattle.fsa_model.specs.Once.{how_many}
 use Rattle.fsa_model.specs.Outcome.{TurnOut, out_of}
 use Rattle.fsa_model.specs.Schedule.{calls_of}
 use Rattle.fsa_model.specs.Setup.{Setup}
 use Rattle.fsa_model.proofs.CountLaws.{how_many-append, how_many-none}
 use Rattle.fsa_model.proofs.ScheduleLaws.{calls_of-push}
-use Rattle.fsa_machine.specs.Serves.{most_entries}
-use Rattle.fsa_machine.specs.MachineView.{CallsNumbered, GaveOut, MachineView, calls_of_entries, is_full}
+use Rattle.fsa_machine.specs.MachineView.{CallsNumbered, MachineView, calls_of_entries, is_full}
 use Rattle.history_lock.specs.History.{calls_by}
 use Rattle.shared_volume.specs.Histories.{IsMachineHistory}
 

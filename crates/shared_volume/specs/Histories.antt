@@ -6,12 +6,12 @@ use Rattle.fsa_types.specs.declared.reply.Why.{Why}
 use Rattle.fsa_types.specs.declared.reply.Why.TheVariants.{NoMemory, HistoryFull}
 use Rattle.fsa_types.specs.declared.request.Call.{Call}
 use Rattle.fsa_types.specs.declared.request.CallId.{CallId}
+use Rattle.fsa_model.specs.Bounds.{most_entries}
 use Rattle.fsa_model.specs.Engine.{is_entry_of}
 use Rattle.fsa_model.specs.History.{HistoryEntry, Run, run}
 use Rattle.fsa_model.specs.LineCalls.{IsLineCall}
 use Rattle.fsa_model.specs.Setup.{Setup}
 use Rattle.fsa_model.specs.Waiting.{is_pending}
-use Rattle.fsa_machine.specs.Serves.{most_entries}
 use Rattle.fsa_machine.specs.MachineView.{CallsNumbered}
 use Rattle.fsa_model.specs.Ended.{ended_with_list, reply_in}
 

@@ -12,11 +12,9 @@ use Rattle.fsa_types.specs.declared.request.What.TheVariants.{WaitFor}
 use Rattle.fsa_types.specs.declared.status.Status.{Status}
 use Rattle.fsa_model.specs.Frame.{is_leave}
 use Rattle.fsa_model.specs.History.{HistoryEntry}
-use Rattle.fsa_model.specs.Outcome.{TurnOut}
 use Rattle.fsa_model.specs.Setup.{Setup}
-use Rattle.history_laws.specs.CallAnswers.{HasEnded}
+use Rattle.history_laws.specs.CallAnswers.{HasEnded, LastTurnAnswered}
 use Rattle.history_laws.specs.WaitEnds.{wait_may_end}
-use Rattle.fsa_machine.specs.MachineView.{GaveOut}
 use Rattle.history_lock.specs.declared.machine.Machine.{Ghosts}
 use Rattle.history_lock.specs.declared.pass.Pass.{Pass}
 use Rattle.history_lock.specs.declared.view.View.{View}
@@ -45,12 +43,6 @@ entry_call entry = entry.call
 
 abbrev pub call_client : Call → ℕ
 call_client call = call.client
-
--- the turn that the last entry stands for answered its own call so
-pub record LastTurnAnswered (setup : Setup) (seen : List HistoryEntry) (answer : Answer) : Type 0 where
-  pub out : TurnOut
-  pub gave : GaveOut setup seen out
-  pub is : out.answer ≡ answer
 
 -- the client made its next call, which has this number and was answered so
 pub record Submits (setup : Setup) (what : What) (number : ℕ) (answer : Answer) (v w : Known) : Type 0 where

@@ -19,7 +19,7 @@ pub struct Engine {
 impl Machine for Engine {
     ghost use Rattle.shared_volume.specs.Histories.{AllowsAsk, AllowsCall, MayRefuse, TakesMemory, Shows};
     ghost use Rattle.shared_volume.specs.Later.{asked_later};
-    ghost use Rattle.fsa_machine.specs.MachineView.{GaveOut};
+    ghost use Rattle.fsa_model.specs.History.{GaveOut};
     ghost use Rattle.fsa_model.specs.Outcome.{out_of};
 
     type Base = SetupView;

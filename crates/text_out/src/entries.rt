@@ -18,7 +18,7 @@ use fsa_types::{
     FILE_ACTION_RENAMED_NEW_NAME, FILE_ACTION_RENAMED_OLD_NAME, NoMemory, PackKind,
 };
 use itoa::Buffer;
-use pack_info::{DirEntries, NotifyEntries, PackedEntry, StreamEntries};
+use pack_info::{DirEntries, NotifyEntries, PackedEntry, StreamEntries, pack_kind};
 
 // The word of a change's action, and the number of one that isn't known.
 fn push_action(draft: &mut Draft, action: u32) -> Result<(), NoMemory>
@@ -165,18 +165,6 @@ fn next_listed<'a>(walk: &mut DirEntries<'a>) -> Option<PackedEntry<'a>>
     match walk.next() {
         Ok(next) => next,
         Err(_) => None,
-    }
-}
-
-// The layout of a directory's entries.
-fn pack_kind(kind: DirKind) -> PackKind
-    ensures { result ≡ pack_kind kind }
-{
-    match kind {
-        DirKind::Names => PackKind::Names,
-        DirKind::Dir => PackKind::Dir,
-        DirKind::Full => PackKind::Full,
-        DirKind::IdFull => PackKind::IdFull,
     }
 }
 

@@ -4,13 +4,13 @@ use Rattle.fsa_types.specs.Rows.{with_row_changed}
 use Rattle.fsa_model.specs.Volume.{Stream}
 
 -- places up to `to`, in bytes, can be written without taking memory from `from` on
-pub record Reserved : Type 0 where
+pub record StreamRoom : Type 0 where
   pub from : ℕ
   pub to : ℕ
 
 pub record StreamRowView : Type 0 where
   pub stream : Stream
-  pub room : Reserved
+  pub room : StreamRoom
 
 -- the streams themselves, without their room
 abbrev pub streams_in : List (ℕ × StreamRowView) → List (ℕ × Stream)

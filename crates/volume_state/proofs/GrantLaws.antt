@@ -34,7 +34,7 @@ use Rattle.volume_breaks.proofs.ToldLemmas.{switches-apart}
 use Rattle.volume_breaks.specs.Breaks.{with_calls, with_switch_told}
 use Rattle.volume_breaks.specs.Calls.{AreHeld, Calls, LoseBlockers, is_break_of}
 use Rattle.volume_state.specs.Held.{is_there}
-use Rattle.volume_state.specs.Oplocks.{key_of_handle}
+use Rattle.volume_state.specs.OplockOutcome.{key_of_handle}
 use Rattle.volume_state.specs.Room.{stream_of_handle}
 use Rattle.volume_state.proofs.ThereLaws.{gone-with, one-break}
 

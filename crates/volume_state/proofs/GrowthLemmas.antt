@@ -7,7 +7,7 @@ use Rattle.std.proofs.lemmas.List.Folds.{fold-map}
 use Rattle.std.proofs.lemmas.List.Sums.{sum_by-le}
 use Rattle.fsa_types.specs.Rows.{IsNumbered}
 use Rattle.fsa_types.proofs.RowLemmas.{length-numbered, map-filter_seen}
-use Rattle.fsa_model.specs.Charge.{clusters_for}
+use Rattle.fsa_types.specs.Clusters.{clusters_for}
 use Rattle.fsa_model.specs.Volume.{Stream}
 use Rattle.volume_rows.specs.Streams.{StreamRowView, streams_in}
 

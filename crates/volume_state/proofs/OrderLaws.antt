@@ -16,7 +16,7 @@ use Rattle.fsa_types.specs.Sorting.{in_order, put_in_order}
 use Rattle.fsa_types.proofs.OplockLemmas.{All-in_order}
 use Rattle.fsa_model.specs.Lookups.{is_stream_named}
 use Rattle.fsa_model.specs.QueryInfo.{is_stream_before, streams_of}
-use Rattle.fsa_model.specs.Shown.{default_stream}
+use Rattle.fsa_model.specs.ShownNumbers.{default_stream}
 use Rattle.fsa_model.specs.Sound.{IsSound}
 use Rattle.fsa_model.specs.Volume.{Stream, Volume}
 use Rattle.fsa_model.proofs.RowLaws.{find-all, row_of-here}

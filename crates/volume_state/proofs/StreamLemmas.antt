@@ -11,20 +11,20 @@ use Rattle.fsa_types.specs.Rows.{row_of, lives}
 use Rattle.fsa_types.specs.StreamBytes.{put, cut}
 use Rattle.fsa_types.proofs.RowLemmas.{AreRising, AreRising-rest, AreRising-first, row_of-map}
 use Rattle.fsa_model.proofs.RowLaws.{option_cases}
-use Rattle.volume_rows.specs.Streams.{StreamRowView, Reserved}
+use Rattle.volume_rows.specs.Streams.{StreamRowView, StreamRoom}
 
 -- the rooms alone
-abbrev pub rooms_in : List (ℕ × StreamRowView) → List (ℕ × Reserved)
+abbrev pub rooms_in : List (ℕ × StreamRowView) → List (ℕ × StreamRoom)
 rooms_in rows = map (λ entry. (entry.0, entry.1.room)) rows
 
 -- what is said of the room of a stream is said of its row, and the other way round
-pub room-down : (P : Reserved → Type 0) (rows : List (ℕ × StreamRowView)) (id : ℕ) → ForSome (row_of (rooms_in rows) id) P → IfSome (row_of rows id) (λ row. P row.room)
+pub room-down : (P : StreamRoom → Type 0) (rows : List (ℕ × StreamRowView)) (id : ℕ) → ForSome (row_of (rooms_in rows) id) P → IfSome (row_of rows id) (λ row. P row.room)
 room-down P rows id room = elim (option_cases (row_of rows id)) [
   | inl none ↦ rw none tt
   | inr some ↦ rw some.1 (room some.0.room (row_of-map (λ kept. kept.room) rows id ∙ ap (option_map (λ (kept : StreamRowView). kept.room)) some.1))
 ]
 
-pub room-up : (P : Reserved → Type 0) (rows : List (ℕ × StreamRowView)) (id : ℕ) → IfSome (row_of rows id) (λ row. P row.room) → ForSome (row_of (rooms_in rows) id) P
+pub room-up : (P : StreamRoom → Type 0) (rows : List (ℕ × StreamRowView)) (id : ℕ) → IfSome (row_of rows id) (λ row. P row.room) → ForSome (row_of (rooms_in rows) id) P
 room-up P rows id room x is = elim (option_cases (row_of rows id)) [
   | inl none ↦ (let impossible : None ≡ Some x = sym (row_of-map (λ kept. kept.room) rows id ∙ ap (option_map (λ (kept : StreamRowView). kept.room)) none) ∙ is in cc)
   | inr some ↦ (let same : Some some.0.room ≡ Some x = sym (row_of-map (λ kept. kept.room) rows id ∙ ap (option_map (λ (kept : StreamRowView). kept.room)) some.1) ∙ is in

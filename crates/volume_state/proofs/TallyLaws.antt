@@ -9,7 +9,7 @@ use Rattle.std.proofs.lemmas.List.Filters.{sum_by-filter_both}
 use Rattle.std.proofs.lemmas.List.Sums.{sum_by-le, sum_by_push}
 use Rattle.fsa_types.specs.Rows.{IsNumbered, lives, row_of, with_row_changed, without_row}
 use Rattle.fsa_types.proofs.RowLemmas.{AreRising, length-numbered, with_row_changed-none}
-use Rattle.fsa_model.specs.Charge.{clusters_for}
+use Rattle.fsa_types.specs.Clusters.{cluster_size, clusters_for}
 use Rattle.fsa_model.specs.Volume.{File, Stream}
 use Rattle.fsa_model.proofs.RowLaws.{change_at, change_at-same, found-all, lives-found, option_cases, without_row-none}
 use Rattle.tallies.specs.Charges.{sum_of}
@@ -29,19 +29,19 @@ abbrev is_owned : List (ℕ × File) → ℕ → ℕ → Bool
 is_owned files owner file = option_map_or (λ row. row.owner == owner) (row_of files file) false
 
 abbrev weight : List (ℕ × File) → ℕ → ℕ × Stream → ℕ
-weight files owner entry = if is_owned files owner entry.1.file then 4096 * taken entry else 0
+weight files owner entry = if is_owned files owner entry.1.file then cluster_size * taken entry else 0
 
 charged-weight : (files : List (ℕ × File)) (streams : List (ℕ × Stream)) (owner : ℕ) → charged files streams owner ≡ sum_by (weight files owner) streams
-charged-weight files streams owner = sum-filtered (λ entry. is_owned files owner entry.1.file) (λ entry. 4096 * taken entry) streams
+charged-weight files streams owner = sum-filtered (λ entry. is_owned files owner entry.1.file) (λ entry. cluster_size * taken entry) streams
 
 -- where the owner of its file is known
 weight-share : (files : List (ℕ × File)) (owner : ℕ) (entry : ℕ × Stream) (file : File) → row_of files entry.1.file ≡ Some file → weight files owner entry ≡ share file.owner owner (taken entry)
 weight-share files owner entry file found = rw found refl
 
-share-own : (owner clusters : ℕ) → share owner owner clusters ≡ 4096 * clusters
+share-own : (owner clusters : ℕ) → share owner owner clusters ≡ cluster_size * clusters
 share-own owner clusters = rw (eq-eqb owner owner refl) refl
 
-weight-le : (files : List (ℕ × File)) (owner : ℕ) (entry : ℕ × Stream) → weight files owner entry ≤ 4096 * taken entry
+weight-le : (files : List (ℕ × File)) (owner : ℕ) (entry : ℕ × Stream) → weight files owner entry ≤ cluster_size * taken entry
 weight-le files owner entry = elim (cases_Bool (is_owned files owner entry.1.file)) [
   | inl owned ↦ rw owned (omega arith)
   | inr other ↦ rw other (omega arith)
@@ -49,7 +49,7 @@ weight-le files owner entry = elim (cases_Bool (is_owned files owner entry.1.fil
 
 -- whose files a stream is of says it all
 weight-same : (old new : List (ℕ × File)) (owner : ℕ) (entry : ℕ × Stream) → is_owned new owner entry.1.file ≡ is_owned old owner entry.1.file → weight new owner entry ≡ weight old owner entry
-weight-same old new owner entry same = ap (λ (b : Bool). if b then 4096 * taken entry else 0) same
+weight-same old new owner entry same = ap (λ (b : Bool). if b then cluster_size * taken entry else 0) same
 
 charged-same : (old new : List (ℕ × File)) (streams : List (ℕ × Stream)) (owner : ℕ) → All (λ entry. is_owned new owner entry.1.file ≡ is_owned old owner entry.1.file) streams
     → charged new streams owner ≡ charged old streams owner
@@ -85,7 +85,7 @@ module _ (files : List (ℕ × File)) (streams : List (ℕ × Stream)) (id : ℕ
 
   sum-shares : (owner other : ℕ) (some : List (ℕ × Stream)) → sum_by (λ entry. share owner other (taken entry)) some ≡ share owner other (clusters_of_all some)
   sum-shares owner other some = elim (cases_Bool (owner == other)) [
-    | inl same ↦ rw same (sum-scaled 4096 taken some)
+    | inl same ↦ rw same (sum-scaled cluster_size taken some)
     | inr differ ↦ rw differ (sum-zero some)
   ]
 
@@ -164,7 +164,7 @@ module _ (files : List (ℕ × File)) (streams : List (ℕ × Stream)) (last : �
         let there = file-there files streams id row live some.1 in
         let file = there.0 in
         let owner = file.owner in
-        let part : weight files owner (id, row) ≡ 4096 * taken (id, row) = weight-share files owner (id, row) file there.1 ∙ share-own owner (taken (id, row)) in
+        let part : weight files owner (id, row) ≡ cluster_size * taken (id, row) = weight-share files owner (id, row) file there.1 ∙ share-own owner (taken (id, row)) in
         let whole = sum-without (weight files owner) streams id row numbered.rising some.1 in
         let all = sum-without taken streams id row numbered.rising some.1 in
         let is = charged-weight files streams owner in
@@ -205,7 +205,7 @@ module _ (files : List (ℕ × File)) (streams : List (ℕ × Stream)) (last : �
   ]
 
   -- its charge can pass to another owner
-  pub may-pass : (id to : ℕ) → IfSome (part_of_file files streams id) (λ p. sum_of space.sums to + 4096 * p.1 < 2 ^ 64)
+  pub may-pass : (id to : ℕ) → IfSome (part_of_file files streams id) (λ p. sum_of space.sums to + cluster_size * p.1 < 2 ^ 64)
   may-pass id to = elim (option_cases (row_of files id)) [
     | inl none ↦ rw none tt
     | inr some ↦ (let clusters = clusters_of_file streams id in
@@ -213,7 +213,7 @@ module _ (files : List (ℕ × File)) (streams : List (ℕ × Stream)) (last : �
         let sum = tallied.charges to in
         let most = charged-few files streams last numbered few small to in
         let most_clusters = clusters-few files streams last numbered few small in
-        let fits : sum_of space.sums to + 4096 * clusters < 2 ^ 64 = omega arith in
+        let fits : sum_of space.sums to + cluster_size * clusters < 2 ^ 64 = omega arith in
         rw some.1 fits)
   ]
 
@@ -309,7 +309,7 @@ tallied-unseen files streams space id change rising keeps stays tallied = elim (
         charges = λ owner. (
             let sum = tallied.charges owner in
             let whole = sum-changed (weight files owner) change streams id row rising some.1 in
-            let part : weight files owner (id, change row) ≡ weight files owner (id, row) = λ i. if is_owned files owner (keeps row i) then 4096 * same i else 0 in
+            let part : weight files owner (id, change row) ≡ weight files owner (id, row) = λ i. if is_owned files owner (keeps row i) then cluster_size * same i else 0 in
             let is = charged-weight files streams owner in
             let will = charged-weight files (with_row_changed change streams id) owner in
             omega arith);

@@ -2,7 +2,7 @@
 use Rattle.std.specs.Prelude.{◌≡◌, ℕ, List, ◌*◌, ◌==◌, false, length, filter, sum_by, All, Option, option_map, option_and_then, IsSome}
 use Rattle.std.specs.Option.{option_map_or}
 use Rattle.fsa_types.specs.Rows.{row_of}
-use Rattle.fsa_model.specs.Charge.{clusters_for}
+use Rattle.fsa_types.specs.Clusters.{cluster_size, clusters_for}
 use Rattle.fsa_model.specs.Volume.{File, Stream}
 use Rattle.tallies.specs.Charges.{sum_of}
 use Rattle.volume_tables.specs.Space.{Space}
@@ -10,7 +10,7 @@ use Rattle.volume_tables.specs.Space.{Space}
 -- the bytes of the clusters of all streams of the owner's files
 abbrev pub charged : List (ℕ × File) → List (ℕ × Stream) → ℕ → ℕ
 charged files streams owner =
-    sum_by (λ entry. 4096 * clusters_for (length entry.1.bytes)) (filter (λ entry. option_map_or (λ row. row.owner == owner) (row_of files entry.1.file) false) streams)
+    sum_by (λ entry. cluster_size * clusters_for (length entry.1.bytes)) (filter (λ entry. option_map_or (λ row. row.owner == owner) (row_of files entry.1.file) false) streams)
 
 -- the clusters of all streams, and of those of one file
 abbrev pub clusters_of_all : List (ℕ × Stream) → ℕ

@@ -3,7 +3,7 @@ use Rattle.std.specs.Prelude.{ℕ, List, ◌≤◌, ◌+◌}
 use Rattle.std.specs.Option.{option_map_or, ForSome}
 use Rattle.fsa_types.specs.Rows.{row_of}
 use Rattle.fsa_model.specs.Volume.{Volume}
-use Rattle.volume_rows.specs.Streams.{Reserved}
+use Rattle.volume_rows.specs.Streams.{StreamRoom}
 
 -- the number of all changes that stand before the first one that is kept, and the breaks that the
 -- last `begin` waits for
@@ -38,7 +38,7 @@ pub record Spare : Type 0 where
   pub ends : ℕ
   pub units : ℕ
   pub dirs : ℕ
-  pub bytes : List (ℕ × Reserved)
+  pub bytes : List (ℕ × StreamRoom)
 
 -- bytes can be written from `at` on, so many, without taking memory
 abbrev pub CanWrite : Spare → ℕ → ℕ → ℕ → Type 0

@@ -3,6 +3,7 @@
 ghost use Rattle.std.specs.Prelude.{◌≡◌, ◌≤◌, ◌+◌, ◌++◌, ◌∷◌, [], ◌==◌, not, length, filter, IfSome, option_and_then};
 ghost use Rattle.std.specs.Option.{option_copied};
 ghost use Rattle.fsa_types.specs.Rows.{row_of, with_row_changed};
+ghost use Rattle.fsa_model.specs.Bounds.{most_point_bytes};
 ghost use Rattle.fsa_model.specs.Edits.{with_limit, with_point};
 ghost use Rattle.fsa_model.specs.Walk.{point_of};
 
@@ -15,14 +16,14 @@ impl Volume {
     /// The reparse point of a file, its tag and its bytes; `None` exactly where there is none.
     pub fn point(&self, file: u64) -> Option<&(u32, Bytes)>
         ensures point { option_copied result ≡ point_of self.now.content file }
-        ensures few { IfSome result (λ point. length point.now.1 ≤ 16376) }
+        ensures few { IfSome result (λ point. length point.now.1 ≤ most_point_bytes) }
     {
         point_of(&self.files, file)
     }
 
     /// Sets the reparse point of a file, its tag and at most 16,376 bytes; `None` takes it away.
     pub fn set_reparse(&mut self, file: u64, point: Option<(u32, Bytes)>)
-        requires few { IfSome point (λ kept. length kept.1 ≤ 16376) }
+        requires few { IfSome point (λ kept. length kept.1 ≤ most_point_bytes) }
         ensures content { self.new.content ≡ with_point self.old.content file point }
         ensures beside { self.new.beside ≡ self.old.beside }
         ensures room { self.new.spare ≡ self.old.spare }

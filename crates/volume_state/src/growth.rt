@@ -2,21 +2,22 @@
 
 ghost use Rattle.std.specs.Prelude.{ℕ, ◌≡◌, ◌<◌, ◌+◌, ◌*◌, ◌^◌, length, sum_by, option_map, IfOk, IfSome, IfNone, IsSome};
 ghost use Rattle.fsa_types.specs.Rows.{row_of};
-ghost use Rattle.fsa_model.specs.Charge.{charge, charge_of_file, clusters, clusters_for, limit};
+ghost use Rattle.fsa_types.specs.Clusters.{clusters_for};
+ghost use Rattle.fsa_model.specs.Charge.{charge, charge_of_file, clusters, limit};
 ghost use Rattle.tallies.specs.Charges.{sum_of};
 ghost use Rattle.volume_rows.specs.Streams.{streams_in};
 ghost use Rattle.volume_state.specs.Tallied.{part_of_stream, part_of_file, clusters_at};
 ghost use Rattle.volume_tables.specs.Space.{HandsOver, MayResize, Resizes};
 
 use crate::volume::Volume;
-use fsa_types::NoMemory;
+use fsa_types::{CLUSTER_SIZE, NoMemory};
 use object_tables::Table;
 use std::alloc::Global;
 use volume_rows::{FileRow, StreamRow, clusters_of, find_limit};
 use volume_tables::{SpaceTally, StreamTable};
 
 impl Volume {
-    /// How many clusters, of 4,096 bytes each, all streams take.
+    /// How many clusters all streams take.
     pub fn clusters(&self) -> u64
         ensures { result ≡ clusters self.now.content }
     {
@@ -34,7 +35,7 @@ impl Volume {
     pub fn charge_of_file(&self, file: u64) -> u64
         ensures { result ≡ charge_of_file self.now.content file }
     {
-        4096 * self.streams.clusters_of_file(file)
+        CLUSTER_SIZE * self.streams.clusters_of_file(file)
     }
 
     /// How many bytes an owner may be charged; 2^64 - 1 where no limit of his is set.

@@ -3,7 +3,7 @@
 ghost use Rattle.std.specs.Prelude.{◌≡◌, ◌∷◌, [], IsTrue, IfNone, IfSome};
 ghost use Rattle.fsa_types.specs.Rows.{row_of, lives};
 ghost use Rattle.fsa_model.specs.QueryInfo.{streams_of};
-ghost use Rattle.fsa_model.specs.Shown.{default_stream};
+ghost use Rattle.fsa_model.specs.ShownNumbers.{default_stream};
 ghost use Rattle.volume_state.specs.InOrder.{stream_after, streams_after};
 
 use crate::volume::Volume;

@@ -19,7 +19,7 @@ ghost use Rattle.oplock_state.specs.Homes.{HomesFit};
 ghost use Rattle.oplock_state.specs.Tables.{AreSorted, AreThere};
 ghost use Rattle.volume_breaks.specs.Breaks.{with_held};
 ghost use Rattle.volume_breaks.specs.Calls.{StayHeld};
-ghost use Rattle.volume_state.specs.Oplocks.{GrantsOn, key_of_handle};
+ghost use Rattle.volume_state.specs.OplockOutcome.{GrantsOn, key_of_handle};
 ghost use Rattle.volume_state.specs.Room.{KeepsEnds, stream_of_handle};
 ghost use Rattle.volume_state.specs.VolumeView.{room_for};
 

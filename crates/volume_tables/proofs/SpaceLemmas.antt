@@ -2,6 +2,7 @@
 use Rattle.std.proofs.Common.{◌≡◌, ℕ, ◌+◌, ◌*◌, ◌≤◌, refl, ◌∙◌, arith, inl, inr}
 use Rattle.std.specs.Prelude.{◌==◌}
 use Rattle.std.proofs.lemmas.Bool.{cases_Bool}
+use Rattle.fsa_types.specs.Clusters.{cluster_size}
 use Rattle.tallies.specs.Charges.{sum_of}
 use Rattle.volume_tables.specs.Space.{HandsOver, Resizes, Space, share}
 
@@ -10,7 +11,7 @@ pub charged-less : (old new : Space) (from to clusters : ℕ) → Resizes old ne
 charged-less old new from to clusters resized =
     let even = resized.charges to in
     elim (cases_Bool (from == to)) [
-      | inl same ↦ (let told : sum_of new.sums to + 4096 * clusters ≡ sum_of old.sums to + 4096 * 0 = rw same at even in omega arith)
+      | inl same ↦ (let told : sum_of new.sums to + cluster_size * clusters ≡ sum_of old.sums to + cluster_size * 0 = rw same at even in omega arith)
       | inr differ ↦ (let told : sum_of new.sums to + 0 ≡ sum_of old.sums to + 0 = rw differ at even in omega arith)
     ]
 

@@ -1,5 +1,6 @@
 -- What each owner is charged, how many clusters there are in all, and how both change.
 use Rattle.std.specs.Prelude.{◌≡◌, ℕ, List, ◌+◌, ◌*◌, ◌^◌, ◌≤◌, ◌<◌, ◌==◌, IsSome, if◌then◌else◌}
+use Rattle.fsa_types.specs.Clusters.{cluster_size}
 use Rattle.fsa_types.specs.Rows.{row_of}
 use Rattle.tallies.specs.Charges.{sum_of}
 
@@ -12,14 +13,14 @@ pub record Space : Type 0 where
 
 -- the bytes of so many clusters of one owner's, as far as they are another one's: all, where both are the same
 abbrev pub share : ℕ → ℕ → ℕ → ℕ
-share owner other clusters = if owner == other then 4096 * clusters else 0
+share owner other clusters = if owner == other then cluster_size * clusters else 0
 
 -- the owner is there and charged for the clusters before, and with those after all sums fit
 pub record MayResize (space : Space) (owner before after : ℕ) : Type 0 where
   pub there : IsSome (row_of space.sums owner)
-  pub charged : 4096 * before ≤ sum_of space.sums owner
+  pub charged : cluster_size * before ≤ sum_of space.sums owner
   pub counted : before ≤ space.clusters
-  pub fits : sum_of space.sums owner + 4096 * after < 2 ^ 64
+  pub fits : sum_of space.sums owner + cluster_size * after < 2 ^ 64
   pub few : space.clusters + after < 2 ^ 64
 
 -- the owner is charged for the clusters after in place of those before, and all others as they were

@@ -1,19 +1,17 @@
 //! The space that streams take: what each owner is charged for it, and how much it is in all.
 
 ghost use Rattle.std.specs.Prelude.{ℕ, ◌≡◌, ◌≤◌, ◌<◌, ◌+◌, ◌*◌, ◌^◌, [], IsSome, OnOk};
+ghost use Rattle.fsa_types.specs.Clusters.{cluster_size};
 ghost use Rattle.fsa_types.specs.Rows.{row_of};
 ghost use Rattle.tallies.specs.Charges.{sum_of};
 ghost use Rattle.volume_tables.specs.Space.{Admits, HandsOver, MayResize, Resizes};
 
-use fsa_types::NoMemory;
+use fsa_types::{CLUSTER_SIZE, NoMemory};
 use std::alloc::Global;
 use std::marker::Model;
 use tallies::Charges;
 
-// The bytes of a cluster.
-const CLUSTER: u64 = 4096;
-
-/// What each owner is charged, in bytes, and how many clusters of 4,096 bytes all streams take. An owner is
+/// What each owner is charged, in bytes, and how many clusters all streams take. An owner is
 /// the number of a SID, and has to be admitted before he is charged.
 #[derive(Debug, Drop)]
 pub struct SpaceTally {
@@ -81,7 +79,7 @@ impl SpaceTally {
         requires { MayResize self.old owner before after }
         ensures { Resizes self.old self.new owner before after }
     {
-        let bytes = self.charges.of(owner) + CLUSTER * after - CLUSTER * before;
+        let bytes = self.charges.of(owner) + CLUSTER_SIZE * after - CLUSTER_SIZE * before;
         let Ok(()) = self.charges.set(owner, bytes) else {
             unreachable!()
         };
@@ -93,7 +91,7 @@ impl SpaceTally {
     pub fn hand_over(&mut self, from: u32, to: u32, clusters: u64)
         requires from { MayResize self.old from clusters 0 }
         requires to { IsSome (row_of self.old.sums to) }
-        requires fits { sum_of self.old.sums to + 4096 * clusters < 2 ^ 64 }
+        requires fits { sum_of self.old.sums to + cluster_size * clusters < 2 ^ 64 }
         ensures { HandsOver self.old self.new from to clusters }
     {
         self.resize(from, clusters, 0);

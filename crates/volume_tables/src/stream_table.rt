@@ -6,7 +6,7 @@ ghost use Rattle.std.specs.Ordering.{is_lt};
 ghost use Rattle.fsa_types.specs.CaseTable.{cmp_name};
 ghost use Rattle.fsa_types.specs.Rows.{row_of, lives, with_row_changed, without_row, IsNumbered};
 ghost use Rattle.fsa_types.specs.StreamBytes.{put, cut};
-ghost use Rattle.fsa_model.specs.Charge.{clusters_for};
+ghost use Rattle.fsa_types.specs.Clusters.{clusters_for};
 ghost use Rattle.fsa_model.specs.Lookups.{is_stream_named, number_of};
 ghost use Rattle.fsa_model.specs.QueryInfo.{is_stream_before};
 ghost use Rattle.key_index.specs.RowsByKey.{IsIndexOf, row_passes, rows_of_entries};

@@ -14,12 +14,14 @@ pub struct Added {
     pub number: u32,
 }
 
+/// Why the machine takes no entry.
 #[derive(Clone, Copy, Debug, PartialEq, Eq)]
 pub enum Why {
     Full,
     NoMemory,
 }
 
+/// The machine: its limit, and what was added.
 #[derive(Drop)]
 pub struct Adder {
     limit: usize,

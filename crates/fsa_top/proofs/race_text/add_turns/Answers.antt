@@ -1,6 +1,6 @@
 use Rattle.std.proofs.Common.{◌≡◌, ◌∙◌, ℕ, length, refl, arith, subst}
 use Rattle.script_read.specs.ScriptView.{contents}
-use Rattle.fsa_top.specs.Shown.{ShowsFirst}
+use Rattle.fsa_top.specs.ShownTurns.{ShowsFirst}
 use Rattle.text_out.specs.declared.write.TextFault.{TextFault}
 use Rattle.fsa_top.proofs.RunLaws.{OnErr-any}
 use Rattle.fsa_top.proofs.ShownLaws.{first-begun, first-part, first-turn}

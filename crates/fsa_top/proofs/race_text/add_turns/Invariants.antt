@@ -1,6 +1,6 @@
 use Rattle.std.proofs.Common.{◌≡◌}
 use Rattle.script_read.specs.ScriptView.{contents}
-use Rattle.fsa_top.specs.Shown.{ShowsFirst}
+use Rattle.fsa_top.specs.ShownTurns.{ShowsFirst}
 use Rattle.fsa_top.proofs.race_text.add_turns.Given as goal
 
 abbrev pub invariant-loop-turn : goal.invariant-loop-turn

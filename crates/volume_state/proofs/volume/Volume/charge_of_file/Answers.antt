@@ -1,6 +1,6 @@
 use Rattle.std.proofs.Common.{ℕ, ◌*◌, ◌==◌, ap, arith, length, ◌∙◌, sym}
 use Rattle.std.specs.Prelude.{filter}
-use Rattle.fsa_model.specs.Charge.{clusters_for}
+use Rattle.fsa_types.specs.Clusters.{cluster_size, clusters_for}
 use Rattle.fsa_model.specs.Volume.{Stream}
 use Rattle.volume_rows.specs.Streams.{streams_in}
 use Rattle.volume_state.specs.Content.{content_of}
@@ -24,5 +24,5 @@ overflow_mul-result c =
 pub returns : goal.returns
 returns c =
     rw (← c.self.view_is)
-    (ap (λ n. 4096 * n) c.clusters_of_file.ensures
-    ∙ sym (sum-scaled 4096 (λ (entry : ℕ × Stream). clusters_for (length entry.1.bytes)) (filter (λ entry. entry.1.file == c.args.file) (streams_in c.self.inside.streams.rows))))
+    (ap (λ n. cluster_size * n) c.clusters_of_file.ensures
+    ∙ sym (sum-scaled cluster_size (λ (entry : ℕ × Stream). clusters_for (length entry.1.bytes)) (filter (λ entry. entry.1.file == c.args.file) (streams_in c.self.inside.streams.rows))))

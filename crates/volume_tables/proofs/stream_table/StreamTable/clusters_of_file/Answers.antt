@@ -1,5 +1,5 @@
 use Rattle.std.proofs.Common.{◌==◌, ◌∙◌, ℕ, length, arith}
-use Rattle.fsa_model.specs.Charge.{clusters_for}
+use Rattle.fsa_types.specs.Clusters.{clusters_for}
 use Rattle.fsa_model.specs.Volume.{Stream}
 use Rattle.volume_rows.specs.Streams.{streams_in}
 use Rattle.volume_tables.proofs.StreamLemmas.{IsNumbered-seen, sum-by_file, sum-filter_le}

@@ -4,10 +4,11 @@ use crate::program::{on_one_thread, repeated, run, words_of};
 use std::test::Fail;
 use wire_io::{MemorySink, MemorySource};
 
-// A file is created, written, read and closed.
+/// A file is created, written, read and closed.
 pub const FIRST: &str = "fsa 1\nclient a 7\na 1 create =\\A.txt 0x3 0x0 create 0x0 0x0 0\n\
     a 2 write 1 0 x68656c6c6f\na 3 read 1 0 5\na 4 close 1\n";
 
+/// The text of `FIRST`.
 pub const FIRST_TEXT: &str = "> a 1 create\na 1 SUCCESS created\n> a 2 write\na 2 SUCCESS 5\n\
     > a 3 read\na 3 SUCCESS x68656c6c6f\n> a 4 close\na 4 SUCCESS\n> a 5 leave\na 5 SUCCESS\nend 5\n";
 
@@ -18,8 +19,8 @@ const RUNS: [(&str, u8, &str); 3] = [
     ("", 2, "bad line 1\n"),
 ];
 
-// Scripts are read and texts are written in pieces of any size. With ample memory the run succeeds: no clause can say
-// that, and a program that always answers 5 is caught here.
+// Scripts are read and texts are written in pieces of 1, 32 and 65,536 bytes. With ample memory the run succeeds: no
+// clause can say that, and a program that always answers 5 is caught here.
 #[test]
 fn scripts_in_pieces_give_their_texts(rt: HostRuntime) -> Result<(), Fail> {
     for (script, status, text) in RUNS {

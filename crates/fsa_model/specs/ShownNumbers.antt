@@ -3,18 +3,18 @@
 use Rattle.std.specs.Prelude.{ℕ, ◌*◌, ◌==◌, length, Option, is_some, if◌then◌else◌, []}
 use Rattle.std.specs.Int.RustNames.{bit_or}
 use Rattle.std.specs.Option.{option_map_or}
-use Rattle.fsa_types.specs.Masks.{DIRECTORY, NORMAL, REPARSE_POINT}
+use Rattle.fsa_types.specs.Clusters.{cluster_size, clusters_for}
+use Rattle.fsa_types.specs.Masks.{DIRECTORY, FILE_ATTRIBUTE_REPARSE_POINT, NORMAL}
 use Rattle.fsa_types.specs.PackedRows.{Numbers}
 use Rattle.fsa_types.specs.Rows.{row_of}
-use Rattle.fsa_model.specs.Charge.{clusters_for}
 use Rattle.fsa_model.specs.Lookups.{access_time, bytes_of, creation_time, stream_of, write_time}
 use Rattle.fsa_model.specs.Volume.{File, Volume}
 
--- the attributes that are kept, with DIRECTORY for a directory and REPARSE_POINT where there is a reparse point;
+-- the attributes that are kept, with DIRECTORY for a directory and FILE_ATTRIBUTE_REPARSE_POINT where there is a reparse point;
 -- NORMAL where none is left
 abbrev pub all_attributes : File → ℕ
 all_attributes file =
-    bit_or (bit_or file.attributes (if file.directory then DIRECTORY else 0)) (if is_some file.point then REPARSE_POINT else 0)
+    bit_or (bit_or file.attributes (if file.directory then DIRECTORY else 0)) (if is_some file.point then FILE_ATTRIBUTE_REPARSE_POINT else 0)
 
 abbrev pub shown_attributes : Volume → ℕ → ℕ
 shown_attributes v file =
@@ -29,7 +29,7 @@ abbrev pub length_shown : Volume → Option ℕ → ℕ
 length_shown v stream = option_map_or (λ s. length (bytes_of v s)) stream 0
 
 abbrev pub space_shown : Volume → Option ℕ → ℕ
-space_shown v stream = 4096 * clusters_for (length_shown v stream)
+space_shown v stream = cluster_size * clusters_for (length_shown v stream)
 
 -- the default stream of a file
 abbrev pub default_stream : Volume → ℕ → Option ℕ

@@ -1,6 +1,6 @@
 use Rattle.std.proofs.Common.{◌∷◌, [], slice_get, ap, ◌∙◌, arith}
 use Rattle.history_lock.proofs.Places.{given_end, given_longer}
-use Rattle.worked_rows.proofs.shared.started.Goals as goal
+use Rattle.run_tests.proofs.shared.started.Goals as goal
 
 pub returns-clause-third : goal.returns-clause-third
 returns-clause-third c = let a = c.pop.new.self.ok.0 in let b = c.in_ok-third.ensures.len in let n = c.in-Ok-start.ensures.one_each in let three = c.in-Ok.ensures.three in

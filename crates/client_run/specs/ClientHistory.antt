@@ -1,11 +1,8 @@
--- What the run of a history shows: which lists are histories, what a turn was answered, and when a client makes
--- its calls.
-use Rattle.std.specs.Prelude.{◌≡◌, ℕ, ◌==◌, ◌&&◌, not, Bool, false, List, [], ◌∷◌, ◌++◌, Option, Some, None, IsSome}
-use Rattle.fsa_types.specs.declared.reply.Answer.{Answer}
+-- What the run of a history shows: which lists are histories, and when a client makes its calls.
+use Rattle.std.specs.Prelude.{◌≡◌, ℕ, ◌==◌, ◌&&◌, not, Bool, false, List, ◌∷◌, ◌++◌, Option, Some, None, IsSome}
 use Rattle.fsa_model.specs.Engine.{CallsDiffer}
 use Rattle.fsa_model.specs.History.{HistoryEntry, Run, run}
 use Rattle.fsa_model.specs.Lookups.{has_row}
-use Rattle.fsa_model.specs.Outcome.{TurnOut}
 use Rattle.fsa_model.specs.Setup.{Setup}
 use Rattle.fsa_model.specs.Volume.{Volume}
 use Rattle.fsa_model.specs.Waiting.{is_wait, waits}
@@ -14,15 +11,6 @@ use Rattle.fsa_model.specs.Waiting.{is_wait, waits}
 pub record IsRunOfDistinctCalls (setup : Setup) (entries : List HistoryEntry) : Type 0 where
   pub runs : IsSome (run setup entries)
   pub differ : CallsDiffer entries
-
--- the turn that the last entry stands for answered its own call so
-pub record LastTurnAnswered (setup : Setup) (seen : List HistoryEntry) (answer : Answer) : Type 0 where
-  pub state : Run
-  pub runs : run setup seen ≡ Some state
-  pub out : TurnOut
-  pub before : List TurnOut
-  pub last : state.outs ≡ before ++ out ∷ []
-  pub is : out.answer ≡ answer
 
 -- ---- waits
 

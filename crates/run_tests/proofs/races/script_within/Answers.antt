@@ -2,7 +2,7 @@ use Rattle.std.proofs.Common.{rules, ◌≤◌, length, arith}
 use Rattle.script_read.specs.ScriptView.{contents}
 use Rattle.client_race.proofs.SetupLaws.{as_many}
 use Rattle.client_race.proofs.StayLaws.{script-races}
-use Rattle.worked_rows.proofs.races.script_within.Goals as goal
+use Rattle.run_tests.proofs.races.script_within.Goals as goal
 
 pub returns : goal.returns
 returns c =

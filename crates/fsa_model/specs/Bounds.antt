@@ -1,0 +1,18 @@
+-- The numbers that bound a history, a script and a reparse point.
+use Rattle.std.specs.Prelude.{ℕ}
+
+-- the most entries of a history
+abbrev pub most_entries : ℕ
+most_entries = 1000000
+
+-- the most line feeds of a script, and so the most lines
+abbrev pub most_line_feeds : ℕ
+most_line_feeds = 40000
+
+-- the most lines of a script that declare a client
+abbrev pub most_client_lines : ℕ
+most_client_lines = 64
+
+-- the most bytes of a reparse point: those of its buffer, 16,384, without the eight of the buffer's header
+abbrev pub most_point_bytes : ℕ
+most_point_bytes = 16376
