@@ -33,11 +33,13 @@ level_text level = 32 ∷ level_word level
 abbrev pub upper_glyph : ℕ → ℕ
 upper_glyph digit = if nat_lt digit 10 then 48 + digit else 55 + digit
 
--- a unit, as itself or as `%` and four digits
+-- `%` and the four digits of a unit
+abbrev pub escape_text : ℕ → List ℕ
+escape_text unit = 37 ∷ upper_glyph (unit / 16 / 16 / 16) ∷ upper_glyph (unit / 16 / 16 % 16) ∷ upper_glyph (unit / 16 % 16) ∷ upper_glyph (unit % 16) ∷ []
+
+-- a unit, as itself or escaped
 abbrev pub unit_text : ℕ → List ℕ
-unit_text unit =
-    if is_plain unit then unit ∷ []
-    else 37 ∷ upper_glyph (unit / 16 / 16 / 16) ∷ upper_glyph (unit / 16 / 16 % 16) ∷ upper_glyph (unit / 16 % 16) ∷ upper_glyph (unit % 16) ∷ []
+unit_text unit = if is_plain unit then unit ∷ [] else escape_text unit
 
 abbrev pub text_text : List ℕ → List ℕ
 text_text units = 32 ∷ 61 ∷ flat_map unit_text units
@@ -46,5 +48,13 @@ text_text units = 32 ∷ 61 ∷ flat_map unit_text units
 abbrev pub byte_text : ℕ → List ℕ
 byte_text byte = glyph (byte / 16) ∷ glyph (byte % 16) ∷ []
 
+-- bytes in two digits each, and these behind `x`
+abbrev pub hex_digits : List ℕ → List ℕ
+hex_digits bytes = flat_map byte_text bytes
+
+abbrev pub bytes_text : List ℕ → List ℕ
+bytes_text bytes = 120 ∷ hex_digits bytes
+
+-- them, as a field
 abbrev pub string_text : List ℕ → List ℕ
-string_text bytes = 32 ∷ 120 ∷ flat_map byte_text bytes
+string_text bytes = 32 ∷ bytes_text bytes

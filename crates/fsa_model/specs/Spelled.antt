@@ -1,21 +1,18 @@
 -- Which bytes write a line. A line has one text but for the units of a path or an expression: each is written as itself,
 -- where it may be, or as an escape.
-use Rattle.std.specs.Prelude.{◌≡◌, ℕ, ◌/◌, ◌%◌, ◌⊎◌, Bool, true, List, [], ◌∷◌, ◌++◌, codes}
+use Rattle.std.specs.Prelude.{◌≡◌, ℕ, ◌⊎◌, Bool, true, List, [], ◌∷◌, ◌++◌, codes}
 use Rattle.fsa_types.specs.declared.request.DirKind.{DirKind}
 use Rattle.fsa_types.specs.declared.request.What.{What}
 use Rattle.fsa_types.specs.declared.request.What.TheVariants.{Ask}
 use Rattle.fsa_types.specs.declared.request.Request.TheVariants.{Create, Rename, Link, QueryDir}
 use Rattle.fsa_model.specs.Words.{is_plain}
-use Rattle.fsa_model.specs.FieldText.{upper_glyph, mask_text, number_text, choice_text}
+use Rattle.fsa_model.specs.FieldText.{mask_text, number_text, choice_text}
+pub use Rattle.fsa_model.specs.FieldText.{escape_text}
 use Rattle.fsa_model.specs.OpenLines.{disposition_text}
 use Rattle.fsa_model.specs.ListingLines.{dir_kind_text, listing_end_text}
 use Rattle.fsa_model.specs.Lines.{Line, RequestLine}
 use Rattle.fsa_model.specs.Spelling.{fields_text, line_text}
 use Rattle.fsa_model.specs.Verbs.{verb}
-
--- `%` and the four digits of a unit
-abbrev pub escape_text : ℕ → List ℕ
-escape_text unit = 37 ∷ upper_glyph (unit / 16 / 16 / 16) ∷ upper_glyph (unit / 16 / 16 % 16) ∷ upper_glyph (unit / 16 % 16) ∷ upper_glyph (unit % 16) ∷ []
 
 -- these bytes write the unit
 abbrev pub SpellsUnit : ℕ → List ℕ → Type 0

@@ -1,5 +1,5 @@
 -- The printed text of a history.
-use Rattle.std.specs.Prelude.{ℕ, ◌+◌, ◌/◌, ◌%◌, nat_lt, List, [], ◌∷◌, ◌++◌, length, slice_get, codes, decimal, if◌then◌else◌, false, true, nat_eq, ◌==◌, Bool}
+use Rattle.std.specs.Prelude.{ℕ, List, [], ◌∷◌, ◌++◌, length, slice_get, codes, decimal, false, true, nat_eq, ◌==◌, Bool}
 use Rattle.std.specs.List.{slice_split, list_any}
 use Rattle.std.specs.Cmp.Lexicographic.{pointwise}
 use Rattle.std.specs.Option.{option_map_or}
@@ -17,23 +17,11 @@ use Rattle.fsa_types.specs.declared.reply.Answer.TheVariants.{Ended, Pending}
 use Rattle.fsa_types.specs.declared.reply.EndOf.{EndOf}
 use Rattle.fsa_model.specs.Setup.{Client, Script}
 use Rattle.fsa_model.specs.FieldText.{mask_text, text_text}
-pub use Rattle.fsa_model.specs.FieldText.{level_word}
+pub use Rattle.fsa_model.specs.FieldText.{bytes_text, hex_digits, level_word}
 use Rattle.fsa_model.specs.PackedText.{packed_text}
 use Rattle.fsa_model.specs.Verbs.{verb}
 use Rattle.fsa_model.specs.Outcome.{TurnOut}
 use Rattle.fsa_model.specs.History.{HistoryEntry, run}
-
--- a digit below 16, in lower case
-abbrev pub digit : ℕ → ℕ
-digit n = if nat_lt n 10 then 48 + n else 87 + n
-
--- bytes as `x` and two hexadecimal digits each
-abbrev pub hex_digits : List ℕ → List ℕ
-hex_digits [] = []
-hex_digits (byte ∷ more) = digit (byte / 16) ∷ digit (byte % 16) ∷ hex_digits more
-
-abbrev pub bytes_text : List ℕ → List ℕ
-bytes_text bytes = 120 ∷ hex_digits bytes
 
 abbrev pub action_text : Action → List ℕ
 action_text Superseded = codes " superseded"

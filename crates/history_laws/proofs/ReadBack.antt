@@ -23,7 +23,7 @@ use Rattle.fsa_types.specs.declared.status.Status.TheVariants.{Success, Pending,
 use Rattle.fsa_model.specs.FieldText.{mask_text, text_text, unit_text, upper_glyph}
 use Rattle.fsa_model.specs.Numbers.{glyph, spelled}
 use Rattle.fsa_model.specs.PackedText.{attributes_text, change_word, entries_in, entry_text, length_text, packed_text, shown_text, units_in}
-use Rattle.fsa_model.specs.Text.{action_text, body_text, bytes_text, digit, hex_digits, level_word, wanted_text}
+use Rattle.fsa_model.specs.Text.{action_text, body_text, bytes_text, hex_digits, level_word, wanted_text}
 use Rattle.fsa_model.specs.Words.{is_plain}
 use Rattle.fsa_model.specs.Starving.{is_no_memory}
 
@@ -213,16 +213,13 @@ Free-line [] free = refl
 Free-line (c ∷ bytes) free =
     or_false (ends_line c) (list_any ends_line bytes) (or_right (c == 32) (c == 10) (or_left (ends_word c) (list_any ends_word bytes) free)) (Free-line bytes (or_right (ends_word c) (list_any ends_word bytes) free))
 
-digit-high : (d : ℕ) → 48 ≤ digit d
-digit-high d = elim (cases_Bool (nat_lt d 10)) [ inl few ↦ rw few (omega arith) | inr many ↦ rw many (omega arith) ]
-
 Free-high : (byte : ℕ) (bytes : List ℕ) → 48 ≤ byte → Free ends_word bytes → Free ends_word (byte ∷ bytes)
 Free-high byte bytes high free = or_false (ends_word byte) (list_any ends_word bytes) (high-ends_word byte high) free
 
 Free-hex : (bytes : List ℕ) → Free ends_word (hex_digits bytes)
 Free-hex [] = refl
 Free-hex (byte ∷ bytes) =
-    Free-high (digit (byte / 16)) (digit (byte % 16) ∷ hex_digits bytes) (digit-high (byte / 16)) (Free-high (digit (byte % 16)) (hex_digits bytes) (digit-high (byte % 16)) (Free-hex bytes))
+    Free-high (glyph (byte / 16)) (glyph (byte % 16) ∷ hex_digits bytes) (glyph-high (byte / 16)) (Free-high (glyph (byte % 16)) (hex_digits bytes) (glyph-high (byte % 16)) (Free-hex bytes))
 
 upper_glyph-high : (d : ℕ) → 48 ≤ upper_glyph d
 upper_glyph-high d = elim (cases_Bool (nat_lt d 10)) [ inl few ↦ rw few (omega arith) | inr many ↦ rw many (omega arith) ]

@@ -1,11 +1,11 @@
 //! The lines of a script, one after the other.
 
-ghost use Rattle.std.specs.Prelude.{◌≡◌, ◌==◌, ◌+◌, ◌-◌, ◌^◌, ◌<◌, ◌≤◌, ◌∷◌, [], Result, IfOk, IfSome, MatchOption, length, position, count_by};
+ghost use Rattle.std.specs.Prelude.{◌≡◌, ◌==◌, ◌+◌, ◌-◌, ◌^◌, ◌<◌, ◌≤◌, ◌∷◌, [], Result, Ok, IfErr, IfOk, IfSome, MatchOption, OnOk, length, position, count_by};
 ghost use Rattle.fsa_model.specs.Fault.{Kind};
 ghost use Rattle.fsa_model.specs.Script.{Reading as ReadingModel, nothing_read, line_after, end_after, lines_from, pieces, script_of};
 ghost use Rattle.script_read.specs.ReadsAs.{Fails, FailsScript};
 ghost use Rattle.script_read.specs.ReadingView.{reading_of, IsKept, HasLineRoom, TakesLine};
-ghost use Rattle.script_read.specs.ScriptView.{GivesScript, GivesSpelled, FailsLine};
+ghost use Rattle.script_read.specs.ScriptView.{contents, GivesScript, GivesSpelled, FailsLine};
 
 use crate::fault::{LineFault, ReadFault, ScriptFault, ScriptKind};
 use crate::line::line_of;
@@ -82,10 +82,11 @@ impl Reading {
         }
     }
 
-    // The script that was read, where this is what follows the last line feed.
+    // That nothing follows the last line feed, and that there is a client; or the fault of this line.
     #[tactic(auto, unfolding(fsa_model::specs::Script::end_after))]
-    fn finish(self, alloc: Global, line: u32, rest: &[u8]) -> Result<Script, ReadFault>
-        ensures { GivesScript result (end_after line (reading_of self) rest.now) }
+    fn ends(&self, line: u32, rest: &[u8]) -> Result<(), ReadFault>
+        ensures ok { OnOk result (end_after line (reading_of self.now) rest.now ≡ Ok (reading_of self.now).script) }
+        ensures err { IfErr result (λ fault. FailsScript fault (end_after line (reading_of self.now) rest.now)) }
     {
         if !rest.is_empty() {
             let kind = ScriptKind::Cut;
@@ -95,7 +96,14 @@ impl Reading {
             let kind = ScriptKind::Syntax;
             return Err(ReadFault::Bad(ScriptFault { line, kind }));
         }
-        let table = self.table(alloc)?;
+        Ok(())
+    }
+
+    // The script that was read, with the case table that was read.
+    fn into_script(self, table: UpcaseTable) -> Script
+        requires { table ≡ (reading_of self).script.setup.table }
+        ensures { contents result ≡ (reading_of self).script }
+    {
         let Reading {
             stage: _,
             default_table: _,
@@ -106,10 +114,19 @@ impl Reading {
             calls,
         } = self;
         let setup = Setup { table, clients };
-        Ok(Script {
+        Script {
             setup,
             lines: calls,
-        })
+        }
+    }
+
+    // The script that was read, where this is what follows the last line feed.
+    fn finish(self, alloc: Global, line: u32, rest: &[u8]) -> Result<Script, ReadFault>
+        ensures { GivesScript result (end_after line (reading_of self) rest.now) }
+    {
+        self.ends(line, rest)?;
+        let table = self.table(alloc)?;
+        Ok(self.into_script(table))
     }
 }
 

@@ -1,7 +1,8 @@
 -- Laws of printed bytes: two digits more.
 use Rattle.std.proofs.Common.{◌≡◌, ℕ, ◌+◌, ◌*◌, ◌/◌, ◌%◌, ◌<◌, ◌≤◌, List, [], ◌∷◌, ◌++◌, length, take, drop, slice_index, slice_set, arith}
 use Rattle.std.proofs.lemmas.List.{append_assoc, append-nil, drop_all, drop_more, take_all, take_more_set, length-set}
-use Rattle.fsa_model.specs.Text.{digit, hex_digits}
+use Rattle.fsa_model.specs.Numbers.{glyph}
+use Rattle.fsa_model.specs.Text.{hex_digits}
 
 -- two writes in a row, seen from the front
 take-two_writes : (xs : List ℕ) (o x y : ℕ) → o + 1 < length xs
@@ -15,7 +16,7 @@ take-two_writes xs o x y fits =
 
 -- one byte more is written
 pub digits-step : (bytes digits : List ℕ) (i x y : ℕ) → i < length bytes → 2 * i + 1 < length digits
-    → x ≡ digit (slice_index bytes i / 16) → y ≡ digit (slice_index bytes i % 16)
+    → x ≡ glyph (slice_index bytes i / 16) → y ≡ glyph (slice_index bytes i % 16)
     → take (2 * i) digits ++ hex_digits (drop i bytes) ≡ hex_digits bytes
     → take (2 * (i + 1)) (slice_set (slice_set digits (2 * i) x) (2 * i + 1) y) ++ hex_digits (drop (i + 1) bytes) ≡ hex_digits bytes
 digits-step bytes digits i x y h fits ex ey inv =

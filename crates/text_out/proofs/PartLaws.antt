@@ -10,7 +10,8 @@ use Rattle.fsa_types.specs.declared.reply.Body.TheVariants.{Got}
 use Rattle.fsa_model.specs.Setup.{Client}
 use Rattle.fsa_model.specs.Outcome.{TurnOut}
 use Rattle.fsa_types.specs.Status.{status_name}
-use Rattle.fsa_model.specs.Text.{bytes_text, call_text, digit, ended_lines, hex_digits, turn_text}
+use Rattle.fsa_model.specs.Numbers.{glyph}
+use Rattle.fsa_model.specs.Text.{bytes_text, call_text, ended_lines, hex_digits, turn_text}
 use Rattle.fsa_model.specs.Verbs.{verb}
 use Rattle.text_out.specs.AroundBytes.{after_bytes, before_bytes}
 use Rattle.wire_io.specs.Sink.{Written, Appends, AppendsPart}
@@ -18,7 +19,7 @@ use Rattle.wire_io.proofs.SinkLaws.{Appends-append, AppendsPart-append, AppendsP
 
 pub hex-append : (bytes more : List ℕ) → hex_digits (bytes ++ more) ≡ hex_digits bytes ++ hex_digits more
 hex-append [] more = refl
-hex-append (byte ∷ bytes) more = ap (λ (digits : List ℕ). digit (byte / 16) ∷ digit (byte % 16) ∷ digits) (hex-append bytes more)
+hex-append (byte ∷ bytes) more = ap (λ (digits : List ℕ). glyph (byte / 16) ∷ glyph (byte % 16) ∷ digits) (hex-append bytes more)
 
 -- the digits up to a place, and those of a part from there on
 hex-part : (bytes : List ℕ) (at count : ℕ) → hex_digits (take (at + count) bytes) ≡ hex_digits (take at bytes) ++ hex_digits (take count (drop at bytes))

@@ -1,12 +1,13 @@
 //! Bytes as hexadecimal digits.
 
 ghost use Rattle.std.specs.Prelude.{◌≡◌, ◌<◌, ◌*◌, length};
-ghost use Rattle.fsa_model.specs.Text.{digit, hex_digits};
+ghost use Rattle.fsa_model.specs.Numbers.{glyph};
+ghost use Rattle.fsa_model.specs.Text.{hex_digits};
 
 /// The digit of a number below 16, in lower case.
 pub fn digit(n: u8) -> u8
     requires { n < 16 }
-    ensures { result ≡ digit n }
+    ensures { result ≡ glyph n }
 {
     if n < 10 { 48 + n } else { 87 + n }
 }
