@@ -3,17 +3,17 @@ use Rattle.std.specs.Prelude.{◌≡◌, ℕ, ◌+◌, ◌-◌, ◌%◌, ◌≤�
 use Rattle.stream_pages.specs.Pages.{byte_at, bytes_from, HasPages}
 
 -- what lies from `from` up to `to`, in bytes, can be written without taking memory
-pub record Reserved : Type 0 where
+pub record StreamRoom : Type 0 where
   pub from : ℕ
   pub to : ℕ
 
 -- the bytes, beside that room
 pub record StreamView : Type 0 where
   pub bytes : List ℕ
-  pub room : Reserved
+  pub room : StreamRoom
 
 -- `count` bytes from `at` on lie in the room
-abbrev pub IsReserved : Reserved → ℕ → ℕ → Type 0
+abbrev pub IsReserved : StreamRoom → ℕ → ℕ → Type 0
 IsReserved room at count = (room.from ≤ at) × (at + count ≤ room.to)
 
 -- behind the last byte there are only zeros; there are at most 2^26 bytes; and the pages of the

@@ -2,12 +2,9 @@
 use Rattle.std.specs.Prelude.{◌≡◌, ℕ, List, map}
 use Rattle.fsa_types.specs.Rows.{with_row_changed}
 use Rattle.fsa_model.specs.Volume.{Stream}
+use Rattle.stream_pages.specs.Streams.{StreamRoom}
 
--- places up to `to`, in bytes, can be written without taking memory from `from` on
-pub record StreamRoom : Type 0 where
-  pub from : ℕ
-  pub to : ℕ
-
+-- its row: the stream, and the room
 pub record StreamRowView : Type 0 where
   pub stream : Stream
   pub room : StreamRoom

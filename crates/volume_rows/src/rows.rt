@@ -184,7 +184,7 @@ impl Model for StreamRow {
 
     ghost view = { λ r. record {
       stream = record { file = r.info.file; name = r.info.name; bytes = r.bytes.bytes; deleted = r.info.deleted };
-      room = record { from = r.bytes.room.from; to = r.bytes.room.to };
+      room = r.bytes.room;
     } };
 
     ghost invariant = { λ r. r.info.length ≡ length r.bytes.bytes };

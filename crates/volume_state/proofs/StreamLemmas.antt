@@ -11,7 +11,8 @@ use Rattle.fsa_types.specs.Rows.{row_of, lives}
 use Rattle.fsa_types.specs.StreamBytes.{put, cut}
 use Rattle.fsa_types.proofs.RowLemmas.{AreRising, AreRising-rest, AreRising-first, row_of-map}
 use Rattle.fsa_model.proofs.RowLaws.{option_cases}
-use Rattle.volume_rows.specs.Streams.{StreamRowView, StreamRoom}
+use Rattle.stream_pages.specs.Streams.{StreamRoom}
+use Rattle.volume_rows.specs.Streams.{StreamRowView}
 
 -- the rooms alone
 abbrev pub rooms_in : List (ℕ × StreamRowView) → List (ℕ × StreamRoom)

@@ -3,7 +3,7 @@ use Rattle.std.specs.Prelude.{ℕ, List, ◌≤◌, ◌+◌}
 use Rattle.std.specs.Option.{option_map_or, ForSome}
 use Rattle.fsa_types.specs.Rows.{row_of}
 use Rattle.fsa_model.specs.Volume.{Volume}
-use Rattle.volume_rows.specs.Streams.{StreamRoom}
+use Rattle.stream_pages.specs.Streams.{StreamRoom}
 
 -- the number of all changes that stand before the first one that is kept, and the breaks that the
 -- last `begin` waits for
