@@ -5,9 +5,13 @@ use Rattle.std.specs.List.{range_with_len}
 use Rattle.std.specs.Option.{option_map_or}
 use Rattle.fsa_types.specs.Rows.{row_of}
 
+-- the bytes of a page
+abbrev pub page_size : ℕ
+page_size = 4096
+
 -- the byte at this place
 abbrev pub byte_at : List (ℕ × List ℕ) → ℕ → ℕ
-byte_at pages at = option_map_or (λ page. get_or page (at % 4096) 0) (row_of pages (at / 4096)) 0
+byte_at pages at = option_map_or (λ page. get_or page (at % page_size) 0) (row_of pages (at / page_size)) 0
 
 -- `count` bytes from `at` on
 abbrev pub bytes_from : (ℕ → ℕ) → ℕ → ℕ → List ℕ
@@ -31,7 +35,7 @@ HasPage pages number = IsSome (row_of pages number)
 
 -- each page that has a byte from `from` up to `to` is there
 abbrev pub HasPages : List (ℕ × List ℕ) → ℕ → ℕ → Type 0
-HasPages pages from to = (number : ℕ) → from < to → number * 4096 < to → from < number * 4096 + 4096 → HasPage pages number
+HasPages pages from to = (number : ℕ) → from < to → number * page_size < to → from < number * page_size + page_size → HasPage pages number
 
 -- no page went
 abbrev pub KeepsPages : List (ℕ × List ℕ) → List (ℕ × List ℕ) → Type 0

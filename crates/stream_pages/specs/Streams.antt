@@ -1,6 +1,6 @@
 -- A stream of bytes over pages, beside the room for which memory was taken, and its parts.
 use Rattle.std.specs.Prelude.{◌≡◌, ℕ, ◌+◌, ◌-◌, ◌%◌, ◌≤◌, ◌^◌, zero, suc, nat_lt, List, [], ◌∷◌, min, if◌then◌else◌}
-use Rattle.stream_pages.specs.Pages.{byte_at, bytes_from, HasPages}
+use Rattle.stream_pages.specs.Pages.{byte_at, bytes_from, HasPages, page_size}
 
 -- what lies from `from` up to `to`, in bytes, can be written without taking memory
 pub record StreamRoom : Type 0 where
@@ -25,7 +25,7 @@ pub record AreSoundPages (pages : List (ℕ × List ℕ)) (len from to : ℕ) : 
 
 -- how many bytes up to `end` the page of this place has from there on
 abbrev pub part_len : ℕ → ℕ → ℕ
-part_len at end = min (4096 - at % 4096) (end - at)
+part_len at end = min (page_size - at % page_size) (end - at)
 
 -- the bytes from `at` up to `end` in parts, each of one page; at most so many parts
 abbrev pub some_parts : (ℕ → ℕ) → ℕ → ℕ → ℕ → List (List ℕ)

@@ -2,7 +2,7 @@
 
 ghost use Rattle.std.specs.Prelude.{ℕ, AllPairs, ◌≡◌, ◌≤◌, ◌<◌, ◌+◌, ◌-◌, ◌*◌, ◌^◌, [], None, replicate, IfOk, IfErr, IfSome, OnOk, length, option_map, if◌then◌else◌, nat_lt};
 ghost use Rattle.fsa_types.specs.Rows.{row_of};
-ghost use Rattle.stream_pages.specs.Pages.{HasPage, KeepsPages, Splits, below, byte_at, overlaid};
+ghost use Rattle.stream_pages.specs.Pages.{HasPage, KeepsPages, Splits, below, byte_at, overlaid, page_size};
 ghost use Rattle.fsa_types.specs.Places.{IsAt, StandsAt};
 
 use crate::page::{PAGE, Page, zeros};
@@ -40,7 +40,7 @@ impl Pages {
     /// The bytes of the page of this number; `None` exactly where it isn't there.
     pub(crate) fn get(&self, number: u64) -> Option<&[u8]>
         ensures page { option_map (λ page. page.now) result ≡ row_of self.now number }
-        ensures len { IfSome result (λ page. length page.now ≡ 4096) }
+        ensures len { IfSome result (λ page. length page.now ≡ page_size) }
     {
         match place_of(&self.pages, number) {
             Ok(place) => Some(self.pages[place].1.bytes()),
@@ -77,8 +77,8 @@ impl Pages {
     /// Puts a piece over a page that is there, from this place in it on.
     pub(crate) fn put(&mut self, number: u64, at: usize, piece: &[u8])
         requires there { HasPage self.old number }
-        requires within { at + length piece.now ≤ 4096 }
-        ensures bytes { (place : ℕ) → byte_at self.new place ≡ overlaid (byte_at self.old) (number * 4096 + at) piece.now place }
+        requires within { at + length piece.now ≤ page_size }
+        ensures bytes { (place : ℕ) → byte_at self.new place ≡ overlaid (byte_at self.old) (number * page_size + at) piece.now place }
         ensures kept { KeepsPages self.old self.new }
     {
         match place_of(&self.pages, number) {
@@ -90,8 +90,8 @@ impl Pages {
     // Puts a piece over the page at this place.
     fn put_at(&mut self, number: u64, place: usize, at: usize, piece: &[u8])
         requires there { IsAt self.old number place }
-        requires within { at + length piece.now ≤ 4096 }
-        ensures bytes { (i : ℕ) → byte_at self.new i ≡ overlaid (byte_at self.old) (number * 4096 + at) piece.now i }
+        requires within { at + length piece.now ≤ page_size }
+        ensures bytes { (i : ℕ) → byte_at self.new i ≡ overlaid (byte_at self.old) (number * page_size + at) piece.now i }
         ensures kept { KeepsPages self.old self.new }
     {
         let entry = &mut self.pages[place];
@@ -103,7 +103,7 @@ impl Pages {
     pub(crate) fn cut(&mut self, end: u64)
         requires { end ≤ 2 ^ 26 }
         ensures bytes { (place : ℕ) → byte_at self.new place ≡ below (byte_at self.old) end place }
-        ensures kept { (number : ℕ) → number * 4096 < end → HasPage self.old number → HasPage self.new number }
+        ensures kept { (number : ℕ) → number * page_size < end → HasPage self.old number → HasPage self.new number }
     {
         let number = end / PAGE as u64;
         let at = (end % PAGE as u64) as usize;
@@ -117,8 +117,8 @@ impl Pages {
 
     // Puts zeros from this place of a page on, where it is there.
     fn clear_from(&mut self, number: u64, at: usize)
-        requires { at ≤ 4096 }
-        ensures bytes { (place : ℕ) → byte_at self.new place ≡ overlaid (byte_at self.old) (number * 4096 + at) (replicate (4096 - at) 0) place }
+        requires { at ≤ page_size }
+        ensures bytes { (place : ℕ) → byte_at self.new place ≡ overlaid (byte_at self.old) (number * page_size + at) (replicate (page_size - at) 0) place }
         ensures kept { KeepsPages self.old self.new }
     {
         match place_of(&self.pages, number) {

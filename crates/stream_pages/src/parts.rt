@@ -2,7 +2,7 @@
 
 ghost use Rattle.std.specs.Prelude.{◌≡◌, ◌≤◌, ◌+◌, ◌%◌, ◌^◌};
 ghost use Rattle.std.specs.Iterator.{YieldsFirstBy, item_count};
-ghost use Rattle.stream_pages.specs.Pages.{byte_at, bytes_from};
+ghost use Rattle.stream_pages.specs.Pages.{byte_at, bytes_from, page_size};
 ghost use Rattle.stream_pages.specs.Streams.{parts_of};
 
 use crate::page::{PAGE, zeros};
@@ -61,7 +61,7 @@ impl<'a> Iterator for Parts<'a> {
 
 // So many bytes of one page.
 fn part_of<'a>(pages: &'a Pages, at: u64, count: usize) -> &'a [u8]
-    requires { at % 4096 + count ≤ 4096 }
+    requires { at % page_size + count ≤ page_size }
     ensures { result.now ≡ bytes_from (byte_at pages.now) at count }
 {
     let size = PAGE as u64;
