@@ -1,6 +1,6 @@
 //! The calls that each client of a script is to make.
 ghost use Rattle.std.specs.Prelude.{◌≡◌, ℕ, ◌-◌, ◌≤◌, ◌<◌, ◌^◌, ◌==◌, [], ◌∷◌, ◌++◌, filter, length, slice_get, Some, IfOk, vec_len};
-ghost use Rattle.fsa_model.specs.Bounds.{most_line_feeds};
+ghost use Rattle.fsa_model.specs.Bounds.{most_client_lines, most_line_feeds};
 ghost use Rattle.fsa_model.specs.Schedule.{leave_after};
 ghost use Rattle.history_laws.specs.Races.{own_calls};
 ghost use Rattle.script_read.specs.ScriptView.{contents};
@@ -44,7 +44,7 @@ pub(crate) fn all_client_calls(
     script: &Script,
 ) -> Result<Vec<VecDeque<Call>>, NoMemory>
     requires lines { length (contents script.now).lines ≤ most_line_feeds }
-    requires clients { length (contents script.now).setup.clients ≤ 64 }
+    requires clients { length (contents script.now).setup.clients ≤ most_client_lines }
     ensures one_each { IfOk result (λ all. vec_len all ≡ length (contents script.now).setup.clients) }
     ensures calls { IfOk result (λ all. (i : ℕ) (calls : _) → slice_get all.items i ≡ Some calls → calls.items ≡ own_calls (contents script.now) i) }
 {

@@ -18,7 +18,7 @@ use Rattle.fsa_model.specs.Waiting.{blocker_lives, has_ended, is_held, is_pendin
 
 -- ---- numbers
 
--- numbers are left for one turn more than a history has entries
+-- numbers are left for one turn more than a history may have entries
 abbrev pub most_turns : ℕ
 most_turns = most_entries + 1
 

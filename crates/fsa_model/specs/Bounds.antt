@@ -1,5 +1,6 @@
 -- The numbers that bound a history, a script and a reparse point.
-use Rattle.std.specs.Prelude.{ℕ}
+use Rattle.std.specs.Prelude.{ℕ, ◌-◌}
+use Rattle.fsa_types.specs.Request.{most_bytes}
 
 -- the most entries of a history
 abbrev pub most_entries : ℕ
@@ -13,6 +14,6 @@ most_line_feeds = 40000
 abbrev pub most_client_lines : ℕ
 most_client_lines = 64
 
--- the most bytes of a reparse point: those of its buffer, 16,384, without the eight of the buffer's header
+-- the most bytes of a reparse point: those of its buffer without the eight of the buffer's header
 abbrev pub most_point_bytes : ℕ
-most_point_bytes = 16376
+most_point_bytes = most_bytes - 8

@@ -48,13 +48,14 @@ text_text units = 32 ∷ 61 ∷ flat_map unit_text units
 abbrev pub byte_text : ℕ → List ℕ
 byte_text byte = glyph (byte / 16) ∷ glyph (byte % 16) ∷ []
 
--- bytes in two digits each, and these behind `x`
+-- bytes in two digits each
 abbrev pub hex_digits : List ℕ → List ℕ
 hex_digits bytes = flat_map byte_text bytes
 
+-- these digits behind `x`
 abbrev pub bytes_text : List ℕ → List ℕ
 bytes_text bytes = 120 ∷ hex_digits bytes
 
--- them, as a field
+-- bytes behind `x`, as a field
 abbrev pub string_text : List ℕ → List ℕ
 string_text bytes = 32 ∷ bytes_text bytes

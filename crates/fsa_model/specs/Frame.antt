@@ -84,7 +84,7 @@ pub record IsBare (body : Body) : Type 0 where
 abbrev pub is_failure : Status → Bool
 is_failure status = nat_le 0x80000000 (status_code status)
 
--- reparse points are no longer than they may be
+-- each reparse point has at most most_point_bytes
 abbrev pub PointsFit : Volume → Type 0
 PointsFit v = All (λ entry. PointFits entry.1) v.files
 

@@ -3,6 +3,7 @@
 use Rattle.std.specs.Prelude.{ℕ, zero, suc, ◌+◌, ◌==◌, ◌||◌, ◌&&◌, Bool, true, nat_le, List, [], ◌∷◌, ◌++◌, Option, Some, None, Result, Ok, Err, if◌then◌else◌, length, drop, codes, nat_eq}
 use Rattle.std.specs.Option.{option_map_or}
 use Rattle.std.specs.List.{before_first, flat_map, list_all, position_or_len, starts_with}
+pub use Rattle.fsa_types.specs.Request.{most_aces}
 use Rattle.fsa_types.specs.BoundedList.{full}
 use Rattle.fsa_types.specs.declared.request.Ace.{Ace}
 use Rattle.fsa_types.specs.declared.request.DaclChange.{DaclChange}
@@ -133,10 +134,6 @@ unfoldable pub aces_of : ℕ → List ℕ → Result (List Ace) Kind
 aces_of zero bytes = only_if (length bytes == 0) []
 aces_of (suc most) [] = Ok []
 aces_of (suc most) (comma ∷ bytes) = if comma == 44 then ace_of (before_comma bytes) >>= (λ ace. ace_onto ace (aces_of most (after_entry bytes))) else Err BadSyntax
-
--- the entries of an access list go up to here
-abbrev pub most_aces : ℕ
-most_aces = 32
 
 -- `keep`, `null`, or `acl` and entries
 unfoldable pub dacl_of : List ℕ → Result DaclChange Kind

@@ -10,8 +10,8 @@ use Rattle.fsa_types.specs.Rows.{row_of}
 use Rattle.fsa_model.specs.Lookups.{access_time, bytes_of, creation_time, stream_of, write_time}
 use Rattle.fsa_model.specs.Volume.{File, Volume}
 
--- the attributes that are kept, with DIRECTORY for a directory and FILE_ATTRIBUTE_REPARSE_POINT where there is a reparse point;
--- NORMAL where none is left
+-- the attributes that are kept, with DIRECTORY for a directory and FILE_ATTRIBUTE_REPARSE_POINT where there is a reparse
+-- point; NORMAL where none is left
 abbrev pub all_attributes : File → ℕ
 all_attributes file =
     bit_or (bit_or file.attributes (if file.directory then DIRECTORY else 0)) (if is_some file.point then FILE_ATTRIBUTE_REPARSE_POINT else 0)

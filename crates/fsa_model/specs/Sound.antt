@@ -125,7 +125,7 @@ pub record IsSound (v : Volume) : Type 0 where
   pub oplocks : AreOplocks v.oplocks v.last_break
   -- what blocks a call is a lock or a break whose number was given
   pub blockers_given : All (λ entry. All (IsGiven v.last_lock v.last_break) entry.1.blockers) v.pending
-  -- a stream has at most 2^26 bytes, and a reparse point at most 16,376
+  -- a stream has at most 2^26 bytes, and a reparse point at most most_point_bytes
   pub streams_fit : All (λ entry. length entry.1.bytes ≤ 2 ^ 26) v.streams
   pub points_fit : All (λ entry. PointFits entry.1) v.files
   pub bounded : AreBounded v

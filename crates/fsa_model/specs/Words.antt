@@ -121,10 +121,10 @@ written_bytes (high ∷ low ∷ digits) =
     then onto (digit_of high * 16 + digit_of low) (written_bytes digits)
     else Err BadSyntax
 
--- `x` and at most 16,384 bytes
+-- `x` and at most most_bytes bytes, two digits each
 unfoldable pub string_of : List ℕ → Result (List ℕ) Kind
 string_of [] = Err BadSyntax
-string_of (byte ∷ digits) = if byte == 120 && nat_le (length digits) 32768 then written_bytes digits else Err BadSyntax
+string_of (byte ∷ digits) = if byte == 120 && nat_le (length digits) (2 * most_bytes) then written_bytes digits else Err BadSyntax
 
 unfoldable pub string_at : List ℕ → Result (List ℕ × List ℕ) Kind
 string_at bytes = do

@@ -2,6 +2,7 @@
 
 ghost use Rattle.std.specs.Prelude.{◌≡◌, ◌≤◌, ◌<◌, ◌+◌, ◌^◌, ℕ, Some, None, IfOk, IfSome, IfNone, length, not, ◌&&◌, nat_lt, slice_get, slice_index_or, slice_set, if◌then◌else◌};
 ghost use Rattle.fsa_types.specs.declared.request.Call.{Call};
+ghost use Rattle.fsa_model.specs.Bounds.{most_client_lines};
 ghost use Rattle.fsa_model.specs.History.{Run, run};
 ghost use Rattle.fsa_model.specs.Schedule.{all_calls, next};
 ghost use Rattle.fsa_model.specs.Waiting.{waits};
@@ -86,7 +87,7 @@ impl Order {
 
     // The least cursor of a client that doesn't wait.
     fn least_place(&self, machine: &VolumeMachine) -> usize
-        requires few { length self.now.places.items ≤ 64 }
+        requires few { length self.now.places.items ≤ most_client_lines }
         requires sum { length self.now.following.items + length self.now.places.items < 2 ^ 32 }
         ensures { (r : Run) → run machine.now.setup machine.now.entries ≡ Some r → IsLeastCursor (λ client. waits r.volume client) self.now.places.items (length self.now.places.items) (length self.now.following.items + length self.now.places.items) result }
     {

@@ -1,6 +1,6 @@
--- The bits of masks, the actions of changes and the tags of reparse points by the standard's names. Those of rights,
--- sharing, options and attributes stand without their first word (FILE_, FILE_SHARE_, FILE_ATTRIBUTE_) where nothing
--- else has the name.
+-- The bits of masks, the actions of changes and the tags of reparse points by the standard's names. The single rights,
+-- what is shared and options stand without FILE_, and attributes without FILE_ATTRIBUTE_, but for
+-- FILE_ATTRIBUTE_REPARSE_POINT, which no request may ask for.
 use Rattle.std.specs.Prelude.{ℕ, List, [], ◌∷◌, fold}
 use Rattle.std.specs.Int.RustNames.{bit_or}
 

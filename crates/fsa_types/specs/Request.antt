@@ -17,7 +17,7 @@ most_bytes = 16384
 abbrev pub most_aces : ℕ
 most_aces = 32
 
--- an access list that is put has no more entries than it may
+-- an access list that is put has at most most_aces entries
 abbrev pub dacl_fits : DaclChange → Bool
 dacl_fits (Put dacl) = nat_le (length dacl.items) most_aces
 dacl_fits _ = true
@@ -27,7 +27,7 @@ abbrev pub level_fits : Level → Bool
 level_fits Nil = false
 level_fits _ = true
 
--- counts, rooms and bytes are no more than they may be
+-- counts, rooms and bytes are at most most_bytes
 abbrev pub request_fits : Request → Bool
 request_fits (Read handle at count) = nat_le count most_bytes
 request_fits (Write handle at bytes) = nat_le (length bytes) most_bytes

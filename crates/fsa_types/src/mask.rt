@@ -1,5 +1,6 @@
-//! The masks of requests and replies, as sets of named bits. Their names are the standard's without the first word,
-//! which the type says: FILE_, FILE_SHARE_, FILE_ATTRIBUTE_ or FILE_NOTIFY_CHANGE_.
+//! The masks of requests and replies, as sets of named bits. Their names are the standard's without the beginning that
+//! the type says, where they have it: FILE_, FILE_SHARE_, FILE_ATTRIBUTE_ or FILE_NOTIFY_CHANGE_. Constants have whole
+//! names.
 
 ghost use Rattle.std.specs.Prelude.{⊤, [], ◌∷◌, codes};
 

@@ -1,6 +1,6 @@
 -- What is said of the answers to one client's calls, case by case; what a line can ask; and how a call stands in a
 -- history.
-use Rattle.std.specs.Prelude.{◌≡◌, ℕ, true, List, Option, Some, IsTrue, find, option_map}
+use Rattle.std.specs.Prelude.{◌≡◌, ℕ, true, List, Some, IsTrue, find, option_map}
 use Rattle.fsa_types.specs.Request.{what_fits}
 use Rattle.fsa_types.specs.declared.reply.Answer.{Answer}
 use Rattle.fsa_types.specs.declared.reply.Poll.{Poll}

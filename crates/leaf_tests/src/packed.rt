@@ -2,7 +2,7 @@
 //! written.
 
 use bitflags::Flags;
-use fsa_types::{ATTRIBUTE_REPARSE_POINT, DirKind, FileAttributes, Name, NoMemory};
+use fsa_types::{DirKind, FILE_ATTRIBUTE_REPARSE_POINT, FileAttributes, Name, NoMemory};
 use pack_info::{
     DirRow, StreamInfoRow, pack_basic, pack_entries, pack_internal, pack_reparse, pack_standard,
     pack_streams, pack_tag, read_reparse,
@@ -155,7 +155,7 @@ fn fixed_buffers(rt: HostRuntime) -> Result<(), Fail> {
     assert_eq!(rt; made.bytes(), expected.as_slice());
     let made = pack_internal(rt.alloc(), 0x0102)?;
     assert_eq!(rt; made.bytes(), [2, 1, 0, 0, 0, 0, 0, 0].as_slice());
-    let attributes = FileAttributes::ARCHIVE.bits() | ATTRIBUTE_REPARSE_POINT;
+    let attributes = FileAttributes::ARCHIVE.bits() | FILE_ATTRIBUTE_REPARSE_POINT;
     let made = pack_tag(rt.alloc(), attributes, 0x8000_0005)?;
     assert_eq!(rt; made.bytes(), [0x20, 4, 0, 0, 5, 0, 0, 0x80].as_slice());
     Ok(())

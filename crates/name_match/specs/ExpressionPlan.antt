@@ -1,6 +1,7 @@
 -- Which plan an expression has: the straight way, where there is one.
 use Rattle.std.specs.Prelude.{ℕ, ◌≤◌, ◌≡◌, ◌==◌, List, [], ◌∷◌, length, if◌then◌else◌}
 use Rattle.std.specs.List.{list_all}
+use Rattle.fsa_types.specs.Paths.{most_name_units}
 use Rattle.name_match.specs.Plan.{is_literal}
 use Rattle.name_match.specs.declared.plan.Plan.{Plan}
 use Rattle.name_match.specs.declared.plan.Plan.TheVariants.{Every, Literal, Suffix, Ends}
@@ -17,7 +18,7 @@ abbrev pub plan_of : List ℕ → Plan
 plan_of [] = Literal
 plan_of (unit ∷ units) = if list_all is_literal units then plan_before_literals unit units else Ends
 
--- an expression has at most 255 units, and the plan for them
+-- an expression has at most most_name_units units, and the plan for them
 pub record IsExpression (units : List ℕ) (plan : Plan) : Type 0 where
-  pub short : length units ≤ 255
+  pub short : length units ≤ most_name_units
   pub planned : plan ≡ plan_of units

@@ -7,6 +7,7 @@ ghost use Rattle.std.specs.Prelude.{◌≡◌, ◌==◌, ◌≤◌, ◌<◌, [],
 ghost use Rattle.std.specs.List.{list_any};
 ghost use Rattle.fsa_types.specs.CaseTable.{up};
 ghost use Rattle.fsa_types.specs.Match.{matches, sign_of, is_dot, is_last_dot};
+ghost use Rattle.fsa_types.specs.Paths.{most_name_units};
 ghost use Rattle.name_match.specs.Ends.{AreEnds, BeginsUpcased, IsDead, cell, cell_of_empty};
 
 use crate::signs::{DOS_DOT, DOS_QM, DOS_STAR, DOT, QUESTION_MARK, STAR};
@@ -34,7 +35,7 @@ struct Around {
 
 /// Whether an expression of at most 255 units matches a name.
 pub(crate) fn matches_by_ends(table: &UpcaseTable, expression: &[u16], name: &[u16]) -> bool
-    requires { length expression.now ≤ 255 }
+    requires { length expression.now ≤ most_name_units }
     ensures { result ≡ matches table.now expression.now name.now }
 {
     let mut upcased = [0; 255];
@@ -61,7 +62,7 @@ pub(crate) fn matches_by_ends(table: &UpcaseTable, expression: &[u16], name: &[u
 
 // Puts the units, upcased, at the front of a row.
 fn upcase(upcased: &mut [u16; 255], table: &UpcaseTable, units: &[u16])
-    requires { length units.now ≤ 255 }
+    requires { length units.now ≤ most_name_units }
     ensures { BeginsUpcased table.now units.now upcased.new }
 {
     for (place, unit) in units.iter().enumerate() {
@@ -71,7 +72,7 @@ fn upcase(upcased: &mut [u16; 255], table: &UpcaseTable, units: &[u16])
 
 // Makes the row for the empty name.
 fn read_end(row: &mut [bool; 256], table: &UpcaseTable, expression: &[u16])
-    requires { length expression.now ≤ 255 }
+    requires { length expression.now ≤ most_name_units }
     ensures { AreEnds table.now expression.now [] row.new }
 {
     row[expression.len()] = true;
@@ -90,7 +91,7 @@ fn read_unit(
     name: &[u16],
     dot_follows: bool,
 ) -> bool
-    requires short { length expression.now ≤ 255 }
+    requires short { length expression.now ≤ most_name_units }
     requires upcased { BeginsUpcased table.now expression.now upcased.now }
     requires unit { 0 < length name.now }
     requires dot { dot_follows ≡ list_any is_dot (drop 1 name.now) }

@@ -1,4 +1,4 @@
-//! The units of an expression that stand for others.
+//! The units of an expression that stand for others, and those that no expression has.
 
 ghost use Rattle.std.specs.Prelude.{◌≡◌};
 ghost use Rattle.name_match.specs.Plan.{is_literal};
@@ -16,15 +16,15 @@ pub(crate) const DOS_QM: u16 = 62;
 pub(crate) const DOS_DOT: u16 = 34;
 /// `.`.
 pub(crate) const DOT: u16 = 46;
-
+/// A space.
 const SPACE: u16 = 32;
-
+/// `\`.
 const BACKSLASH: u16 = 92;
-
+/// `/`.
 const SLASH: u16 = 47;
-
+/// `:`.
 const COLON: u16 = 58;
-
+/// `|`.
 const BAR: u16 = 124;
 
 // Whether a unit stands for itself.

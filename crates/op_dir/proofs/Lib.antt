@@ -1,3 +1,4 @@
 pub mod FitLaws
 pub mod PlaceLaws
+pub mod SizeLaws
 pub mod WatchLaws

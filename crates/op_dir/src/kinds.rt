@@ -6,18 +6,15 @@ ghost use Rattle.fsa_types.specs.Packing.{head_size};
 ghost use Rattle.op_dir.specs.Filling.{padded};
 
 use fsa_types::DirKind;
+use pack_info::{pack_kind, size_of_head};
 
 /// The bytes of an entry before its name.
+#[tactic(auto, using(crate::proofs::SizeLaws::head_few))]
 pub(crate) fn head_size(kind: DirKind) -> u32
     ensures size { result ≡ head_size (pack_kind kind) }
     ensures some { 12 ≤ result }
 {
-    match kind {
-        DirKind::Names => 12,
-        DirKind::Dir => 64,
-        DirKind::Full => 68,
-        DirKind::IdFull => 80,
-    }
+    size_of_head(pack_kind(kind)) as u32
 }
 
 // The bytes that an entry takes with its padding, where its name has so many units.

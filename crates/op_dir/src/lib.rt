@@ -16,8 +16,8 @@
 //! let reply = report(alloc, &mut volume, handle, room)?;         // of one that is pending, once something is due
 //! ```
 //!
-//! The definitions are `QueryDir` of `fsa_model`, with `ShownNumbers` for what an entry tells of its file, and `Watching`.
-//! The files here follow them: the expression and the cursor with which a query begins (`begun`), the entries that
+//! The definitions are `QueryDir` of `fsa_model`, with `ShownNumbers` for what an entry tells of its file, and
+//! `Watching`. The files here follow them: the expression and the cursor with which a query begins (`begun`), the entries that
 //! are still to come (`places`), what is shown of them (`rows`), as many as fit into the room (`listing`),
 //! and the checks in order (`query_dir`); and a Notify with its report (`notify`).
 //!

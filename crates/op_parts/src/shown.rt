@@ -37,8 +37,8 @@ fn all_attributes(file: &FileRow) -> u32
     file.attributes | directory_bit(file.directory) | point_bit(file.point.is_some())
 }
 
-/// The attributes of a file, with DIRECTORY for a directory and FILE_ATTRIBUTE_REPARSE_POINT where there is a reparse point;
-/// NORMAL where none is left, or where there is no such file.
+/// The attributes of a file, with DIRECTORY for a directory and FILE_ATTRIBUTE_REPARSE_POINT where there is a reparse
+/// point; NORMAL where none is left, or where there is no such file.
 pub fn shown_attributes(volume: &Volume, file: u64) -> u32
     ensures { result ≡ shown_attributes volume.now.content file }
 {

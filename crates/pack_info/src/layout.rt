@@ -94,8 +94,8 @@ pub(crate) fn numbers_fit(n: &Numbers)
     fits_eight(n.file);
 }
 
-// The number of bytes before the name.
-pub(crate) fn size_of_head(kind: PackKind) -> usize
+/// The bytes of an entry before its name, from 12 to 80.
+pub fn size_of_head(kind: PackKind) -> usize
     ensures { result ≡ head_size kind }
 {
     match kind {

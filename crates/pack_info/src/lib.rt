@@ -12,8 +12,9 @@
 //!
 //! The calls: [`pack_changes`], [`pack_entries`] and [`pack_streams`] write entries, and
 //! [`NotifyEntries`], [`DirEntries`] and [`StreamEntries`] walk them; [`pack_kind`] is the layout of
-//! a directory's entries; [`pack_basic`], [`pack_standard`], [`pack_internal`] and [`pack_tag`] write
-//! one fixed buffer each; [`pack_reparse`] and [`read_reparse`] are for reparse points.
+//! a directory's entries, and [`size_of_head`] what an entry takes before its name; [`pack_basic`],
+//! [`pack_standard`], [`pack_internal`] and [`pack_tag`] write one fixed buffer each;
+//! [`pack_reparse`] and [`read_reparse`] are for reparse points.
 //!
 //! A walk asks nothing of the bytes. What it gives is what the layout has at that place, and what no
 //! entry begins is [`Malformed`] there; a walk goes no further then.
@@ -33,6 +34,7 @@ mod tail;
 mod walk;
 
 pub use fixed::{pack_basic, pack_internal, pack_reparse, pack_standard, pack_tag, read_reparse};
+pub use layout::size_of_head;
 pub use pack::{pack_changes, pack_entries, pack_kind, pack_streams};
 pub use rows::{ChangeRow, DirRow, StreamInfoRow};
 pub use walk::{DirEntries, Malformed, NotifyEntries, PackedEntry, StreamEntries};

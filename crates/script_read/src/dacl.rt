@@ -94,7 +94,7 @@ fn comma_count(bytes: &[u8]) -> usize
 
 // How many entries to make room for.
 fn room_for(bytes: &[u8]) -> u32
-    ensures { result ≡ min (count_by (λ byte. byte == 44) bytes.now) 32 }
+    ensures { result ≡ min (count_by (λ byte. byte == 44) bytes.now) most_aces }
 {
     comma_count(bytes).min(MOST_ACES) as u32
 }

@@ -82,7 +82,8 @@ impl Reading {
         }
     }
 
-    // That nothing follows the last line feed, and that there is a client; or the fault of this line.
+    // Whether a script may end so: nothing follows the last line feed, and there is a client. Else the fault of the line
+    // with this number.
     #[tactic(auto, unfolding(fsa_model::specs::Script::end_after))]
     fn ends(&self, line: u32, rest: &[u8]) -> Result<(), ReadFault>
         ensures ok { OnOk result (end_after line (reading_of self.now) rest.now ≡ Ok (reading_of self.now).script) }
@@ -99,7 +100,7 @@ impl Reading {
         Ok(())
     }
 
-    // The script that was read, with the case table that was read.
+    // The script that was read. The table is the one that it has.
     fn into_script(self, table: UpcaseTable) -> Script
         requires { table ≡ (reading_of self).script.setup.table }
         ensures { contents result ≡ (reading_of self).script }

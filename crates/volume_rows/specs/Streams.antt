@@ -4,7 +4,7 @@ use Rattle.fsa_types.specs.Rows.{with_row_changed}
 use Rattle.fsa_model.specs.Volume.{Stream}
 use Rattle.stream_pages.specs.Streams.{StreamRoom}
 
--- its row: the stream, and the room
+-- the row of a stream: the stream, and the room for its bytes
 pub record StreamRowView : Type 0 where
   pub stream : Stream
   pub room : StreamRoom

@@ -3,7 +3,7 @@ use Rattle.std.specs.Prelude.{ℕ, List, ◌≤◌, ◌+◌}
 use Rattle.std.specs.Option.{option_map_or, ForSome}
 use Rattle.fsa_types.specs.Rows.{row_of}
 use Rattle.fsa_model.specs.Volume.{Volume}
-use Rattle.stream_pages.specs.Streams.{StreamRoom}
+use Rattle.stream_pages.specs.Streams.{IsReserved, StreamRoom}
 
 -- the number of all changes that stand before the first one that is kept, and the breaks that the
 -- last `begin` waits for
@@ -43,7 +43,7 @@ pub record Spare : Type 0 where
 -- bytes can be written from `at` on, so many, without taking memory
 abbrev pub CanWrite : Spare → ℕ → ℕ → ℕ → Type 0
 CanWrite spare stream at count =
-    ForSome (row_of spare.bytes stream) (λ room. (room.from ≤ at) × (at + count ≤ room.to))
+    ForSome (row_of spare.bytes stream) (λ room. IsReserved room at count)
 
 -- the stream can be made so long without taking memory
 abbrev pub CanReach : Spare → ℕ → ℕ → Type 0

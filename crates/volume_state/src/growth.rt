@@ -2,7 +2,7 @@
 
 ghost use Rattle.std.specs.Prelude.{ℕ, ◌≡◌, ◌<◌, ◌+◌, ◌*◌, ◌^◌, length, sum_by, option_map, IfOk, IfSome, IfNone, IsSome};
 ghost use Rattle.fsa_types.specs.Rows.{row_of};
-ghost use Rattle.fsa_types.specs.Clusters.{clusters_for};
+ghost use Rattle.fsa_types.specs.Clusters.{cluster_size, clusters_for};
 ghost use Rattle.fsa_model.specs.Charge.{charge, charge_of_file, clusters, limit};
 ghost use Rattle.tallies.specs.Charges.{sum_of};
 ghost use Rattle.volume_rows.specs.Streams.{streams_in};
@@ -125,7 +125,7 @@ pub(crate) fn resize(space: &mut SpaceTally, part: Option<(u32, u64)>, after: u6
 pub(crate) fn hand_over(space: &mut SpaceTally, part: Option<(u32, u64)>, to: u32)
     requires from { IfSome part (λ p. MayResize space.old p.0 p.1 0) }
     requires to { IsSome (row_of space.old.sums to) }
-    requires fits { IfSome part (λ p. sum_of space.old.sums to + 4096 * p.1 < 2 ^ 64) }
+    requires fits { IfSome part (λ p. sum_of space.old.sums to + cluster_size * p.1 < 2 ^ 64) }
     ensures some { IfSome part (λ p. HandsOver space.old space.new p.0 to p.1) }
     ensures none { IfNone part (space.new ≡ space.old) }
     ensures room { space.new.room ≡ space.old.room }
