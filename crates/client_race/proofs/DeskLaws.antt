@@ -19,7 +19,7 @@ use Rattle.shared_volume.specs.Shared.{Known, Submits}
 use Rattle.history_laws.specs.CallAnswers.{EndedWithList, HasEnded, IfBusy, IfDid, IfDone, IfRefused, OnBusy, OnNoMemory, OnPending, Pends}
 use Rattle.shared_volume.proofs.HistoryLaws.{numbered-differ}
 use Rattle.client_run.specs.Calls.{calls_in}
-use Rattle.client_run.specs.Desks.{Asks, OnlySees, SeesHistory}
+use Rattle.client_run.specs.Desks.{Asks, DeskOnlySees, SeesHistory}
 use Rattle.client_run.specs.ClientHistory.{IsRunOfDistinctCalls}
 use Rattle.client_race.specs.Passes.{shown_by}
 
@@ -43,7 +43,7 @@ asks setup what number answer v w s =
       lost = omega arith;
     }
 
-pub sees_refreshed : (setup : Setup) (v w : Known) → Refreshed v w → OnlySees (shown_by setup v) (shown_by setup w)
+pub sees_refreshed : (setup : Setup) (v w : Known) → Refreshed v w → DeskOnlySees (shown_by setup v) (shown_by setup w)
 sees_refreshed setup v w r =
     let loads : w.loads ≡ v.loads + 1 = ap (λ (z : Known). z.loads) r.view in
     let lost : w.lost ≡ v.lost = ap (λ (z : Known). z.lost) r.view in record {
@@ -58,7 +58,7 @@ sees_refreshed setup v w r =
 pub loads_rose : (v w : Known) → Refreshed v w → v.loads + 1 ≤ w.loads
 loads_rose v w r = (let loads : w.loads ≡ v.loads + 1 = ap (λ (z : Known). z.loads) r.view in omega arith)
 
-pub sees_beaten : (setup : Setup) (v w : Known) → w ≡ beaten v → OnlySees (shown_by setup v) (shown_by setup w)
+pub sees_beaten : (setup : Setup) (v w : Known) → w ≡ beaten v → DeskOnlySees (shown_by setup v) (shown_by setup w)
 sees_beaten setup v w is =
     let seen : w.own.seen ≡ v.own.seen = ap (λ (z : Known). z.own.seen) is in
     let loads : w.loads ≡ v.loads = ap (λ (z : Known). z.loads) is in
@@ -95,13 +95,13 @@ did_asks setup what v w (Busy back) did = tt
 did_asks setup what v w (Refused back why) did = tt
 
 pub busy_sees : (setup : Setup) (what : What) (clients : ℕ) (v w : Known) (result : Submitted) → IfBusy result (λ back. (back ≡ what) × (w ≡ beaten v) × (1 < clients))
-    → IfBusy result (λ back. (back ≡ what) × OnlySees (shown_by setup v) (shown_by setup w) × (v.lost + 1 ≤ w.lost))
+    → IfBusy result (λ back. (back ≡ what) × DeskOnlySees (shown_by setup v) (shown_by setup w) × (v.lost + 1 ≤ w.lost))
 busy_sees setup what clients v w (Did number answer) busy = tt
 busy_sees setup what clients v w (Busy back) busy = (busy.0, sees_beaten setup v w busy.1, lost_rose v w busy.1)
 busy_sees setup what clients v w (Refused back why) busy = tt
 
 pub refused_sees : (setup : Setup) (what : What) (v w : Known) (result : Submitted) → IfRefused result (λ back why. (back ≡ what) × Refreshed v w × MayRefuse w.own.seen why)
-    → IfRefused result (λ back why. (back ≡ what) × OnlySees (shown_by setup v) (shown_by setup w) × (why ≡ HistoryFull → length w.own.seen ≡ most_entries))
+    → IfRefused result (λ back why. (back ≡ what) × DeskOnlySees (shown_by setup v) (shown_by setup w) × (why ≡ HistoryFull → length w.own.seen ≡ most_entries))
 refused_sees setup what v w (Did number answer) refused = tt
 refused_sees setup what v w (Busy back) refused = tt
 refused_sees setup what v w (Refused back why) refused = (refused.0, sees_refreshed setup v w refused.1, full_at w.own.seen why refused.2)
@@ -113,7 +113,7 @@ pub record Polled (setup : Setup) (clients number : ℕ) (v w : Known) (result :
   pub busy : OnBusy result ((w ≡ beaten v) × (1 < clients))
   pub no_memory : OnNoMemory result (Refreshed v w × EndedWithList setup w.own.seen w.own.client number)
 
-pub polled_sees : (setup : Setup) (clients number : ℕ) (v w : Known) (result : Poll) → Polled setup clients number v w result → OnlySees (shown_by setup v) (shown_by setup w)
+pub polled_sees : (setup : Setup) (clients number : ℕ) (v w : Known) (result : Poll) → Polled setup clients number v w result → DeskOnlySees (shown_by setup v) (shown_by setup w)
 polled_sees setup clients number v w (Done reply) p = sees_refreshed setup v w p.done.0
 polled_sees setup clients number v w Pending p = sees_refreshed setup v w p.pending.0
 polled_sees setup clients number v w Unknown p = sees_beaten setup v w p.busy.0

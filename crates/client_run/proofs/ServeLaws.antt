@@ -15,7 +15,7 @@ use Rattle.history_lock.proofs.Places.{calls_by-own, given_below, given_longer}
 use Rattle.client_run.specs.declared.run.ClientRun.{ClientRun}
 use Rattle.history_laws.specs.CallAnswers.{CanAsk, HasEnded}
 use Rattle.client_run.specs.Calls.{HasLeft, IsLined, calls_in}
-use Rattle.client_run.specs.Desks.{Asks, DeskView, OnlySees, SeesHistory}
+use Rattle.client_run.specs.Desks.{Asks, DeskView, DeskOnlySees, SeesHistory}
 use Rattle.client_run.specs.Serving.{MakesNextCall, FitsDesk, holding, planned, todo_in}
 use Rattle.client_run.specs.ClientHistory.{IsOrderly, WaitsOnlyBy}
 use Rattle.client_run.proofs.Ordering.{at_front, last_same, none_added, orderly_did, orderly_more, orderly_none}
@@ -38,7 +38,7 @@ waited_later setup client by seen later whole is none differ waited s runs =
     only_later setup client by seen later s none (subst CallsDiffer is differ) first.0 first.1 (waited first.0 first.1) longer
 
 -- more was seen, and no call was made
-pub serves_on : (v w : DeskView) (client_run : ClientRun) → FitsDesk v client_run → OnlySees v w → SeesHistory w → FitsDesk w client_run
+pub serves_on : (v w : DeskView) (client_run : ClientRun) → FitsDesk v client_run → DeskOnlySees v w → SeesHistory w → FitsDesk w client_run
 serves_on v w client_run before sees history =
     let s : FitsDesk (moved v w) client_run = subst (λ (z : DeskView). FitsDesk z client_run) (moved_is v w sees.setup sees.client) before in
     let grown : calls_in w.client w.seen ≡ calls_in w.client v.seen = sym history.own ∙ (sees.made ∙ s.sees.own) in

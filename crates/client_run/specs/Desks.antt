@@ -20,7 +20,7 @@ pub record DeskView : Type 0 where
   pub lost : ℕ
 
 -- no call was made, and nothing is seen less; the two counts don't fall
-pub record OnlySees (v w : DeskView) : Type 0 where
+pub record DeskOnlySees (v w : DeskView) : Type 0 where
   pub setup : w.setup ≡ v.setup
   pub client : w.client ≡ v.client
   pub made : w.made ≡ v.made

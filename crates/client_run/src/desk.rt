@@ -3,7 +3,7 @@ ghost use Rattle.std.specs.Prelude.{◌≡◌, ℕ, ◌+◌, ◌≤◌, List, le
 ghost use Rattle.fsa_types.specs.declared.reply.Why.TheVariants.{HistoryFull};
 ghost use Rattle.fsa_model.specs.Bounds.{most_entries};
 ghost use Rattle.history_laws.specs.CallAnswers.{CanAsk, EndedWithList, HasEnded, IfBusy, IfDid, IfDone, IfRefused, OnBusy, OnNoMemory, OnPending, Pends};
-ghost use Rattle.client_run.specs.Desks.{Asks, DeskView, OnlySees, SeesHistory};
+ghost use Rattle.client_run.specs.Desks.{Asks, DeskView, DeskOnlySees, SeesHistory};
 
 use fsa_types::{Poll, Submitted, What};
 use std::alloc::Global;
@@ -37,8 +37,8 @@ pub trait Desk {
         ensures stays { stays self.old self.new }
         ensures history { SeesHistory (view self.new) }
         ensures did { IfDid result (λ number answer. Asks what number answer (view self.old) (view self.new)) }
-        ensures busy { IfBusy result (λ back. (back ≡ what) × OnlySees (view self.old) (view self.new) × ((view self.old).lost + 1 ≤ (view self.new).lost)) }
-        ensures refused { IfRefused result (λ back why. (back ≡ what) × OnlySees (view self.old) (view self.new) × (why ≡ HistoryFull → length (view self.new).seen ≡ most_entries)) };
+        ensures busy { IfBusy result (λ back. (back ≡ what) × DeskOnlySees (view self.old) (view self.new) × ((view self.old).lost + 1 ≤ (view self.new).lost)) }
+        ensures refused { IfRefused result (λ back why. (back ≡ what) × DeskOnlySees (view self.old) (view self.new) × (why ≡ HistoryFull → length (view self.new).seen ≡ most_entries)) };
 
     /// How the client's call of this number stands, which was made.
     ///
@@ -51,7 +51,7 @@ pub trait Desk {
         ensures open { is_open self.new }
         ensures stays { stays self.old self.new }
         ensures history { SeesHistory (view self.new) }
-        ensures sees { OnlySees (view self.old) (view self.new) }
+        ensures sees { DeskOnlySees (view self.old) (view self.new) }
         ensures done { IfDone result (λ reply. HasEnded (view self.new).setup (view self.new).seen (view self.new).client number reply) }
         ensures pending { OnPending result (Pends (view self.new).setup (view self.new).seen (view self.new).client number × ((view self.old).loads + 1 ≤ (view self.new).loads)) }
         ensures busy { OnBusy result ((view self.old).lost + 1 ≤ (view self.new).lost) }

@@ -15,7 +15,7 @@
 //!
 //! A `Desk` is where one client's calls are asked: a pass at a volume, or what stands in for one. What it shows
 //! of itself is one record (`DeskView`): the setup, the client, its calls made, the history that was seen, and two
-//! counts. What each call makes of that is said in the words of `Desks`: `Asks`, `OnlySees`, `SeesHistory`.
+//! counts. What each call makes of that is said in the words of `Desks`: `Asks`, `DeskOnlySees`, `SeesHistory`.
 //!
 //! A run and its desk go together (`FitsDesk`): the calls made are the first of the run's calls, each stands in the
 //! history seen where no wait of the client was pending, and none is pending but the one for which the run waits.

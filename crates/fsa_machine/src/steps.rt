@@ -1,4 +1,4 @@
-//! A counter of steps.
+//! A counter of steps, for those who count the tries of a turn; no run of the program does.
 
 ghost use Rattle.std.specs.Prelude.{◌≡◌, ◌<◌, ◌+◌, ◌-◌, ◌^◌, min};
 

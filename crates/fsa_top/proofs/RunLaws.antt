@@ -35,7 +35,7 @@ use Rattle.history_laws.proofs.WholeLaws.{Scheduled-goes_on, left_falls, some_ru
 use Rattle.fsa_machine.specs.MachineView.{MachineView}
 use Rattle.wire_io.specs.Sink.{Written, Appends, AppendsPart}
 use Rattle.wire_io.proofs.SinkLaws.{AppendsPart-longer, AppendsPart-whole}
-use Rattle.text_out.specs.Writes.{Adds, Finishes, Gathers, GivesUp}
+use Rattle.text_out.specs.Writes.{AddsText, Finishes, Gathers, GivesUp}
 use Rattle.text_out.proofs.GatherLaws.{Gathers-all, Gathers-append, Gathers-more, Gathers-more_part, Gathers-none, Gathers-part}
 use Rattle.text_out.specs.declared.write.TextFault.{TextFault}
 use Rattle.text_out.specs.declared.write.TextFault.TheVariants.{Failed, NoMemory}
@@ -208,7 +208,7 @@ WroteTurns-begun script history written gathered none empty =
 
 -- a turn was made, and its lines were added so
 pub MakesTurn-made : (old new : MachineView) (call : Call) (out : TurnOut) (before now : Written) (gathered gathered_now : List ℕ) (result : Result (Unit {0}) TextFault) → TurnWasMade old new call out
-    → Adds before now gathered gathered_now (turn_text old.setup.clients call out) result → MakesTurn old new call before now gathered gathered_now result
+    → AddsText before now gathered gathered_now (turn_text old.setup.clients call out) result → MakesTurn old new call before now gathered gathered_now result
 MakesTurn-made old new call out before now gathered gathered_now (Ok done) made wrote = (out, made, wrote)
 MakesTurn-made old new call out before now gathered gathered_now (Err Failed) made wrote = inl (out, made, wrote.0)
 MakesTurn-made old new call out before now gathered gathered_now (Err NoMemory) made wrote = wrote.0

@@ -10,7 +10,7 @@ use Rattle.fsa_model.proofs.HistoryLaws.{run-gives}
 use Rattle.fsa_model.proofs.RowLaws.{option_cases}
 use Rattle.wire_io.specs.Sink.{Written, Appends, AppendsPart}
 use Rattle.wire_io.proofs.SinkLaws.{AppendsPart-longer, AppendsPart-whole}
-use Rattle.text_out.specs.Writes.{Adds, Finishes, Gathers}
+use Rattle.text_out.specs.Writes.{AddsText, Finishes, Gathers}
 use Rattle.text_out.specs.declared.write.TextFault.{TextFault}
 use Rattle.text_out.specs.declared.write.TextFault.TheVariants.{Failed, NoMemory}
 use Rattle.text_out.proofs.GatherLaws.{Gathers-all, Gathers-append, Gathers-more, Gathers-more_part, Gathers-none}
@@ -65,12 +65,12 @@ text_is : (script : Script) (history : List HistoryEntry) (r : Run) → run scri
 text_is script history r runs = rw runs refl
 
 -- a part of the lines of one turn, behind those before it
-lines-part : (first mid now : Written) (gathered gathered_now front lines : List ℕ) (fault : TextFault) → 0 < length lines → Gathers first mid [] gathered front → Adds mid now gathered gathered_now lines (Err fault) → AppendsPart first now (front ++ lines)
+lines-part : (first mid now : Written) (gathered gathered_now front lines : List ℕ) (fault : TextFault) → 0 < length lines → Gathers first mid [] gathered front → AddsText mid now gathered gathered_now lines (Err fault) → AppendsPart first now (front ++ lines)
 lines-part first mid now gathered gathered_now front lines Failed some before part = Gathers-more_part first mid now [] gathered front lines before part.0
 lines-part first mid now gathered gathered_now front lines NoMemory some before put = AppendsPart-whole first now front lines some (Gathers-all first mid now [] gathered front before put.0)
 
 pub first-part : (script : Script) (history : List HistoryEntry) (turn : ℕ) (first mid now : Written) (gathered gathered_now : List ℕ) (fault : TextFault) → IsSome (run script.setup history) → ShowsFirst script history turn first mid gathered
-    → ShowsTurn script history turn (λ lines. Adds mid now gathered gathered_now lines (Err fault)) → AppendsPart first now (text script history)
+    → ShowsTurn script history turn (λ lines. AddsText mid now gathered gathered_now lines (Err fault)) → AppendsPart first now (text script history)
 first-part script history turn first mid now gathered gathered_now fault some before next =
     let r = some_run script history some in
     let clients : List Client = script.setup.clients in

@@ -8,7 +8,7 @@ ghost use Rattle.fsa_model.specs.Setup.{client_of};
 ghost use Rattle.fsa_model.specs.Text.{text, turn_text};
 ghost use Rattle.history_laws.specs.Named.{IsReadScript};
 ghost use Rattle.script_read.specs.ScriptView.{contents};
-ghost use Rattle.text_out.specs.Writes.{Adds, TellsFaults};
+ghost use Rattle.text_out.specs.Writes.{AddsText, TellsFaults};
 ghost use Rattle.wire_io.specs.Sink.{Appends, AppendsPart};
 ghost use Rattle.client_race.specs.Races.{CanRace};
 ghost use Rattle.fsa_top.specs.ShownTurns.{ShowsFirst, ShowsTurn};
@@ -35,7 +35,7 @@ fn add_turn<K: Sink>(
     requires setup { machine.now.setup ≡ (contents script.now).setup }
     requires runs { IsSome (run (contents script.now).setup machine.now.entries) }
     requires within { turn < length machine.now.entries }
-    ensures adds { ShowsTurn (contents script.now) machine.now.entries turn (λ lines. Adds (K.written sink.old) (K.written sink.new) buffer.old buffer.new lines result) }
+    ensures adds { ShowsTurn (contents script.now) machine.now.entries turn (λ lines. AddsText (K.written sink.old) (K.written sink.new) buffer.old buffer.new lines result) }
     ensures faults { TellsFaults (K.faults sink.old) (K.faults sink.new) (K.written sink.new).since_fault result }
 {
     buffer.add_turn(

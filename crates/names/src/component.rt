@@ -6,8 +6,8 @@ ghost use Rattle.names.specs.NameFault.{FindsFault};
 
 use crate::fault::NameFault;
 
-// How many units a component has at most.
-const MOST_UNITS: usize = 255;
+/// How many units a component or the name of a stream has at most.
+pub(crate) const MOST_NAME_UNITS: usize = 255;
 
 /// Whether the component whose first unit has this place in its path is sound, or else its first
 /// fault: `Empty`, `TooLong`, or `BadUnit` with the unit's place in the path. It takes time linear
@@ -19,7 +19,7 @@ pub(crate) fn check_component(place: usize, name: &[u16]) -> Result<(), NameFaul
     if name.is_empty() {
         return Err(NameFault::Empty);
     }
-    if name.len() > MOST_UNITS {
+    if name.len() > MOST_NAME_UNITS {
         return Err(NameFault::TooLong);
     }
     if is_dots(name) {

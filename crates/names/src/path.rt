@@ -14,7 +14,7 @@ use crate::unit_split::{COLON, SEPARATOR, before, split_once};
 use std::marker::Model;
 
 // How many units a path has at most.
-const MOST_UNITS: usize = 32_760;
+const MOST_PATH_UNITS: usize = 32_760;
 
 /// A path without a fault, seen as its units. What it gives is lent from them, and no call takes
 /// memory.
@@ -169,7 +169,7 @@ pub fn split_path<'a>(units: &'a [u16]) -> Result<PathParts<'a>, NameFault>
     ensures ok { IfOk result (λ parts. parts ≡ units.now) }
     ensures fault { FindsFault (path_fault units.now) result }
 {
-    if units.len() > MOST_UNITS {
+    if units.len() > MOST_PATH_UNITS {
         return Err(NameFault::TooLong);
     }
     let [SEPARATOR, rest @ ..] = units else {

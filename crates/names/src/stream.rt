@@ -6,11 +6,9 @@ ghost use Rattle.fsa_types.specs.CaseTable.{up, ascii_pairs};
 ghost use Rattle.fsa_types.specs.Paths.{is_colon, is_bad_stream, is_data, stream_fault};
 ghost use Rattle.names.specs.NameFault.{FindsFault};
 
+use crate::component::MOST_NAME_UNITS;
 use crate::fault::NameFault;
 use crate::unit_split::{COLON, split_once};
-
-// How many units the name of a stream has at most.
-const MOST_UNITS: usize = 255;
 
 // `$DATA`
 const DATA: [u16; 5] = [0x24, 0x44, 0x41, 0x54, 0x41];
@@ -39,11 +37,11 @@ pub(crate) fn check_stream(piece: &[u16]) -> Result<(), NameFault>
     Ok(())
 }
 
-// Whether the name of a stream has more than 255 units, or one that is 0 or `/`.
+// Whether the name of a stream has too many units, or one that is 0 or `/`.
 fn is_bad_stream(stream: &[u16]) -> bool
     ensures { result ≡ is_bad_stream stream.now }
 {
-    stream.len() > MOST_UNITS || has_bad_unit(stream)
+    stream.len() > MOST_NAME_UNITS || has_bad_unit(stream)
 }
 
 // Whether some unit is 0 or `/`.

@@ -4,7 +4,7 @@ use Rattle.fsa_types.specs.StreamBytes.{slice}
 use Rattle.fsa_types.specs.declared.reply.Blocker.{Blocker}
 use Rattle.fsa_model.specs.Lookups.{bytes_of, is_named_stream}
 use Rattle.fsa_model.specs.Volume.{Volume}
-use Rattle.op_parts.specs.Room.{HasNoteRoom}
+use Rattle.op_parts.specs.Room.{HasNoteRoom, noted_stream}
 use Rattle.volume_state.specs.Room.{stream_of_handle}
 use Rattle.volume_state.specs.VolumeView.{Spare, CanWrite, room_for}
 
@@ -17,9 +17,9 @@ pub record MayLock (v : Volume) : Type 0 where
   pub breaks : v.last_break < 2 ^ 63
   pub locks : v.last_lock < 2 ^ 63
 
--- the stream of which a write is noted: of the default stream the file is noted
-abbrev pub noted_stream : Volume → ℕ → Option ℕ
-noted_stream v stream = if is_named_stream v stream then Some stream else None
+-- the stream of which a write to this one is noted
+abbrev pub noted_of_write : Volume → ℕ → Option ℕ
+noted_of_write v stream = noted_stream stream (is_named_stream v stream)
 
 -- the end is within what a stream may have, and there is room for so many bytes at this place, and for a
 -- note of the write
@@ -27,7 +27,7 @@ abbrev pub HasWriteRoom : Volume → Spare → ℕ → ℕ → ℕ → ℕ → T
 HasWriteRoom v spare link stream at count =
     (at + count ≤ 2 ^ 26)
     × CanWrite spare stream at count
-    × HasNoteRoom v spare link (noted_stream v stream)
+    × HasNoteRoom v spare link (noted_of_write v stream)
 
 -- where the length is a new one, there is the room of a write that ends there and puts no byte
 abbrev pub HasEndRoom : Volume → Spare → ℕ → ℕ → ℕ → Type 0

@@ -9,7 +9,7 @@ ghost use Rattle.volume_state.specs.Room.{KeepsEnds, stream_of_handle};
 
 use crate::locked::Locking;
 use crate::resized::{Resizing, ends_at};
-use crate::written::{Writing, noted_stream};
+use crate::written::{Writing, noted_of_write};
 use fsa_types::{BlockerList, NoMemory, Status};
 use op_parts::room_to_wait;
 use std::alloc::Global;
@@ -33,7 +33,7 @@ fn room_to_put(
     ensures room { IfOk result (λ blockers. HasWaitRoom volume.new.content volume.new.spare blockers) }
     ensures put { OnOk result (HasWriteRoom volume.new.content volume.new.spare link stream at count) }
 {
-    let noted = noted_stream(volume, stream);
+    let noted = noted_of_write(volume, stream);
     let Some(note) = volume.note_room(link, noted) else {
         return Err(NoMemory);
     };

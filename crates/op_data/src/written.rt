@@ -4,14 +4,14 @@ ghost use Rattle.std.specs.Prelude.{◌≡◌, ◌≤◌, ◌+◌, ◌^◌, leng
 ghost use Rattle.fsa_types.specs.Rows.{lives};
 ghost use Rattle.fsa_model.specs.Lookups.{file_of_stream};
 ghost use Rattle.fsa_model.specs.Write.{lengthens, stream_write_filters, with_file_written, with_write_noted, with_written, write_filters};
-ghost use Rattle.op_data.specs.Conditions.{HasWriteRoom, noted_stream};
+ghost use Rattle.op_data.specs.Conditions.{HasWriteRoom, noted_of_write};
 ghost use Rattle.op_parts.specs.Room.{HasNoteRoom};
 ghost use Rattle.volume_state.specs.Room.{KeepsEnds};
 
 use crate::bytes::length_of;
 use bitflags::Flags;
 use fsa_types::{FILE_ACTION_MODIFIED, FILE_ACTION_MODIFIED_STREAM, FileAttributes, NotifyFilter};
-use op_parts::{access_time, attributes_of, creation_time, is_named_stream};
+use op_parts::{access_time, attributes_of, creation_time, is_named_stream, noted_stream};
 use volume_state::Volume;
 
 /// A write of a range of a stream, by a handle with this key that was opened by this link.
@@ -51,14 +51,11 @@ fn stream_write_filters(longer: bool) -> u32
     NotifyFilter::STREAM_WRITE.bits()
 }
 
-/// The stream of which a write is noted: none for the default stream.
-pub fn noted_stream(volume: &Volume, stream: u64) -> Option<u64>
-    ensures { result ≡ noted_stream volume.now.content stream }
+/// The stream of which a write to this one is noted: none for the default stream.
+pub fn noted_of_write(volume: &Volume, stream: u64) -> Option<u64>
+    ensures { result ≡ noted_of_write volume.now.content stream }
 {
-    if is_named_stream(volume, stream) {
-        return Some(stream);
-    }
-    None
+    noted_stream(stream, is_named_stream(volume, stream))
 }
 
 /// A write is noted, put, and its file has changed. The room is taken.
@@ -96,18 +93,18 @@ pub fn file_of_stream(volume: &Volume, stream: u64) -> u64
 
 /// A write is noted; `longer` says that the length changes. The room is taken.
 pub fn note_write(volume: &mut Volume, link: u64, stream: u64, longer: bool)
-    requires room { HasNoteRoom volume.old.content volume.old.spare link (noted_stream volume.old.content stream) }
+    requires room { HasNoteRoom volume.old.content volume.old.spare link (noted_of_write volume.old.content stream) }
     ensures content { volume.new.content ≡ with_write_noted volume.old.content link stream longer }
     ensures others { volume.new.spare ≡ record volume.old.spare { changes = volume.new.spare.changes; units = volume.new.spare.units; dirs = volume.new.spare.dirs } }
     ensures ends { KeepsEnds volume.old volume.new }
 {
-    let noted = noted_stream(volume, stream);
+    let noted = noted_of_write(volume, stream);
     note_write_of(volume, link, stream, noted, longer);
 }
 
 // A write is noted, of this stream of the file or else of the file.
 fn note_write_of(volume: &mut Volume, link: u64, stream: u64, noted: Option<u64>, longer: bool)
-    requires noted { noted ≡ noted_stream volume.old.content stream }
+    requires noted { noted ≡ noted_of_write volume.old.content stream }
     requires room { HasNoteRoom volume.old.content volume.old.spare link noted }
     ensures content { volume.new.content ≡ with_write_noted volume.old.content link stream longer }
     ensures others { volume.new.spare ≡ record volume.old.spare { changes = volume.new.spare.changes; units = volume.new.spare.units; dirs = volume.new.spare.dirs } }

@@ -8,11 +8,19 @@ use volume_state::Volume;
 // The first value that is no time, 2^63.
 const FIRST_NO_TIME: u64 = 0x8000_0000_0000_0000;
 
-// Whether it is one of the two values that leave a time, 2^64 - 1 and 2^64 - 2.
+// The two values that leave a time, after [MS-FSCC] 'FileBasicInformation': after -1 the requests of the handle move it
+// no more, and after -2 they do again. Here they differ in nothing.
+// -1
+const MOVE_NO_MORE: u64 = 0xFFFF_FFFF_FFFF_FFFF;
+
+// -2
+const MOVE_AGAIN: u64 = 0xFFFF_FFFF_FFFF_FFFE;
+
+// Whether it is one of the two values that leave a time.
 fn is_kept(time: u64) -> bool
     ensures { result ≡ is_kept time }
 {
-    time == 0xFFFF_FFFF_FFFF_FFFF || time == 0xFFFF_FFFF_FFFF_FFFE
+    time == MOVE_NO_MORE || time == MOVE_AGAIN
 }
 
 /// Whether it is no time, and doesn't leave one.

@@ -1,5 +1,5 @@
 -- What an open asks of the volume, and the room that it takes first.
-use Rattle.std.specs.Prelude.{◌≡◌, ℕ, ◌==◌, ◌||◌, ◌&&◌, ◌<◌, ◌≤◌, ◌-◌, ◌^◌, Bool, true, false, Option, Some, None, is_some, length, IsTrue, if◌then◌else◌}
+use Rattle.std.specs.Prelude.{◌≡◌, ℕ, ◌==◌, ◌||◌, ◌&&◌, ◌<◌, ◌≤◌, ◌-◌, ◌^◌, true, false, Option, None, is_some, length, IsTrue}
 use Rattle.std.specs.Option.{option_map_or}
 use Rattle.fsa_types.specs.BoundedList.{Bounded}
 use Rattle.fsa_types.specs.Rows.{lives}
@@ -32,10 +32,6 @@ pub record IsOpenBy (v : Volume) (link : ℕ) (stream : Option ℕ) : Type 0 whe
 pub record HasOpenRoom (v : Volume) (spare : Spare) (list : Bounded Blocker) : Type 0 where
   pub handles : 1 ≤ spare.handles
   pub wait : HasWaitRoom v spare list
-
--- the stream of which an overwrite is noted: of the default stream the file is noted
-abbrev pub noted_stream : ℕ → Bool → Option ℕ
-noted_stream stream named = if named then Some stream else None
 
 -- the file is there by this link: the link lives or is the root's; that of a directory is a
 -- directory's; and of what isn't a directory the link lives and is the file's, which lives

@@ -3,8 +3,8 @@
 ghost use Rattle.std.specs.Prelude.{◌≡◌, ◌<◌, ◌≤◌, ◌+◌, ◌-◌, ◌^◌, ◌==◌, not, None, Some, length};
 ghost use Rattle.fsa_model.specs.Open.{file_attributes, open_directory, names_stream, open_existing, open_granted, open_stream, overwrite_action, overwrite_existing, overwrite_filters, stream_overwrite_filters, with_file_overwritten, with_open, with_overwrite_noted, with_overwritten};
 ghost use Rattle.fsa_model.specs.Lookups.{handle_of};
-ghost use Rattle.op_open.specs.Conditions.{HasOpenRoom, IsOpenBy, MayOpen, noted_stream};
-ghost use Rattle.op_parts.specs.Room.{HasNoteRoom};
+ghost use Rattle.op_open.specs.Conditions.{HasOpenRoom, IsOpenBy, MayOpen};
+ghost use Rattle.op_parts.specs.Room.{HasNoteRoom, noted_stream};
 ghost use Rattle.volume_state.specs.Room.{KeepsEnds};
 ghost use Rattle.volume_state.specs.Tried.{Leaves};
 
@@ -17,7 +17,9 @@ use fsa_types::{
     Action, BlockerList, Disposition, FILE_ACTION_MODIFIED, FILE_ACTION_MODIFIED_STREAM,
     FileAttributes, NotifyFilter, Status,
 };
-use op_parts::{access_time, break_for, creation_time, grants, held, is_readonly, kept_attributes};
+use op_parts::{
+    access_time, break_for, creation_time, grants, held, is_readonly, kept_attributes, noted_stream,
+};
 use std::alloc::Global;
 use volume_state::{Class, HandleSet, Tried, Volume};
 
@@ -92,16 +94,6 @@ fn stream_overwrite_filters() -> u32
     ensures { result ≡ stream_overwrite_filters }
 {
     NotifyFilter::STREAM_SIZE.bits() | NotifyFilter::STREAM_WRITE.bits()
-}
-
-// The stream of which an overwrite is noted: none for the default stream.
-fn noted_stream(stream: u64, named: bool) -> Option<u64>
-    ensures { result ≡ noted_stream stream named }
-{
-    if named {
-        return Some(stream);
-    }
-    None
 }
 
 // An overwrite is noted.

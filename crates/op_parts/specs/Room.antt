@@ -1,5 +1,5 @@
 -- The room that a verb takes before its first change: for the breaks that it may wait for, and for a note.
-use Rattle.std.specs.Prelude.{◌≡◌, ℕ, ◌<◌, ◌≤◌, ◌^◌, [], Option, length}
+use Rattle.std.specs.Prelude.{◌≡◌, ℕ, ◌<◌, ◌≤◌, ◌^◌, Bool, [], Option, Some, None, length, if◌then◌else◌}
 use Rattle.fsa_types.specs.BoundedList.{Bounded}
 use Rattle.fsa_types.specs.declared.oplock.Class.{Class}
 use Rattle.fsa_types.specs.declared.oplock.HandleSet.{HandleSet}
@@ -19,6 +19,10 @@ pub record HasWaitRoom (v : Volume) (spare : Spare) (list : Bounded Blocker) : T
   pub blockers : (on : HandleSet) (class : Class) (handle : Option ℕ) (key : ℕ) → length (awaited v on class handle key) ≤ spare.blockers
   pub awaited : (on : HandleSet) (class : Class) (handle : Option ℕ) (key : ℕ) → length (awaited v on class handle key) ≤ list.room
   pub few : length v.oplocks < 2 ^ 32
+
+-- the stream of which a change of bytes is noted: of the default stream the file is noted
+abbrev pub noted_stream : ℕ → Bool → Option ℕ
+noted_stream stream named = if named then Some stream else None
 
 -- there is room for a note of the link, of this stream of its file or else of the file
 pub record HasNoteRoom (v : Volume) (spare : Spare) (link : ℕ) (stream : Option ℕ) : Type 0 where

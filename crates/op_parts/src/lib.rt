@@ -10,7 +10,7 @@
 //! let attributes = attributes_of(volume, file);      // none where there is no such file
 //! ```
 //!
-//! The parts group so: room (`room_to_wait`); breaks (`break_for`, `held`); the walk along a path (`walk`,
+//! The parts group so: room (`room_to_wait`, `noted_stream`); breaks (`break_for`, `held`); the walk along a path (`walk`,
 //! `has_point`), and a request that a reparse point stops (`stopped`); a file (`creation_time`, `access_time`,
 //! `write_time`, `attributes_of`, `owner_of`, `is_readonly`, `set_change_time`); what is shown of a file and a
 //! stream (`shown_attributes`, `change_time`, `length_shown`, `space_shown`); attributes that are asked for
@@ -52,7 +52,7 @@ pub use handles::is_any_open;
 pub use links::{file_of_link, is_link_marked, is_link_of_parent, linked_file, name_bit};
 pub use paths::{Walked, has_point, walk};
 pub use rights::{grants, has_right};
-pub use room::room_to_wait;
+pub use room::{noted_stream, room_to_wait};
 pub use shown::{change_time, length_shown, shown_attributes, space_shown};
 pub use stops::stopped;
 pub use streams::{is_marked, is_named_stream, named_stream};

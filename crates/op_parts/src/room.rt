@@ -1,7 +1,7 @@
 //! The room that a verb takes before its first change.
 
 ghost use Rattle.std.specs.Prelude.{◌≡◌, ◌≤◌, IfOk, OnOk};
-ghost use Rattle.op_parts.specs.Room.{HasWaitRoom};
+ghost use Rattle.op_parts.specs.Room.{HasWaitRoom, noted_stream};
 ghost use Rattle.volume_state.specs.Room.{HasRoom, IsNoLess, KeepsEnds};
 
 use fsa_types::{BlockerList, NoMemory};
@@ -49,4 +49,14 @@ pub fn room_to_wait(
     let blockers = BlockerList::with_room(alloc, oplocks)?;
     reserve_to_wait(volume, need, oplocks)?;
     Ok(blockers)
+}
+
+/// The stream of which a change of bytes is noted: none for the default stream, whose file is noted.
+pub fn noted_stream(stream: u64, named: bool) -> Option<u64>
+    ensures { result ≡ noted_stream stream named }
+{
+    if named {
+        return Some(stream);
+    }
+    None
 }

@@ -4,7 +4,7 @@ use Rattle.std.proofs.Math.Seq.{drop-append_seam, take-append_seam}
 use Rattle.std.specs.Prelude.{Err}
 use Rattle.wire_io.specs.Sink.{Written, Appends, AppendsPart}
 use Rattle.wire_io.proofs.SinkLaws.{Appends-append, Appends-none, AppendsPart-append, AppendsPart-longer}
-use Rattle.text_out.specs.Writes.{Adds, Finishes, Gathers, GivesUp}
+use Rattle.text_out.specs.Writes.{AddsText, Finishes, Gathers, GivesUp}
 use Rattle.text_out.specs.declared.write.TextFault.{TextFault}
 use Rattle.text_out.specs.declared.write.TextFault.TheVariants.{Failed, NoMemory}
 
@@ -50,7 +50,7 @@ around-failed written written_now gathered mid before bytes after text place her
     (AppendsPart-longer written written_now (take place mid ++ bytes) (drop place mid) part)
 
 -- what was gathered was put in place of a text
-pub GivesUp-adds : (written written_now : Written) (gathered mid gathered_now text : List ℕ) (fault : TextFault) → mid ≡ gathered → GivesUp written written_now mid gathered_now fault → Adds written written_now gathered gathered_now text (Err fault)
+pub GivesUp-adds : (written written_now : Written) (gathered mid gathered_now text : List ℕ) (fault : TextFault) → mid ≡ gathered → GivesUp written written_now mid gathered_now fault → AddsText written written_now gathered gathered_now text (Err fault)
 GivesUp-adds written written_now gathered mid gathered_now text Failed same gave = (AppendsPart-longer written written_now gathered text (subst (AppendsPart written written_now) same gave.0), gave.1)
 GivesUp-adds written written_now gathered mid gathered_now text NoMemory same gave = (subst (Appends written written_now) same gave.0, gave.1)
 

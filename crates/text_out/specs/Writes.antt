@@ -14,10 +14,10 @@ pub record Gathers (written written_now : Written) (gathered gathered_now text :
 
 -- the text came so; where the sink failed, a part of what was gathered and of the text was put, and not all; where there
 -- was no memory, what was gathered was put, and no more. Nothing is gathered after either
-abbrev pub Adds : Written → Written → List ℕ → List ℕ → List ℕ → Result (Unit {0}) TextFault → Type 0
-Adds written written_now gathered gathered_now text (Ok done) = Gathers written written_now gathered gathered_now text
-Adds written written_now gathered gathered_now text (Err Failed) = AppendsPart written written_now (gathered ++ text) × (gathered_now ≡ [])
-Adds written written_now gathered gathered_now text (Err NoMemory) = Appends written written_now gathered × (gathered_now ≡ [])
+abbrev pub AddsText : Written → Written → List ℕ → List ℕ → List ℕ → Result (Unit {0}) TextFault → Type 0
+AddsText written written_now gathered gathered_now text (Ok done) = Gathers written written_now gathered gathered_now text
+AddsText written written_now gathered gathered_now text (Err Failed) = AppendsPart written written_now (gathered ++ text) × (gathered_now ≡ [])
+AddsText written written_now gathered gathered_now text (Err NoMemory) = Appends written written_now gathered × (gathered_now ≡ [])
 
 -- all of what was gathered was put, and the text behind it, so that nothing is gathered now; where it failed, as above
 abbrev pub Finishes : Written → Written → List ℕ → List ℕ → List ℕ → Result (Unit {0}) TextFault → Type 0

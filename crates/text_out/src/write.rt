@@ -7,7 +7,7 @@ ghost use Rattle.fsa_model.specs.Text.{bytes_text, last_line, turn_text};
 ghost use Rattle.wire_io.specs.Faults.{FailsLast, HasCause};
 ghost use Rattle.wire_io.specs.Sink.{Appends, AppendsPart};
 ghost use Rattle.text_out.specs.AroundBytes.{after_bytes, before_bytes};
-ghost use Rattle.text_out.specs.Writes.{Adds, Finishes, Gathers, GivesUp, TellsFaults};
+ghost use Rattle.text_out.specs.Writes.{AddsText, Finishes, Gathers, GivesUp, TellsFaults};
 
 use crate::bytes::write_bytes;
 use crate::draft::Draft;
@@ -216,7 +216,7 @@ impl TextBuffer {
         bytes: &Bytes,
     ) -> Result<(), TextFault>
         requires { out.now.answer ≡ Answer.Ended (record { status = status; body = Body.Got bytes.now }) }
-        ensures adds { Adds (K.written sink.old) (K.written sink.new) self.old self.new (turn_text (map client_of names.now.items) call.now (out_of out.now)) result }
+        ensures adds { AddsText (K.written sink.old) (K.written sink.new) self.old self.new (turn_text (map client_of names.now.items) call.now (out_of out.now)) result }
         ensures faults { TellsFaults (K.faults sink.old) (K.faults sink.new) (K.written sink.new).since_fault result }
     {
         match self.gather_around(names, call, status, out.ended.as_slice()) {
@@ -233,7 +233,7 @@ impl TextBuffer {
         call: &Call,
         out: &Out,
     ) -> Result<(), TextFault>
-        ensures adds { Adds (K.written sink.old) (K.written sink.new) self.old self.new (turn_text (map client_of names.now.items) call.now (out_of out.now)) result }
+        ensures adds { AddsText (K.written sink.old) (K.written sink.new) self.old self.new (turn_text (map client_of names.now.items) call.now (out_of out.now)) result }
         ensures faults { TellsFaults (K.faults sink.old) (K.faults sink.new) (K.written sink.new).since_fault result }
     {
         match bytes_given(&out.answer) {
@@ -255,7 +255,7 @@ impl TextBuffer {
         call: &Call,
         out: &Out,
     ) -> Result<(), TextFault>
-        ensures adds { Adds (K.written sink.old) (K.written sink.new) self.old self.new (turn_text (map client_of names.now.items) call.now (out_of out.now)) result }
+        ensures adds { AddsText (K.written sink.old) (K.written sink.new) self.old self.new (turn_text (map client_of names.now.items) call.now (out_of out.now)) result }
         ensures faults { TellsFaults (K.faults sink.old) (K.faults sink.new) (K.written sink.new).since_fault result }
     {
         match self.gather_turn(names, call, out) {

@@ -1,5 +1,5 @@
 -- What contracts see of a volume: its content, what stands beside the content, and the spare room.
-use Rattle.std.specs.Prelude.{ℕ, List, ◌≤◌, ◌+◌}
+use Rattle.std.specs.Prelude.{ℕ, List, ◌≤◌}
 use Rattle.std.specs.Option.{option_map_or, ForSome}
 use Rattle.fsa_types.specs.Rows.{row_of}
 use Rattle.fsa_model.specs.Volume.{Volume}

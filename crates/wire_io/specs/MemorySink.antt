@@ -22,8 +22,8 @@ abbrev pub is_sink_full : SinkState → Bool
 is_sink_full sink = nat_le sink.room (length sink.written)
 
 -- the next call, of a piece of this length, is listed, or has bytes for a room that is full
-abbrev pub fails_next : SinkState → ℕ → Bool
-fails_next sink count = list_any (λ number. number == one_more sink.calls) sink.failing || (nat_lt 0 count && is_sink_full sink)
+abbrev pub put_fails_next : SinkState → ℕ → Bool
+put_fails_next sink count = list_any (λ number. number == one_more sink.calls) sink.failing || (nat_lt 0 count && is_sink_full sink)
 
 -- how many bytes a call that doesn't fail takes of a piece of this length
 abbrev pub count_taken : SinkState → ℕ → ℕ

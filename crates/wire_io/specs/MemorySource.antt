@@ -18,8 +18,8 @@ abbrev pub fresh_source : List ℕ → ℕ → List ℕ → SourceState
 fresh_source bytes piece failing = record { left = bytes; piece = piece; failing = failing; calls = 0; faults = 0; given = 0; stops = 0; since = 0 }
 
 -- the next call is listed
-abbrev pub fails_next : SourceState → Bool
-fails_next source = list_any (λ number. number == one_more source.calls) source.failing
+abbrev pub take_fails_next : SourceState → Bool
+take_fails_next source = list_any (λ number. number == one_more source.calls) source.failing
 
 -- how many bytes a call that doesn't fail gives into a buffer of this length
 abbrev pub count_given : SourceState → ℕ → ℕ

@@ -2,7 +2,7 @@
 ghost use Rattle.std.specs.Prelude.{◌≡◌, ◌≢◌, ◌+◌, ◌≤◌, ◌<◌, ◌↔◌, [], Some, length, IfOk, OnErr, IsErr, IsTrue};
 ghost use Rattle.wire_io.specs.Faults.{HasCause};
 ghost use Rattle.wire_io.specs.Sink.{CountsPut, Puts};
-ghost use Rattle.wire_io.specs.MemorySink.{fresh_sink, fails_next, count_taken, empty_after, after_put, after_fault};
+ghost use Rattle.wire_io.specs.MemorySink.{fresh_sink, put_fails_next, count_taken, empty_after, after_put, after_fault};
 
 use super::faults::{Failed, one_more};
 use super::sinks::Sink;
@@ -106,7 +106,7 @@ impl Sink for MemorySink {
 
         // It fails exactly where its call is listed or the room is full, and else takes all that
         // the piece, the bytes and the room allow.
-        ensures fails { IsErr result ↔ IsTrue (fails_next self.old (length bytes.now)) }
+        ensures fails { IsErr result ↔ IsTrue (put_fails_next self.old (length bytes.now)) }
         ensures count { IfOk result (λ n. n ≡ count_taken self.old (length bytes.now)) }
         ensures ok { IfOk result (λ n. self.new ≡ after_put self.old bytes.now n) }
         ensures err { OnErr result (self.new ≡ after_fault self.old (length bytes.now)) }

@@ -2,7 +2,7 @@
 ghost use Rattle.std.specs.Prelude.{◌≡◌, ◌≢◌, ◌+◌, ◌≤◌, ◌↔◌, [], length, IfOk, OnOk, OnErr, IsErr, IsTrue, if◌then◌else◌};
 ghost use Rattle.wire_io.specs.Faults.{HasCause, one_more};
 ghost use Rattle.wire_io.specs.Source.{Takes, CountsTake};
-ghost use Rattle.wire_io.specs.MemorySource.{fresh_source, met_end, fails_next, count_given, after_take, after_fault};
+ghost use Rattle.wire_io.specs.MemorySource.{fresh_source, met_end, take_fails_next, count_given, after_take, after_fault};
 
 use super::faults::{Failed, one_more};
 use super::sources::Source;
@@ -93,7 +93,7 @@ impl Source for MemorySource {
 
         // It fails exactly where its call is listed, and else gives all that the piece, the
         // buffer and the rest allow.
-        ensures fails { IsErr result ↔ IsTrue (fails_next self.old) }
+        ensures fails { IsErr result ↔ IsTrue (take_fails_next self.old) }
         ensures count { IfOk result (λ n. n ≡ count_given self.old (length buf.new)) }
         ensures ok { IfOk result (λ n. self.new ≡ after_take self.old n (length buf.new)) }
         ensures err { OnErr result (self.new ≡ after_fault self.old) }

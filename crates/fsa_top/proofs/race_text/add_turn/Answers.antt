@@ -3,7 +3,7 @@ use Rattle.fsa_model.specs.History.{run}
 use Rattle.fsa_model.specs.Outcome.{out_of}
 use Rattle.fsa_model.specs.Setup.{Client, Setup}
 use Rattle.fsa_model.specs.Text.{turn_text}
-use Rattle.text_out.specs.Writes.{Adds}
+use Rattle.text_out.specs.Writes.{AddsText}
 use Rattle.fsa_top.proofs.race_text.add_turn.Goals as goal
 
 pub returns-clause-adds : goal.returns-clause-adds
@@ -16,5 +16,5 @@ returns-clause-adds g c =
       out,
       c.call_at.ensures,
       λ r runs. c.out_at.ensures r (ap (λ (s : Setup). run s c.args.machine.now.entries) c.requires.setup ∙ runs),
-      subst (λ (clients : List Client). Adds old now c.args.buffer.now c.add_turn.new.self (turn_text clients call out) c.add_turn.result) c.clients.ensures c.add_turn.ensures.adds,
+      subst (λ (clients : List Client). AddsText old now c.args.buffer.now c.add_turn.new.self (turn_text clients call out) c.add_turn.result) c.clients.ensures c.add_turn.ensures.adds,
     )

@@ -2,7 +2,7 @@ use Rattle.std.proofs.Common.{List, subst}
 use Rattle.fsa_model.specs.Outcome.{out_of}
 use Rattle.fsa_model.specs.Setup.{Client}
 use Rattle.fsa_model.specs.Text.{turn_text}
-use Rattle.text_out.specs.Writes.{Adds}
+use Rattle.text_out.specs.Writes.{AddsText}
 use Rattle.fsa_top.proofs.RunLaws.{MakesTurn-made, MakesTurn-none}
 use Rattle.fsa_top.proofs.run.make_turn.Goals as goal
 
@@ -13,7 +13,7 @@ returns-in-Ok-clause-made g c =
     let call = c.args.call.now in
     let out = out_of c.in-Ok.out in
     MakesTurn-made c.args.machine.now c.turn_of.new.machine call out before now c.args.buffer.now c.add_turn.new.self c.add_turn.result c.in-Ok.ensures.made
-    (subst (λ (clients : List Client). Adds before now c.args.buffer.now c.add_turn.new.self (turn_text clients call out) c.add_turn.result) c.requires.clients c.add_turn.ensures.adds)
+    (subst (λ (clients : List Client). AddsText before now c.args.buffer.now c.add_turn.new.self (turn_text clients call out) c.add_turn.result) c.requires.clients c.add_turn.ensures.adds)
 
 pub returns-in-Err-clause-made : goal.returns-in-Err-clause-made
 returns-in-Err-clause-made g c =
