@@ -41,7 +41,7 @@ VERBS = {
 
 def number(word, most, what):
     if re.fullmatch(r"0|[1-9][0-9]*", word):
-        return f"the {what} is at most {most:,} (without the commas)" if int(word) > most else None
+        return f"the {what} is at most {most:,} (without the commas)" if len(word) > 20 or int(word) > most else None
     if re.fullmatch(r"0[0-9]+", word):
         return f"the {what}, {word}, has a leading zero"
     if word.lower().startswith("0x"):
@@ -57,7 +57,7 @@ def mask(word, what):
         if len(good) > 10:
             return f"the {what}, {word}, has more than 32 bits"
         return f"a mask is written in lower case and without leading zeros: {good}, not {word}"
-    if word.isdigit():
+    if re.fullmatch(r"[0-9]{1,10}", word):
         return f"the {what}, {word}, is a mask and begins with 0x: 0x{int(word):x}"
     return f"the {what}, {word!r}, is no mask, as 0x{0x12019f:x} is"
 
@@ -114,7 +114,7 @@ def field(word, what, form):
         return None if word in form else f"{word!r} stands where {' or '.join(f'`{it}`' for it in form)} belongs"
     if form == "start":
         fault = None if word == "end" else number(word, MOST_PLACE, "place")
-        return fault if not fault or word.isdigit() else f"{fault}; the end of the stream is `end`"
+        return fault if not fault or re.fullmatch(r"[0-9]+", word) else f"{fault}; the end of the stream is `end`"
     if form == "owner":
         return None if word == "keep" else number(word, MOST_ID, "owner, if it isn't `keep`,")
     if form == "disposition":
