@@ -29,14 +29,14 @@ fn three_held(alloc: Global) -> Result<PendingQueue, NoMemory> {
 #[test]
 fn calls_become_ready_by_turns(rt: HostRuntime) -> Result<(), Fail> {
     let mut queue = three_held(rt.alloc()).ok().ok_or("no memory")?;
-    assert_eq!(rt; queue.next_let_go(), None);
+    assert_eq!(rt; queue.next_unblocked(), None);
     queue.ended(Blocker::Break(1));
-    assert_eq!(rt; queue.next_let_go(), Some(9));
+    assert_eq!(rt; queue.next_unblocked(), Some(9));
     queue.ended(Blocker::Lock(1));
-    assert_eq!(rt; queue.next_let_go(), Some(4));
+    assert_eq!(rt; queue.next_unblocked(), Some(4));
     assert!(rt; queue.remove(4));
     assert!(rt; !queue.remove(4));
-    assert_eq!(rt; queue.next_let_go(), Some(6));
+    assert_eq!(rt; queue.next_unblocked(), Some(6));
     Ok(())
 }
 
@@ -47,8 +47,8 @@ fn call_is_held_anew(rt: HostRuntime) -> Result<(), Fail> {
     assert_eq!(rt; queue.hold(4, blockers.ok_or("no memory")?), Ok(()));
     queue.ended(Blocker::Break(1));
     queue.ended(Blocker::Lock(1));
-    assert_eq!(rt; queue.next_let_go(), Some(6));
+    assert_eq!(rt; queue.next_unblocked(), Some(6));
     queue.ended(Blocker::Break(2));
-    assert_eq!(rt; queue.next_let_go(), Some(4));
+    assert_eq!(rt; queue.next_unblocked(), Some(4));
     Ok(())
 }

@@ -7,7 +7,7 @@ use Rattle.fsa_types.specs.Pending.{Pending, is_held, is_let_go, next_let_go}
 use Rattle.fsa_types.specs.Rows.{lives, without_row, with_row_changed}
 use Rattle.fsa_types.specs.declared.reply.Blocker.{Blocker}
 use Rattle.pending_queue.specs.Lists.{least}
-use Rattle.pending_queue.specs.PendingQueue.{is_same, with_call_held, with_blocker_ended, next_let_go, held_among}
+use Rattle.pending_queue.specs.PendingQueue.{is_same, with_call_held, with_blocker_ended, next_unblocked, held_among}
 use Rattle.pending_queue.proofs.LeastLemmas.{in_order-first}
 
 -- ---- which call is next
@@ -33,8 +33,8 @@ ready-among alive (p ∷ ps) =
     ]
 
 -- the least turn of the queue is the one that may be taken up next
-pub next_let_go-among : (alive : Blocker → Bool) (pending : List (ℕ × Pending)) → next_let_go (held_among alive pending) ≡ option_map (λ e. e.0) (next_let_go alive pending)
-next_let_go-among alive pending = in_order-first (filter (λ e. length e.1 == 0) (held_among alive pending)) ∙ ap least (ready-among alive pending)
+pub next_unblocked-among : (alive : Blocker → Bool) (pending : List (ℕ × Pending)) → next_unblocked (held_among alive pending) ≡ option_map (λ e. e.0) (next_let_go alive pending)
+next_unblocked-among alive pending = in_order-first (filter (λ e. length e.1 == 0) (held_among alive pending)) ∙ ap least (ready-among alive pending)
     ∙ sym (in_order-first (filter (λ e. is_let_go alive e.1) pending))
 
 -- ---- breaks and locks end

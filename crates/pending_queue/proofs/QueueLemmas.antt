@@ -8,7 +8,7 @@ use Rattle.std.proofs.lemmas.List.Elements.{filter-append}
 use Rattle.fsa_types.specs.Rows.{lives, without_row, with_row_changed}
 use Rattle.fsa_types.specs.declared.reply.Blocker.{Blocker}
 use Rattle.pending_queue.specs.Lists.{AreCounted, counted, least, ready_turns, turns_of, with_turn_among}
-use Rattle.pending_queue.specs.PendingQueue.{blockers_under, held_of, is_same, with_call_held, with_blocker_ended, next_let_go}
+use Rattle.pending_queue.specs.PendingQueue.{blockers_under, held_of, is_same, with_call_held, with_blocker_ended, next_unblocked}
 use Rattle.pending_queue.proofs.LeastLemmas.{in_order-first, sorted-first}
 
 -- ---- the blockers of one turn
@@ -145,8 +145,8 @@ ready-held (t ∷ ts) waited =
       | inr blocked ↦ rw blocked (ready-held ts waited)
     ]
 
-pub next_let_go-first : (calls : List (ℕ × ℕ)) (waited : List (ℕ × Blocker)) (ready : List ℕ) → AreCounted calls waited ready → next_let_go (held_of (turns_of calls) waited) ≡ slice_get ready 0
-next_let_go-first calls waited ready are = in_order-first (filter (λ e. length e.1 == 0) (held_of (turns_of calls) waited))
+pub next_unblocked-first : (calls : List (ℕ × ℕ)) (waited : List (ℕ × Blocker)) (ready : List ℕ) → AreCounted calls waited ready → next_unblocked (held_of (turns_of calls) waited) ≡ slice_get ready 0
+next_unblocked-first calls waited ready are = in_order-first (filter (λ e. length e.1 == 0) (held_of (turns_of calls) waited))
     ∙ ap least (ready-held (turns_of calls) waited) ∙ ap (λ its. least (ready_turns its)) (sym are.counts) ∙ sym (sorted-first (ready_turns calls)) ∙ ap (λ its. slice_get its 0) (sym are.are_ready)
 
 -- ---- no two turns are the same

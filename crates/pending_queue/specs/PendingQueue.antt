@@ -39,8 +39,8 @@ abbrev pub with_blocker_ended : List (ℕ × List Blocker) → Blocker → List 
 with_blocker_ended held blocker = map (λ entry. (entry.0, filter (λ other. not (is_same blocker other)) entry.1)) held
 
 -- the least turn of a call none of whose blockers lives
-abbrev pub next_let_go : List (ℕ × List Blocker) → Option ℕ
-next_let_go held = option_map (λ entry. entry.0) (slice_get (in_order (λ a b. nat_lt a.0 b.0) (filter (λ entry. length entry.1 == 0) held)) 0)
+abbrev pub next_unblocked : List (ℕ × List Blocker) → Option ℕ
+next_unblocked held = option_map (λ entry. entry.0) (slice_get (in_order (λ a b. nat_lt a.0 b.0) (filter (λ entry. length entry.1 == 0) held)) 0)
 
 -- of calls that haven't ended, those that are held, each with those of its blockers that live
 abbrev pub held_among : (Blocker → Bool) → List (ℕ × Pending) → List (ℕ × List Blocker)

@@ -4,7 +4,7 @@
 //! ```text
 //! queue.hold(7, blockers)?;           // the call of turn 7 waits for these
 //! queue.ended(Blocker::Break(3));     // whatever ends a break or a lock tells its number
-//! while let Some(turn) = queue.next_let_go() {
+//! while let Some(turn) = queue.next_unblocked() {
 //!     queue.remove(turn);             // or hold it anew
 //! }
 //! ```
@@ -12,7 +12,7 @@
 //! It asks of its caller that each end of a break or a lock is told, and that the blockers of a call
 //! haven't ended when it is held.
 //!
-//! **Cost.** `next_let_go` looks at one number. `ended` goes over the calls that wait for what ended, and `remove` and
+//! **Cost.** `next_unblocked` looks at one number. `ended` goes over the calls that wait for what ended, and `remove` and
 //! `hold` over the blockers that the call was held by and that live, each beside what shares a slot with them: blockers
 //! are found by their numbers and by their turns, each in half as many slots as there was room when room was taken. As
 //! long as each call was put in behind lower turns, a call is found by halves, and so is that a turn has none; else all

@@ -2,7 +2,7 @@
 
 ghost use Rattle.std.specs.Prelude.{◌≡◌, ◌≤◌, ◌+◌, ◌==◌, [], false, length, AllPairs, IsOk, OnOk, OnErr};
 ghost use Rattle.fsa_types.specs.Rows.{lives, without_row};
-ghost use Rattle.pending_queue.specs.PendingQueue.{with_call_held, with_blocker_ended, next_let_go, calls_added};
+ghost use Rattle.pending_queue.specs.PendingQueue.{with_call_held, with_blocker_ended, next_unblocked, calls_added};
 
 use crate::calls::{count_of, len_with, put_count, stays_rising, take_call};
 use crate::ready::{first_of, reserve_for, set_ready};
@@ -116,8 +116,8 @@ impl PendingQueue {
     }
 
     /// The least turn of a call none of whose blockers lives; `None` exactly where there is none.
-    pub fn next_let_go(&self) -> Option<u64>
-        ensures turn { result ≡ next_let_go self.now.held }
+    pub fn next_unblocked(&self) -> Option<u64>
+        ensures turn { result ≡ next_unblocked self.now.held }
         ensures differ { AllPairs (λ a b. (a.0 == b.0) ≡ false) self.now.held }
     {
         first_of(&self.ready)

@@ -7,7 +7,7 @@ ghost use Rattle.fsa_types.specs.declared.reply.Blocker.{Blocker};
 ghost use Rattle.fsa_model.specs.Edits.{is_call};
 ghost use Rattle.fsa_model.specs.Lookups.{has_row, number_of};
 ghost use Rattle.fsa_model.specs.Waiting.{is_wait};
-ghost use Rattle.pending_queue.specs.PendingQueue.{next_let_go, with_blocker_ended, with_call_held};
+ghost use Rattle.pending_queue.specs.PendingQueue.{next_unblocked, with_blocker_ended, with_call_held};
 ghost use Rattle.std.specs.List.{list_any};
 ghost use Rattle.std.specs.List.Sorted.{IsPartitionPoint};
 ghost use Rattle.key_index.specs.RowsByKey.{IsIndexOf, row_passes};
@@ -252,9 +252,9 @@ impl PendingCalls {
 
     /// The least turn of a held call none of whose blockers lives; `None` exactly where there is none.
     pub fn next_held(&self) -> Option<u64>
-        ensures { result ≡ next_let_go self.now.held }
+        ensures { result ≡ next_unblocked self.now.held }
     {
-        self.queue.next_let_go()
+        self.queue.next_unblocked()
     }
 }
 

@@ -24,8 +24,8 @@ use Rattle.fsa_model.proofs.CountLaws.{only-one, how_many-none}
 use Rattle.fsa_model.proofs.RowLaws.{any-same, eqb-swap, lives-given, or-false}
 use Rattle.fsa_model.proofs.SoundWaits.{IsSound-touched}
 use Rattle.fsa_model.proofs.WaitLaws.{HasOneOplockEach, is_of, with_breaks-lives, with_breaks-new}
-use Rattle.pending_queue.specs.PendingQueue.{held_among, is_same, next_let_go, with_blocker_ended}
-use Rattle.pending_queue.proofs.HeldLaws.{among-same, next_let_go-among}
+use Rattle.pending_queue.specs.PendingQueue.{held_among, is_same, next_unblocked, with_blocker_ended}
+use Rattle.pending_queue.proofs.HeldLaws.{among-same, next_unblocked-among}
 use Rattle.volume_breaks.specs.Calls.{AreHeld, Calls, LoseBlockers, is_break_of, is_held_under, is_lock_of}
 use Rattle.volume_breaks.proofs.ReleaseLemmas.{held-equal, lose-one}
 use Rattle.volume_state.specs.Held.{is_there}
@@ -271,9 +271,9 @@ let_go-same alive other (row ∷ rows) same =
     ]
 
 -- the least turn of the queue is that of the call that may be taken up next
-pub next-lives : (v : Volume) (calls : Calls) → AreHeld (is_there v.oplocks v.locks) calls → next_let_go calls.held ≡ option_map (λ e. e.0) (next_let_go (blocker_lives v) calls.items)
+pub next-lives : (v : Volume) (calls : Calls) → AreHeld (is_there v.oplocks v.locks) calls → next_unblocked calls.held ≡ option_map (λ e. e.0) (next_let_go (blocker_lives v) calls.items)
 next-lives v calls held =
-    ap (λ its. next_let_go its) held ∙ next_let_go-among (is_there v.oplocks v.locks) calls.items
+    ap (λ its. next_unblocked its) held ∙ next_unblocked-among (is_there v.oplocks v.locks) calls.items
     ∙ ap (λ (rows : List (ℕ × Pending)). option_map (λ e. e.0) (slice_get (in_order (λ a b. nat_lt a.0 b.0) rows) 0)) (let_go-same (is_there v.oplocks v.locks) (blocker_lives v) calls.items (there-lives v))
 
 -- ---- a call comes, or is held anew
