@@ -1,6 +1,7 @@
-//! Tests that cross crates: whole runs of the program over bytes in memory, each with the bytes
-//! that it has to write, turns of a machine (`turns`), and three clients at one volume (`shared`). It is a
-//! program, since nothing stands on it; what it does when it runs is nothing.
+//! Tests of what no clause says: whole runs of the program over bytes in memory, each with the bytes that it
+//! has to write, the standard streams (`std_streams`), turns of a machine (`turns`), three clients at one
+//! volume (`shared`), and races. It is a program, since nothing stands on it; what it does when it runs is
+//! nothing.
 #![tactic(auto)]
 
 #[cfg(test)]
@@ -8,13 +9,13 @@ mod failing_io;
 #[cfg(test)]
 mod faults;
 #[cfg(test)]
-mod limits;
-#[cfg(test)]
 mod program;
 #[cfg(test)]
 mod races;
 #[cfg(test)]
 mod shared;
+#[cfg(test)]
+mod std_streams;
 #[cfg(test)]
 mod tests;
 #[cfg(test)]

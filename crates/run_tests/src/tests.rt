@@ -1,6 +1,6 @@
 //! Whole scripts, each with its status and its text.
 
-use crate::program::{on_one_thread, repeated, run, words_of};
+use crate::program::run;
 use std::test::Fail;
 use wire_io::{MemorySink, MemorySource};
 
@@ -32,69 +32,5 @@ fn scripts_in_pieces_give_their_texts(rt: HostRuntime) -> Result<(), Fail> {
             assert_eq!(rt; sink.bytes(), text.as_bytes(), "{script}");
         }
     }
-    Ok(())
-}
-
-#[test]
-fn other_words_are_usage(rt: HostRuntime) -> Result<(), Fail> {
-    for text in [
-        "",
-        "--run",
-        "run x",
-        "race x",
-        "Race",
-        "gen",
-        "gen 01",
-        "gen 18446744073709551616",
-        "gen 0 1",
-        "Run",
-    ] {
-        let words = words_of(rt.alloc(), text)?;
-        // A sink whose first call fails changes no status.
-        for (failing, written) in [(0, "usage: fsa run / race / gen N\n"), (1, "")] {
-            let mut source = MemorySource::new(rt.alloc(), b"fsa 1\n", 1, &[])?;
-            let mut sink = MemorySink::new(rt.alloc(), 4096, 4096, &[failing])?;
-            let found = on_one_thread(rt.alloc(), words.as_slice(), &mut source, &mut sink);
-            assert_eq!(rt; found, 1, "{text}");
-            assert_eq!(rt; sink.bytes(), written.as_bytes(), "{text}");
-        }
-    }
-    Ok(())
-}
-
-// With ample memory the run of a generated script succeeds: 4,096 calls, and four clients leave.
-#[test]
-fn a_generated_script_gives_its_summary(rt: HostRuntime) -> Result<(), Fail> {
-    let words = words_of(rt.alloc(), "gen 0")?;
-    let mut source = MemorySource::new(rt.alloc(), b"", 1, &[])?;
-    let mut sink = MemorySink::new(rt.alloc(), 4096, 4096, &[])?;
-    let found = on_one_thread(rt.alloc(), words.as_slice(), &mut source, &mut sink);
-    assert_eq!(rt; found, 0);
-    assert!(rt; sink.bytes().starts_with(b"turns 4100\n"));
-    assert!(rt; sink.bytes().ends_with(b"\nend\n"));
-    Ok(())
-}
-
-// A component may have 255 units, a pair of surrogates as its last two, and not 256.
-#[test]
-fn components_have_255_units_at_most(rt: HostRuntime) -> Result<(), Fail> {
-    let rest = "%D83D%DE00 0x1 0x7 create 0x0 0x0 0\n";
-    let first = repeated(rt.alloc(), "n", 253, rest)?;
-    let second = repeated(rt.alloc(), "n", 254, rest)?;
-    let mut script = Vec::new(rt.alloc());
-    script.extend_from_slice(b"fsa 1\nclient a 7\nclient b 9\na 1 create =\\".as_slice())?;
-    script.extend_from_slice(&first)?;
-    script.extend_from_slice(b"a 2 create =\\".as_slice())?;
-    script.extend_from_slice(&second)?;
-    let mut source = MemorySource::new(rt.alloc(), &script, 65536, &[])?;
-    let mut sink = MemorySink::new(rt.alloc(), 4096, 65536, &[])?;
-    let status = run(rt.alloc(), &mut source, &mut sink)?;
-    assert_eq!(rt; status, 0);
-    assert_eq!(rt;
-        sink.bytes(),
-        b"> a 1 create\na 1 SUCCESS created\n> a 2 create\na 2 OBJECT_NAME_INVALID\n\
-          > a 3 leave\na 3 SUCCESS\n> b 1 leave\nb 1 SUCCESS\nend 4\n"
-            .as_slice()
-    );
     Ok(())
 }
