@@ -14,7 +14,6 @@ use std::collections::VecDeque;
 use wire_io::Gate;
 
 /// The calls that a client has still to make, in order, and the call for whose end it waits.
-#[derive(Drop)]
 pub struct ClientRun {
     client: u32,
     // The call that was tried, and has to be tried again.
@@ -24,8 +23,20 @@ pub struct ClientRun {
     waits: Option<u32>,
 }
 
+// One drop of the whole, so that it is one step at each end of a function that holds one.
+impl Drop for ClientRun {
+    fn drop(self) {
+        let ClientRun {
+            client: _,
+            held: _,
+            rest: _,
+            waits: _,
+        } = self;
+    }
+}
+
 /// What one step of a client came to.
-#[derive(Clone, Copy, Debug, PartialEq, Eq)]
+#[derive(Clone, Copy, PartialEq, Eq)]
 pub enum Step {
     /// The next call was made, and there are more; or the wait has ended.
     Moved,

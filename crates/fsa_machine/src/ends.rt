@@ -11,11 +11,21 @@ use std::alloc::Global;
 use std::marker::Model;
 
 /// Two equal lists of ends, which a turn fills and which are empty between turns. They are seen as one of them.
-#[derive(Drop)]
 pub struct EndLists {
     given: Vec<EndOf>,
     kept: Vec<EndOf>,
     room: u32,
+}
+
+// One drop of the whole, so that it is one step at each end of a function that holds one.
+impl Drop for EndLists {
+    fn drop(self) {
+        let EndLists {
+            given: _,
+            kept: _,
+            room: _,
+        } = self;
+    }
 }
 
 impl Model for EndLists {

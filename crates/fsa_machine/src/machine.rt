@@ -36,11 +36,21 @@ use std::sync::ledger::{Blank, Ledger};
 pub const MOST_ENTRIES: usize = 1_000_000;
 
 /// A store that stands for a setup and a history, which it keeps.
-#[derive(Drop)]
 pub struct StoreMachine<S: Store> {
     kept: Vec<KeptTurn>,
     spare: SpareRooms,
     store: S,
+}
+
+// One drop of the whole, so that it is one step at each end of a function that holds one.
+impl<S: Store + Drop> Drop for StoreMachine<S> {
+    fn drop(self) {
+        let StoreMachine {
+            kept: _,
+            spare: _,
+            store: _,
+        } = self;
+    }
 }
 
 impl<S: Store> Model for StoreMachine<S> {

@@ -22,12 +22,23 @@ use std::sync::ledger::Ledger;
 
 /// The rooms of some turns to come whose replies have neither bytes nor units, each with lists for equally many
 /// calls; the lists that a turn fills with its ends; and, mostly, lists that stood by in the last turn.
-#[derive(Drop)]
 pub struct SpareRooms {
     rooms: Vec<TurnRoom>,
     calls: usize,
     ended: EndLists,
     lists: Option<TurnLists>,
+}
+
+// One drop of the whole, so that it is one step at each end of a function that holds one.
+impl Drop for SpareRooms {
+    fn drop(self) {
+        let SpareRooms {
+            rooms: _,
+            calls: _,
+            ended: _,
+            lists: _,
+        } = self;
+    }
 }
 
 impl Model for SpareRooms {

@@ -22,7 +22,7 @@ use std::alloc::Global;
 use volume_state::Tried;
 
 /// What is reported to a Notify.
-#[derive(Clone, Copy, Debug, PartialEq, Eq)]
+#[derive(Clone, Copy)]
 pub struct Report {
     /// The handle whose watch reports, by its number in the volume.
     pub handle: u64,
@@ -31,7 +31,7 @@ pub struct Report {
 }
 
 /// A pending call that is ready to be taken up.
-#[derive(Clone, Copy, Debug, PartialEq, Eq)]
+#[derive(Clone, Copy)]
 pub struct Ready {
     /// The turn under which it is pending.
     pub turn: u64,

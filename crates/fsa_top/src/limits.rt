@@ -13,7 +13,7 @@ pub const MOST_LINE_FEEDS: usize = 40_000;
 pub const MOST_CLIENT_LINES: usize = 64;
 
 /// A limit of a script.
-#[derive(Clone, Copy, Debug, PartialEq, Eq)]
+#[derive(Clone, Copy)]
 pub enum Limit {
     /// On its bytes.
     Bytes,

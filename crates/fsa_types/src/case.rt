@@ -8,7 +8,6 @@ use crate::copy::TryCopy;
 use crate::memory::NoMemory;
 use std::alloc::{AllocError, Global};
 use std::cmp::Ordering;
-use std::fmt;
 use std::marker::Model;
 
 // How many units there are.
@@ -38,11 +37,20 @@ impl From<NoMemory> for TableFault {
 /// the order in which they were given.
 ///
 /// A table takes 128 KiB beside its pairs, so that a unit is upcased in constant time.
-#[derive(Drop)]
 pub struct UpcaseTable {
     pairs: Vec<(u16, u16)>,
     // Each unit upcased, at the place of the unit.
     upcased: Vec<u16>,
+}
+
+// One drop of the whole, so that it is one step at each end of a function that holds one.
+impl Drop for UpcaseTable {
+    fn drop(self) {
+        let UpcaseTable {
+            pairs: _,
+            upcased: _,
+        } = self;
+    }
 }
 
 impl Model for UpcaseTable {
@@ -54,12 +62,6 @@ impl Model for UpcaseTable {
     ghost view = { λ t. t.pairs.items };
 
     ghost invariant = { λ t. AreUpcased t.pairs.items t.upcased.items };
-}
-
-impl fmt::Debug for UpcaseTable {
-    fn fmt<W: fmt::Write>(&self, f: &mut fmt::Formatter<W>) -> fmt::Result {
-        write!(f, "UpcaseTable({:?})", self.pairs)
-    }
 }
 
 // The pairs of the default table.

@@ -11,7 +11,7 @@ use std::marker::Model;
 
 /// A list in order, made with room for a number of items. Room is taken once, when the list is
 /// made; what is put in later takes no memory.
-#[derive(Debug, Drop)]
+#[derive(Drop)]
 pub struct BoundedList<T> {
     items: Vec<T>,
     room: u32,

@@ -1,7 +1,7 @@
 //! What breaks oplocks, and of which handles.
 
 /// What a request does that breaks oplocks, after [MS-FSA] 'Algorithm to Check for an Oplock Break'.
-#[derive(Clone, Copy, Debug, PartialEq, Eq)]
+#[derive(Clone, Copy)]
 pub enum Class {
     /// An open that clashes with an open handle. It leaves read and write caching.
     Clash,
@@ -14,7 +14,7 @@ pub enum Class {
 }
 
 /// Which handles.
-#[derive(Clone, Copy, Debug, PartialEq, Eq)]
+#[derive(Clone, Copy)]
 pub enum HandleSet {
     /// Those of the stream of this number.
     Stream(u64),

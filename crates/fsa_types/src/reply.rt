@@ -44,7 +44,6 @@ pub enum PackKind {
 }
 
 /// What a reply carries beside its status.
-#[derive(Debug, Drop)]
 pub enum Body {
     /// Nothing.
     Nothing,
@@ -83,34 +82,59 @@ pub enum Body {
     },
 }
 
-impl TryCopy for Body {
-    fn copy(&self, alloc: Global) -> Result<Body, NoMemory> {
+// One drop of the whole, so that it is one step at each end of a function that holds one.
+impl Drop for Body {
+    fn drop(self) {
         match self {
-            Body::Nothing => Ok(Body::Nothing),
-            Body::Opened(action) => Ok(Body::Opened(*action)),
-            Body::Got(bytes) => Ok(Body::Got(bytes.copy(alloc)?)),
-            Body::Count(count) => Ok(Body::Count(*count)),
-            Body::Packed(kind, bytes) => Ok(Body::Packed(*kind, bytes.copy(alloc)?)),
-            Body::Broken { level, ack } => Ok(Body::Broken {
-                level: *level,
-                ack: *ack,
-            }),
-            Body::Left(level) => Ok(Body::Left(*level)),
-            Body::Stopped { tag, bytes, rest } => Ok(Body::Stopped {
-                tag: *tag,
-                bytes: bytes.copy(alloc)?,
-                rest: rest.copy(alloc)?,
-            }),
-            Body::Quota { charge, limit } => Ok(Body::Quota {
-                charge: *charge,
-                limit: *limit,
-            }),
+            Body::Nothing => {}
+            Body::Opened(_) => {}
+            Body::Got(_) => {}
+            Body::Count(_) => {}
+            Body::Packed(_, _) => {}
+            Body::Broken { level: _, ack: _ } => {}
+            Body::Left(_) => {}
+            Body::Stopped {
+                tag: _,
+                bytes: _,
+                rest: _,
+            } => {}
+            Body::Quota {
+                charge: _,
+                limit: _,
+            } => {}
         }
     }
 }
 
+impl TryCopy for Body {
+    fn copy(&self, alloc: Global) -> Result<Body, NoMemory> {
+        let made = match self {
+            Body::Nothing => Body::Nothing,
+            Body::Opened(action) => Body::Opened(*action),
+            Body::Got(bytes) => Body::Got(bytes.copy(alloc)?),
+            Body::Count(count) => Body::Count(*count),
+            Body::Packed(kind, bytes) => Body::Packed(*kind, bytes.copy(alloc)?),
+            Body::Broken { level, ack } => Body::Broken {
+                level: *level,
+                ack: *ack,
+            },
+            Body::Left(level) => Body::Left(*level),
+            Body::Stopped { tag, bytes, rest } => Body::Stopped {
+                tag: *tag,
+                bytes: bytes.copy(alloc)?,
+                rest: rest.copy(alloc)?,
+            },
+            Body::Quota { charge, limit } => Body::Quota {
+                charge: *charge,
+                limit: *limit,
+            },
+        };
+        Ok(made)
+    }
+}
+
 /// How a call ended.
-#[derive(Debug, Drop)]
+#[derive(Drop)]
 pub struct Reply {
     /// The status.
     pub status: Status,
@@ -128,10 +152,16 @@ impl TryCopy for Reply {
 }
 
 /// Room that was taken for the copy of a reply.
-#[derive(Debug, Drop)]
 pub struct ReplyRoom {
     bytes: Vec<u8>,
     units: Vec<u16>,
+}
+
+// One drop of the whole, so that it is one step at each end of a function that holds one.
+impl Drop for ReplyRoom {
+    fn drop(self) {
+        let ReplyRoom { bytes: _, units: _ } = self;
+    }
 }
 
 impl Model for ReplyRoom {
@@ -163,7 +193,11 @@ impl ReplyRoom {
         requires { length bytes.now ≤ self.bytes }
         ensures { result ≡ bytes.now }
     {
-        bytes.copy_into(self.bytes)
+        let ReplyRoom {
+            bytes: room,
+            units: _,
+        } = self;
+        bytes.copy_into(room)
     }
 
     // A copy of these bytes, in this room where they aren't shared, and of these units, in this room.
@@ -173,11 +207,14 @@ impl ReplyRoom {
         ensures bytes { result.0 ≡ bytes.now }
         ensures units { result.1 ≡ units.now }
     {
-        let mut name = self.units;
+        let ReplyRoom {
+            bytes: room,
+            units: mut name,
+        } = self;
         let Ok(()) = name.extend_from_slice(units) else {
             unreachable!()
         };
-        (bytes.copy_into(self.bytes), Name::from(name))
+        (bytes.copy_into(room), Name::from(name))
     }
 }
 
@@ -274,7 +311,7 @@ pub enum Interim {
 }
 
 /// The answer to a turn's own call.
-#[derive(Debug, Drop)]
+#[derive(Drop)]
 pub enum Answer {
     /// It has ended.
     Ended(Reply),
@@ -292,7 +329,7 @@ impl TryCopy for Answer {
 }
 
 /// The end of a call.
-#[derive(Debug, Drop)]
+#[derive(Drop)]
 pub struct EndOf {
     /// The place of the client in the setup, from 0.
     pub client: u32,
@@ -316,7 +353,6 @@ impl TryCopy for EndOf {
 pub type EndList = BoundedList<EndOf>;
 
 /// What a turn gives out.
-#[derive(Debug, Drop)]
 pub struct Out {
     /// The answer to the turn's own call.
     pub answer: Answer,
@@ -325,6 +361,31 @@ pub struct Out {
     pub ended: EndList,
     /// The calls that were taken up in this turn and ended for want of memory, in order.
     pub starved: CallIdList,
+}
+
+// One drop of the whole, so that it is one step at each end of a function that holds one.
+impl Drop for Out {
+    fn drop(self) {
+        let Out {
+            answer: _,
+            ended: _,
+            starved: _,
+        } = self;
+    }
+}
+
+impl Out {
+    /// The answer to the turn's own call. The rest is given up.
+    pub fn into_answer(self) -> Answer
+        ensures { result ≡ self.answer }
+    {
+        let Out {
+            answer,
+            ended: _,
+            starved: _,
+        } = self;
+        answer
+    }
 }
 
 impl TryCopy for Out {
@@ -365,7 +426,7 @@ pub enum Why {
 }
 
 /// What became of a call that a client handed in.
-#[derive(Debug, Drop)]
+#[derive(Drop)]
 pub enum Submitted {
     /// It is the call of this number, with this answer.
     Did(u32, Answer),
@@ -376,7 +437,7 @@ pub enum Submitted {
 }
 
 /// How an earlier call stands.
-#[derive(Debug, Drop)]
+#[derive(Drop)]
 pub enum Poll {
     /// It has ended so.
     Done(Reply),
@@ -410,12 +471,21 @@ impl TryCopy for Submitted {
 }
 
 /// An entry of a history: a call, and the calls that starved in its turn.
-#[derive(Debug, Drop)]
 pub struct Entry {
     /// The turn's own call.
     pub call: Call,
     /// The calls that were taken up in this turn and ended for want of memory, in order.
     pub starved: CallIdList,
+}
+
+// One drop of the whole, so that it is one step at each end of a function that holds one.
+impl Drop for Entry {
+    fn drop(self) {
+        let Entry {
+            call: _,
+            starved: _,
+        } = self;
+    }
 }
 
 impl TryCopy for Entry {

@@ -36,7 +36,7 @@ impl TryCopy for Ace {
 pub type Dacl = BoundedList<Ace>;
 
 /// What `SetSecurity` does to the access list.
-#[derive(Debug, Drop)]
+#[derive(Drop)]
 pub enum DaclChange {
     /// It stays as it is.
     Keep,
@@ -110,7 +110,6 @@ pub enum InfoKind {
 
 /// A request on the volume. A handle is named by the number of the call of the same client that
 /// opened it. The sections named are those of [MS-FSA] 'Higher-Layer Triggered Events'.
-#[derive(Debug, Drop)]
 pub enum Request {
     /// 'Server Requests an Open of a File'.
     Create {
@@ -326,6 +325,113 @@ pub enum Request {
     },
 }
 
+// One drop of the whole, so that it is one step at each end of a function that holds one.
+impl Drop for Request {
+    fn drop(self) {
+        match self {
+            Request::Create {
+                path: _,
+                wanted: _,
+                share: _,
+                disposition: _,
+                options: _,
+                attributes: _,
+                key: _,
+            } => {}
+            Request::Close { handle: _ } => {}
+            Request::Read {
+                handle: _,
+                at: _,
+                count: _,
+            } => {}
+            Request::Write {
+                handle: _,
+                at: _,
+                bytes: _,
+            } => {}
+            Request::Flush { handle: _ } => {}
+            Request::Lock {
+                handle: _,
+                at: _,
+                count: _,
+                exclusive: _,
+                wait: _,
+            } => {}
+            Request::Unlock {
+                handle: _,
+                at: _,
+                count: _,
+            } => {}
+            Request::QueryDir {
+                handle: _,
+                kind: _,
+                expression: _,
+                restart: _,
+                room: _,
+            } => {}
+            Request::Notify {
+                handle: _,
+                filter: _,
+                tree: _,
+                room: _,
+            } => {}
+            Request::QueryInfo {
+                handle: _,
+                kind: _,
+                room: _,
+            } => {}
+            Request::SetBasic {
+                handle: _,
+                creation: _,
+                access: _,
+                write: _,
+                change: _,
+                attributes: _,
+            } => {}
+            Request::SetEnd {
+                handle: _,
+                length: _,
+            } => {}
+            Request::SetDisposition {
+                handle: _,
+                delete: _,
+            } => {}
+            Request::Rename {
+                handle: _,
+                path: _,
+                replace: _,
+            } => {}
+            Request::Link {
+                handle: _,
+                path: _,
+                replace: _,
+            } => {}
+            Request::SetSecurity {
+                handle: _,
+                owner: _,
+                dacl: _,
+            } => {}
+            Request::SetReparse {
+                handle: _,
+                bytes: _,
+            } => {}
+            Request::GetReparse { handle: _, room: _ } => {}
+            Request::DeleteReparse { handle: _, tag: _ } => {}
+            Request::SetQuota { sid: _, limit: _ } => {}
+            Request::QueryQuota { sid: _ } => {}
+            Request::Oplock {
+                handle: _,
+                level: _,
+            } => {}
+            Request::Ack {
+                handle: _,
+                level: _,
+            } => {}
+            Request::Cancel { number: _ } => {}
+        }
+    }
+}
+
 impl Request {
     /// Whether each count, room and string of bytes is at most 16,384 bytes, an access list has at
     /// most 32 entries, and an oplock asks for a level. It takes no memory.
@@ -362,7 +468,6 @@ impl DaclChange {
 }
 
 /// What a call does.
-#[derive(Debug, Drop)]
 pub enum What {
     /// A request on the volume.
     Ask(Request),
@@ -373,6 +478,18 @@ pub enum What {
     WaitFor(u32),
     /// The client leaves: its handles close. Every later call of it is `INVALID_HANDLE`.
     Leave,
+}
+
+// One drop of the whole, so that it is one step at each end of a function that holds one.
+impl Drop for What {
+    fn drop(self) {
+        match self {
+            What::Ask(_) => {}
+            What::Tick(_) => {}
+            What::WaitFor(_) => {}
+            What::Leave => {}
+        }
+    }
 }
 
 impl What {
@@ -388,7 +505,7 @@ impl What {
 }
 
 /// A call: the `number`th of client `client`.
-#[derive(Debug, Drop)]
+#[derive(Drop)]
 pub struct Call {
     /// The place of the client in the setup, from 0.
     pub client: u32,

@@ -38,7 +38,7 @@ impl TryCopy for Call {
 
 impl TryCopy for Request {
     fn copy(&self, alloc: Global) -> Result<Request, NoMemory> {
-        match self {
+        let made = match self {
             Request::Create {
                 path,
                 wanted,
@@ -47,7 +47,7 @@ impl TryCopy for Request {
                 options,
                 attributes,
                 key,
-            } => Ok(Request::Create {
+            } => Request::Create {
                 path: path.copy(alloc)?,
                 wanted: *wanted,
                 share: *share,
@@ -55,66 +55,66 @@ impl TryCopy for Request {
                 options: *options,
                 attributes: *attributes,
                 key: *key,
-            }),
-            Request::Close { handle } => Ok(Request::Close { handle: *handle }),
-            Request::Read { handle, at, count } => Ok(Request::Read {
+            },
+            Request::Close { handle } => Request::Close { handle: *handle },
+            Request::Read { handle, at, count } => Request::Read {
                 handle: *handle,
                 at: *at,
                 count: *count,
-            }),
-            Request::Write { handle, at, bytes } => Ok(Request::Write {
+            },
+            Request::Write { handle, at, bytes } => Request::Write {
                 handle: *handle,
                 at: *at,
                 bytes: bytes.copy(alloc)?,
-            }),
-            Request::Flush { handle } => Ok(Request::Flush { handle: *handle }),
+            },
+            Request::Flush { handle } => Request::Flush { handle: *handle },
             Request::Lock {
                 handle,
                 at,
                 count,
                 exclusive,
                 wait,
-            } => Ok(Request::Lock {
+            } => Request::Lock {
                 handle: *handle,
                 at: *at,
                 count: *count,
                 exclusive: *exclusive,
                 wait: *wait,
-            }),
-            Request::Unlock { handle, at, count } => Ok(Request::Unlock {
+            },
+            Request::Unlock { handle, at, count } => Request::Unlock {
                 handle: *handle,
                 at: *at,
                 count: *count,
-            }),
+            },
             Request::QueryDir {
                 handle,
                 kind,
                 expression,
                 restart,
                 room,
-            } => Ok(Request::QueryDir {
+            } => Request::QueryDir {
                 handle: *handle,
                 kind: *kind,
                 expression: expression.copy(alloc)?,
                 restart: *restart,
                 room: *room,
-            }),
+            },
             Request::Notify {
                 handle,
                 filter,
                 tree,
                 room,
-            } => Ok(Request::Notify {
+            } => Request::Notify {
                 handle: *handle,
                 filter: *filter,
                 tree: *tree,
                 room: *room,
-            }),
-            Request::QueryInfo { handle, kind, room } => Ok(Request::QueryInfo {
+            },
+            Request::QueryInfo { handle, kind, room } => Request::QueryInfo {
                 handle: *handle,
                 kind: *kind,
                 room: *room,
-            }),
+            },
             Request::SetBasic {
                 handle,
                 creation,
@@ -122,75 +122,76 @@ impl TryCopy for Request {
                 write,
                 change,
                 attributes,
-            } => Ok(Request::SetBasic {
+            } => Request::SetBasic {
                 handle: *handle,
                 creation: *creation,
                 access: *access,
                 write: *write,
                 change: *change,
                 attributes: *attributes,
-            }),
-            Request::SetEnd { handle, length } => Ok(Request::SetEnd {
+            },
+            Request::SetEnd { handle, length } => Request::SetEnd {
                 handle: *handle,
                 length: *length,
-            }),
-            Request::SetDisposition { handle, delete } => Ok(Request::SetDisposition {
+            },
+            Request::SetDisposition { handle, delete } => Request::SetDisposition {
                 handle: *handle,
                 delete: *delete,
-            }),
+            },
             Request::Rename {
                 handle,
                 path,
                 replace,
-            } => Ok(Request::Rename {
+            } => Request::Rename {
                 handle: *handle,
                 path: path.copy(alloc)?,
                 replace: *replace,
-            }),
+            },
             Request::Link {
                 handle,
                 path,
                 replace,
-            } => Ok(Request::Link {
+            } => Request::Link {
                 handle: *handle,
                 path: path.copy(alloc)?,
                 replace: *replace,
-            }),
+            },
             Request::SetSecurity {
                 handle,
                 owner,
                 dacl,
-            } => Ok(Request::SetSecurity {
+            } => Request::SetSecurity {
                 handle: *handle,
                 owner: *owner,
                 dacl: dacl.copy(alloc)?,
-            }),
-            Request::SetReparse { handle, bytes } => Ok(Request::SetReparse {
+            },
+            Request::SetReparse { handle, bytes } => Request::SetReparse {
                 handle: *handle,
                 bytes: bytes.copy(alloc)?,
-            }),
-            Request::GetReparse { handle, room } => Ok(Request::GetReparse {
+            },
+            Request::GetReparse { handle, room } => Request::GetReparse {
                 handle: *handle,
                 room: *room,
-            }),
-            Request::DeleteReparse { handle, tag } => Ok(Request::DeleteReparse {
+            },
+            Request::DeleteReparse { handle, tag } => Request::DeleteReparse {
                 handle: *handle,
                 tag: *tag,
-            }),
-            Request::SetQuota { sid, limit } => Ok(Request::SetQuota {
+            },
+            Request::SetQuota { sid, limit } => Request::SetQuota {
                 sid: *sid,
                 limit: *limit,
-            }),
-            Request::QueryQuota { sid } => Ok(Request::QueryQuota { sid: *sid }),
-            Request::Oplock { handle, level } => Ok(Request::Oplock {
+            },
+            Request::QueryQuota { sid } => Request::QueryQuota { sid: *sid },
+            Request::Oplock { handle, level } => Request::Oplock {
                 handle: *handle,
                 level: *level,
-            }),
-            Request::Ack { handle, level } => Ok(Request::Ack {
+            },
+            Request::Ack { handle, level } => Request::Ack {
                 handle: *handle,
                 level: *level,
-            }),
-            Request::Cancel { number } => Ok(Request::Cancel { number: *number }),
-        }
+            },
+            Request::Cancel { number } => Request::Cancel { number: *number },
+        };
+        Ok(made)
     }
 }

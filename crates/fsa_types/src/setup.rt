@@ -11,12 +11,18 @@ use std::alloc::Global;
 pub type SidList = BoundedList<u32>;
 
 /// A client.
-#[derive(Debug, Drop)]
 pub struct Client {
     /// Its name, as scripts and texts have it.
     pub name: Bytes,
     /// Its SIDs; the first owns what it makes. A setup has at least one for each client.
     pub sids: SidList,
+}
+
+// One drop of the whole, so that it is one step at each end of a function that holds one.
+impl Drop for Client {
+    fn drop(self) {
+        let Client { name: _, sids: _ } = self;
+    }
 }
 
 impl TryCopy for Client {
@@ -33,7 +39,7 @@ pub type ClientList = BoundedList<Client>;
 
 /// What a volume begins with. Each call that takes a setup has the condition that each of its
 /// clients has at least one SID.
-#[derive(Debug, Drop)]
+#[derive(Drop)]
 pub struct Setup {
     /// The case table by which names compare.
     pub table: UpcaseTable,

@@ -7,13 +7,12 @@ ghost use Rattle.fsa_types.specs.Backing.{bytes_in};
 use crate::copy::TryCopy;
 use crate::memory::NoMemory;
 use std::alloc::Global;
-use std::fmt;
 use std::marker::Model;
 use std::sync::Arc;
 
 /// A name, a path or an expression: a list of UTF-16 units, any of them, after [MS-FSCC]
 /// 'Pathname'.
-#[derive(Debug, Drop)]
+#[derive(Drop)]
 pub struct Name {
     units: Vec<u16>,
 }
@@ -60,9 +59,15 @@ impl TryCopy for Name {
 }
 
 /// A string of bytes. Strings that are equal may share one list.
-#[derive(Drop)]
 pub struct Bytes {
     backing: Backing,
+}
+
+// One drop of the whole, so that it is one step at each end of a function that holds one.
+impl Drop for Bytes {
+    fn drop(self) {
+        let Bytes { backing: _ } = self;
+    }
 }
 
 // Where the bytes of a string stand.
@@ -82,14 +87,6 @@ impl Model for Bytes {
     ghost use Rattle.fsa_types.specs.Backing.{bytes_in};
 
     ghost view = { λ b. bytes_in b.backing };
-}
-
-impl fmt::Debug for Bytes {
-    fn fmt<W: fmt::Write>(&self, f: &mut fmt::Formatter<W>) -> fmt::Result {
-        f.debug_struct("Bytes")
-            .field("bytes", &self.bytes())
-            .finish()
-    }
 }
 
 // How many bytes a string has at least whose list is shared: to count the owners of a list takes a
@@ -144,7 +141,8 @@ impl Bytes {
     pub fn shared(self) -> Bytes
         ensures { result ≡ self }
     {
-        match self.backing {
+        let Bytes { backing } = self;
+        match backing {
             Backing::Own(bytes) => Bytes {
                 backing: share(bytes),
             },

@@ -1,7 +1,7 @@
 //! What the calls that never wait answer.
 
 /// What a turn that was tried answers.
-#[derive(Debug, PartialEq, Eq, Drop)]
+#[derive(Drop)]
 pub enum TurnAnswer<Out, Call, Why> {
     /// The turn was made, and this is its answer.
     Did(Out),
@@ -12,7 +12,7 @@ pub enum TurnAnswer<Out, Call, Why> {
 }
 
 /// What a look that was tried answers.
-#[derive(Debug, PartialEq, Eq, Drop)]
+#[derive(Drop)]
 pub enum Looked<Seen> {
     /// What the history shows.
     Saw(Seen),

@@ -12,7 +12,7 @@ use std::alloc::Global;
 use std::marker::Model;
 
 /// Numbers under keys. A key can have several numbers, which stand in the order in which they were added.
-#[derive(Debug, Drop)]
+#[derive(Drop)]
 pub struct KeyIndex {
     // Each a key and a number, in the order of keys.
     entries: ShiftList<(u64, u64)>,

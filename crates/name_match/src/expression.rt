@@ -17,7 +17,7 @@ use std::marker::Model;
 const MOST_UNITS: usize = 255;
 
 /// An expression: a list of at most 255 units.
-#[derive(Debug, Drop)]
+#[derive(Drop)]
 pub struct Expression {
     units: Vec<u16>,
     plan: Plan,
@@ -35,7 +35,7 @@ impl Model for Expression {
 }
 
 /// Why there is no expression of some units.
-#[derive(Clone, Copy, Debug, PartialEq, Eq)]
+#[derive(Clone, Copy, Debug)]
 pub enum ExpressionFault {
     /// There are more than 255 units, or one of them is below 0x20 or one of `\ / : |`.
     Bad,

@@ -8,7 +8,7 @@ use crate::signs::{STAR, is_literal};
 use fsa_types::UpcaseTable;
 
 /// The way in which an expression is matched.
-#[derive(Clone, Copy, Debug)]
+#[derive(Clone, Copy)]
 pub(crate) enum Plan {
     /// `*` alone: every name.
     Every,

@@ -1,7 +1,7 @@
 //! The faults of paths.
 
 /// Why a path is refused. Every fault is answered as OBJECT_NAME_INVALID.
-#[derive(Clone, Copy, Debug, PartialEq, Eq)]
+#[derive(Clone, Copy)]
 pub enum NameFault {
     /// The path has no `\` at its start, or a component has no unit.
     Empty,

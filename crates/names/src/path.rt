@@ -18,7 +18,7 @@ const MOST_PATH_UNITS: usize = 32_760;
 
 /// A path without a fault, seen as its units. What it gives is lent from them, and no call takes
 /// memory.
-#[derive(Debug, Drop)]
+#[derive(Drop)]
 pub struct PathParts<'a> {
     units: &'a [u16],
     len: usize,
@@ -120,7 +120,7 @@ fn tail_of<'a>(rest: &'a [u16], i: usize) -> &'a [u16]
 }
 
 /// The components of a path that are left, in order; what it gives is lent from the path's units.
-#[derive(Debug, Drop)]
+#[derive(Drop)]
 pub struct Components<'a> {
     // The pieces that are left.
     rest: Option<&'a [u16]>,

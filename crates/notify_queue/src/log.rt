@@ -20,7 +20,6 @@ pub(crate) struct HeldPart<'a> {
 
 /// The changes in order, and a change begun. Contracts see all changes that were ever noted; those before the base
 /// are of no use to anyone, and their memory is room for new ones once they are half of what is held.
-#[derive(Drop)]
 pub struct ChangeLog {
     // What is gone. Only proofs read it.
     past: Past<LogPart, usize>,
@@ -32,6 +31,19 @@ pub struct ChangeLog {
     room: usize,
     // The changes that are held, and the change begun.
     part: LogPart,
+}
+
+// One drop of the whole, so that it is one step at each end of a function that holds one.
+impl Drop for ChangeLog {
+    fn drop(self) {
+        let ChangeLog {
+            past: _,
+            gone: _,
+            base: _,
+            room: _,
+            part: _,
+        } = self;
+    }
 }
 
 impl Model for ChangeLog {

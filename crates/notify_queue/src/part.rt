@@ -9,7 +9,7 @@ use std::alloc::Global;
 use std::marker::Model;
 
 /// Where the path of a change and its ancestors lie in the log.
-#[derive(Clone, Copy, Debug, PartialEq, Eq)]
+#[derive(Clone, Copy)]
 pub struct LogEntry {
     /// The action.
     pub action: u32,
@@ -26,7 +26,7 @@ pub struct LogEntry {
 }
 
 // What a log is made of.
-#[derive(Clone, Copy, Debug)]
+#[derive(Clone, Copy)]
 pub(crate) struct Pieces<'a> {
     // Where each change lies.
     pub entries: &'a [LogEntry],
@@ -38,7 +38,6 @@ pub(crate) struct Pieces<'a> {
 
 /// Changes in order, and a change begun. Paths are written from their last unit to their first,
 /// so that the name relative to an ancestor is the part that was written when the ancestor is reached.
-#[derive(Debug, Drop)]
 pub(crate) struct LogPart {
     /// Where each change lies.
     pub entries: Series<LogEntry>,
@@ -49,6 +48,19 @@ pub(crate) struct LogPart {
     pub dirs: Series<(u64, usize)>,
     first_unit: usize,
     first_dir: usize,
+}
+
+// One drop of the whole, so that it is one step at each end of a function that holds one.
+impl Drop for LogPart {
+    fn drop(self) {
+        let LogPart {
+            entries: _,
+            units: _,
+            dirs: _,
+            first_unit: _,
+            first_dir: _,
+        } = self;
+    }
 }
 
 impl Model for LogPart {

@@ -15,7 +15,7 @@ use pack_info::{ChangeRow, pack_changes};
 use std::alloc::Global;
 
 /// A watch of a directory, after [MS-FSA] 'Per ChangeNotifyEntry'.
-#[derive(Clone, Copy, Debug, PartialEq, Eq)]
+#[derive(Clone, Copy)]
 pub struct Watch {
     /// The file number of the directory.
     pub dir: u64,

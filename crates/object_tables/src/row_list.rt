@@ -14,7 +14,7 @@ use std::marker::Model;
 /// Rows of plain values under numbers that rise from 1 and are never given twice, in one list, which is lent whole. A
 /// row is found by its number in time logarithmic in the rows; to take one out moves those before it or those behind
 /// it, whichever are fewer.
-#[derive(Debug, Drop)]
+#[derive(Drop)]
 pub struct RowList<T> {
     rows: ShiftList<(u64, T)>,
     last: u64,

@@ -7,7 +7,7 @@ use std::alloc::Global;
 use std::marker::Model;
 
 /// Items in order, with spare room.
-#[derive(Debug, Drop)]
+#[derive(Drop)]
 pub struct Series<T> {
     items: Vec<T>,
 }

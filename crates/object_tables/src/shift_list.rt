@@ -14,7 +14,7 @@ use std::marker::Model;
 /// fewer: where most go from the front, little moves. Putting one in moves those behind the place, or those before it
 /// where they are fewer and a slot before them is free, as it is where some were taken out at the front. Where those
 /// behind are to move and no slot behind the items is free, all items are first moved down to the first slot.
-#[derive(Debug, Drop)]
+#[derive(Drop)]
 pub struct ShiftList<T> {
     // The first `start` slots are free: what stands there was moved or taken out.
     slots: Vec<T>,

@@ -15,12 +15,22 @@ use std::marker::Model;
 
 /// Rows under numbers that rise from 1 and are never given twice. A row is found by its number in time
 /// logarithmic in the rows, and stays where it is while others come and go.
-#[derive(Debug, Drop)]
 pub struct Table<T> {
     // The number of each row with its key in `rows`, by rising number.
     places: ShiftList<(u64, usize)>,
     rows: Slab<T>,
     last: u64,
+}
+
+// One drop of the whole, so that it is one step at each end of a function that holds one.
+impl<T: Drop> Drop for Table<T> {
+    fn drop(self) {
+        let Table {
+            places: _,
+            rows: _,
+            last: _,
+        } = self;
+    }
 }
 
 impl<T> Model for Table<T> {

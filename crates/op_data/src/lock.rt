@@ -17,7 +17,7 @@ use std::alloc::Global;
 use volume_state::{Class, HandleSet, Tried, Volume};
 
 // The range that a call asks to lock, exclusively or else shared, and whether it waits.
-#[derive(Clone, Copy, Debug)]
+#[derive(Clone, Copy)]
 struct LockRange {
     at: u64,
     count: u64,

@@ -12,7 +12,7 @@ use std::alloc::Global;
 use volume_state::Volume;
 
 /// A lock of a range of a stream, by a handle with this key.
-#[derive(Clone, Copy, Debug)]
+#[derive(Clone, Copy)]
 pub struct Locking {
     /// The number of the handle.
     pub handle: u64,

@@ -18,7 +18,7 @@ use std::alloc::Global;
 use volume_state::{Class, HandleSet, Need, Tried, Volume};
 
 // A read of a range of a stream, by a handle with this key.
-#[derive(Clone, Copy, Debug)]
+#[derive(Clone, Copy)]
 struct ReadRange {
     handle: u64,
     key: u64,

@@ -13,7 +13,7 @@ use op_parts::{access_time, attributes_of, creation_time};
 use volume_state::Volume;
 
 /// A new length of a stream, by a handle with this key that was opened by this link.
-#[derive(Clone, Copy, Debug)]
+#[derive(Clone, Copy)]
 pub struct Resizing {
     /// The number of the handle.
     pub handle: u64,

@@ -15,7 +15,7 @@ use op_parts::{access_time, attributes_of, creation_time, is_named_stream, noted
 use volume_state::Volume;
 
 /// A write of a range of a stream, by a handle with this key that was opened by this link.
-#[derive(Clone, Copy, Debug)]
+#[derive(Clone, Copy)]
 pub struct Writing<'a> {
     /// The number of the handle.
     pub handle: u64,

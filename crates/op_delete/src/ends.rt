@@ -14,7 +14,7 @@ use volume_breaks::names;
 use volume_state::Volume;
 
 /// Which pending calls end.
-#[derive(Clone, Copy, Debug, PartialEq, Eq)]
+#[derive(Clone, Copy)]
 pub enum Ending {
     /// Those that name a handle which is closed.
     OfHandle {

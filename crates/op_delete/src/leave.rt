@@ -20,7 +20,7 @@ use std::alloc::Global;
 use volume_state::{HandleRow, Need, Tried, Volume};
 
 // The room for the closes of a client's handles, up to the one of number `after`.
-#[derive(Clone, Copy, Debug, PartialEq, Eq)]
+#[derive(Clone, Copy)]
 struct Sum {
     after: u32,
     changes: u32,

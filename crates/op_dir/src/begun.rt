@@ -12,7 +12,7 @@ use std::alloc::Global;
 use volume_state::{Cursor, HandleRow};
 
 /// An expression that isn't refused, and a cursor.
-#[derive(Debug, Drop)]
+#[derive(Drop)]
 pub(crate) struct Begun {
     pub(crate) expression: Name,
     pub(crate) cursor: Cursor,

@@ -18,7 +18,7 @@ use std::alloc::Global;
 use volume_state::{Cursor, Volume};
 
 /// What a query comes to.
-#[derive(Debug, Drop)]
+#[derive(Drop)]
 pub(crate) enum Listing {
     /// Nothing is left.
     NoneLeft,

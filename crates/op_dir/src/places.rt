@@ -20,7 +20,7 @@ use std::alloc::Global;
 use volume_state::{Cursor, LinkRow, Volume};
 
 /// Where an entry of a directory stands.
-#[derive(Clone, Copy, Debug)]
+#[derive(Clone, Copy)]
 pub(crate) enum Place {
     /// It is `.`.
     Dot,

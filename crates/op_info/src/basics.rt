@@ -13,7 +13,7 @@ use std::marker::Model;
 use volume_state::Volume;
 
 /// What is asked: the four times, in ticks, and the attributes, as FILE_ATTRIBUTE bits.
-#[derive(Clone, Copy, Debug)]
+#[derive(Clone, Copy)]
 pub struct Basics {
     /// The time of creation.
     pub creation: u64,

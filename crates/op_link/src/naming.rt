@@ -8,7 +8,7 @@ use names::{PathParts, split_path};
 use std::marker::Model;
 
 /// A new name that is asked for by a handle.
-#[derive(Debug, Drop)]
+#[derive(Drop)]
 pub struct Naming<'a> {
     /// The client, by its place in the setup.
     pub client: u32,
@@ -68,7 +68,7 @@ pub fn new_name<'a>(naming: &Naming, parts: &PathParts<'a>) -> &'a [u16]
 }
 
 /// What is asked for, with its new name.
-#[derive(Debug, Drop)]
+#[derive(Drop)]
 pub struct Named<'a> {
     naming: &'a Naming<'a>,
     name: &'a [u16],

@@ -12,7 +12,7 @@ use op_parts::{has_other_attribute, has_right};
 use std::marker::Model;
 
 /// What an open asks for, as its call has it.
-#[derive(Debug, Drop)]
+#[derive(Drop)]
 pub struct Asked<'a> {
     /// The client, by its place in the setup.
     pub client: u32,

@@ -10,7 +10,7 @@ use names::PathParts;
 use std::marker::Model;
 
 /// What an open asks for, beside the stream part of its path.
-#[derive(Debug, Drop)]
+#[derive(Drop)]
 pub struct Opening<'a> {
     asked: &'a Asked<'a>,
     stream: Option<&'a [u16]>,

@@ -12,7 +12,7 @@ use names::PathParts;
 use volume_state::Volume;
 
 /// What a walk comes to.
-#[derive(Clone, Copy, Debug, PartialEq, Eq)]
+#[derive(Clone, Copy)]
 pub enum Walked {
     /// The directory of this file number.
     Reached(u64),

@@ -32,11 +32,17 @@ use volume_tables::HandleTable;
 /// A table stands, and room is promised, under a key of the stream, the home of its oplocks: 2 times the stream's
 /// number, which has to be below 2^63. An odd key, 2 times a directory's file number and 1, is kept for a directory;
 /// no directory has an oplock yet.
-#[derive(Drop)]
 pub struct OplockTable {
     list: Oplocks,
     // The oplocks once more, home by home.
     tables: StreamTables,
+}
+
+// One drop of the whole, so that it is one step at each end of a function that holds one.
+impl Drop for OplockTable {
+    fn drop(self) {
+        let OplockTable { list: _, tables: _ } = self;
+    }
 }
 
 impl Model for OplockTable {

@@ -18,7 +18,7 @@ use volume_breaks::{Oplocks, Told, break_oplocks, drop_chosen, is_refused};
 use volume_rows::{OplockRow, find_break, find_target, in_both, is_oplock_of};
 
 /// Whether an oplock was granted.
-#[derive(Clone, Copy, Debug, PartialEq, Eq)]
+#[derive(Clone, Copy)]
 pub enum Grant {
     /// It was, and its call is to be pending as granted. Those of its key that it switched are those that were
     /// chosen last.
@@ -29,11 +29,17 @@ pub enum Grant {
 
 /// The oplocks of one stream or directory, in the order in which they were granted; the handles that are marked
 /// for the next break; and what the last break or grant put by.
-#[derive(Drop)]
 pub struct StreamOplocks {
     list: Oplocks,
     // The handles that are marked, each once, and each with an oplock.
     marked: Vec<u64>,
+}
+
+// One drop of the whole, so that it is one step at each end of a function that holds one.
+impl Drop for StreamOplocks {
+    fn drop(self) {
+        let StreamOplocks { list: _, marked: _ } = self;
+    }
 }
 
 // The home to which room is promised in the list, which has no other.

@@ -15,7 +15,7 @@ use std::marker::Model;
 use volume_rows::OplockRow;
 
 /// An oplock that is asked for.
-#[derive(Clone, Copy, Debug)]
+#[derive(Clone, Copy)]
 pub struct AskedOplock {
     /// The handle.
     pub handle: u64,

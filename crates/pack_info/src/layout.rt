@@ -9,7 +9,7 @@ use fsa_types::{NoMemory, PackKind};
 use std::marker::Model;
 
 // The numbers of a row. One that a row of its kind doesn't have is 0.
-#[derive(Clone, Copy, Debug)]
+#[derive(Clone, Copy)]
 pub(crate) struct Numbers {
     pub action: u32,
     pub creation: u64,

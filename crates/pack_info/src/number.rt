@@ -9,7 +9,7 @@ use byteorder::{ByteOrder, LittleEndian};
 use fsa_types::NoMemory;
 
 // A number of four or of eight bytes.
-#[derive(Clone, Copy, Debug)]
+#[derive(Clone, Copy)]
 pub(crate) enum Number {
     // Four bytes.
     Four(u32),

@@ -11,7 +11,7 @@ use byteorder::{ByteOrder, LittleEndian};
 use fsa_types::PackKind;
 
 // What stands before a name, its constants too.
-#[derive(Clone, Copy, Debug)]
+#[derive(Clone, Copy)]
 pub(crate) struct Head {
     // The distance to the next entry.
     pub next: u32,

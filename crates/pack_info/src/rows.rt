@@ -22,7 +22,7 @@ pub(crate) trait Row {
 }
 
 /// A change that is told, after [MS-FSCC] 'FILE_NOTIFY_INFORMATION'.
-#[derive(Debug, Drop)]
+#[derive(Drop)]
 pub struct ChangeRow {
     /// What happened, as a FILE_ACTION.
     pub action: u32,
@@ -40,7 +40,7 @@ impl Model for ChangeRow {
 
 /// An entry of a directory, after [MS-FSCC] 'FileIdFullDirectoryInformation'. Times are in units of
 /// 100 nanoseconds.
-#[derive(Debug, Drop)]
+#[derive(Drop)]
 pub struct DirRow {
     /// The time of creation.
     pub creation: u64,
@@ -84,7 +84,7 @@ impl Model for DirRow {
 }
 
 /// A stream of a file, after [MS-FSCC] 'FileStreamInformation'.
-#[derive(Debug, Drop)]
+#[derive(Drop)]
 pub struct StreamInfoRow {
     /// The length in bytes.
     pub length: u64,

@@ -15,7 +15,7 @@ use std::marker::Model;
 
 /// An entry of a buffer. A number that the layout doesn't have is 0; the name is lent from the
 /// buffer.
-#[derive(Clone, Copy, Debug)]
+#[derive(Clone, Copy)]
 pub struct PackedEntry<'a> {
     /// The action of a change.
     pub action: u32,
@@ -77,14 +77,14 @@ fn entry_at<'a>(kind: PackKind, bytes: &'a [u8]) -> Option<(PackedEntry<'a>, &'a
 }
 
 /// The bytes at this place are in no layout.
-#[derive(Clone, Copy, Debug, PartialEq, Eq)]
+#[derive(Clone, Copy)]
 pub struct Malformed {
     /// The place, from the start of the buffer.
     pub place: usize,
 }
 
 // A walk: a buffer, and how far it was walked.
-#[derive(Debug, Drop)]
+#[derive(Drop)]
 struct Walk<'a> {
     kind: PackKind,
     buffer: &'a [u8],
@@ -132,7 +132,7 @@ impl<'a> Walk<'a> {
 }
 
 /// The entries of a buffer of changes.
-#[derive(Debug, Drop)]
+#[derive(Drop)]
 pub struct NotifyEntries<'a> {
     walk: Walk<'a>,
 }
@@ -166,7 +166,7 @@ impl<'a> NotifyEntries<'a> {
 }
 
 /// The entries of a buffer of streams.
-#[derive(Debug, Drop)]
+#[derive(Drop)]
 pub struct StreamEntries<'a> {
     walk: Walk<'a>,
 }
@@ -200,7 +200,7 @@ impl<'a> StreamEntries<'a> {
 }
 
 /// The entries of a buffer of a directory's entries.
-#[derive(Debug, Drop)]
+#[derive(Drop)]
 pub struct DirEntries<'a> {
     walk: Walk<'a>,
 }

@@ -13,7 +13,6 @@ use std::marker::Model;
 
 /// The calls that are held, each under its turn with those of its blockers that live, in the order in
 /// which they were held.
-#[derive(Debug, Drop)]
 pub struct PendingQueue {
     // The calls, each its turn and how many of its blockers live.
     calls: Vec<(u64, usize)>,
@@ -23,6 +22,18 @@ pub struct PendingQueue {
     waits: Waits,
     // The turns of the calls none of whose blockers lives, in rising order, with room for those of all calls.
     ready: Vec<u64>,
+}
+
+// One drop of the whole, so that it is one step at each end of a function that holds one.
+impl Drop for PendingQueue {
+    fn drop(self) {
+        let PendingQueue {
+            calls: _,
+            rising: _,
+            waits: _,
+            ready: _,
+        } = self;
+    }
 }
 
 impl Model for PendingQueue {

@@ -14,7 +14,7 @@ use std::alloc::Global;
 use std::marker::Model;
 
 /// A blocker that a call waits for.
-#[derive(Clone, Copy, Debug)]
+#[derive(Clone, Copy)]
 pub struct Wait {
     /// The call's turn.
     pub turn: u64,
@@ -29,7 +29,6 @@ pub struct Wait {
 }
 
 /// The blockers that live, each with the turn that waits for it, in the order in which they were put in.
-#[derive(Debug, Drop)]
 pub struct Waits {
     // In order, also those that live no more, until room is taken anew.
     waits: Vec<Wait>,
@@ -37,6 +36,17 @@ pub struct Waits {
     heads: Vec<usize>,
     // The same of their turns.
     turn_heads: Vec<usize>,
+}
+
+// One drop of the whole, so that it is one step at each end of a function that holds one.
+impl Drop for Waits {
+    fn drop(self) {
+        let Waits {
+            waits: _,
+            heads: _,
+            turn_heads: _,
+        } = self;
+    }
 }
 
 impl Model for Waits {

@@ -14,7 +14,7 @@ use std::alloc::Global;
 use std::marker::Model;
 
 /// Ranges in the order of their places. Those of one place stand in the order in which they were added.
-#[derive(Debug, Drop)]
+#[derive(Drop)]
 pub(crate) struct RangesByPlace {
     ranges: ShiftList<Range>,
     // No range has more bytes.

@@ -16,13 +16,23 @@ use std::alloc::Global;
 use std::marker::Model;
 
 /// The ranges of one stream that are held, in order of insertion.
-#[derive(Debug, Drop)]
 pub struct RangeTable {
     ranges: ShiftList<Range>,
     // The same ranges in the order of their places.
     by_place: RangesByPlace,
     // Each range was put in behind lesser numbers, so that their numbers tell their order.
     rising: bool,
+}
+
+// One drop of the whole, so that it is one step at each end of a function that holds one.
+impl Drop for RangeTable {
+    fn drop(self) {
+        let RangeTable {
+            ranges: _,
+            by_place: _,
+            rising: _,
+        } = self;
+    }
 }
 
 impl Model for RangeTable {

@@ -85,19 +85,16 @@ fn set_end_fields(fields: &[u8]) -> Result<What, LineFault>
 pub fn byte_line(alloc: Global, verb: &[u8], fields: &[u8]) -> Result<Option<What>, LineFault>
     ensures { ReadsOr result (byte_line verb.now fields.now) }
 {
-    if verb == b"read".as_slice() {
-        let what = read_fields(fields)?;
-        Ok(Some(what))
+    let what = if verb == b"read".as_slice() {
+        read_fields(fields)
     } else if verb == b"write".as_slice() {
-        let what = write_fields(alloc, fields)?;
-        Ok(Some(what))
+        write_fields(alloc, fields)
     } else if verb == b"flush".as_slice() {
-        let what = flush_fields(fields)?;
-        Ok(Some(what))
+        flush_fields(fields)
     } else if verb == b"setend".as_slice() {
-        let what = set_end_fields(fields)?;
-        Ok(Some(what))
+        set_end_fields(fields)
     } else {
-        Ok(None)
-    }
+        return Ok(None);
+    };
+    Ok(Some(what?))
 }

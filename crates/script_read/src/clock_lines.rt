@@ -23,10 +23,10 @@ fn tick_fields(fields: &[u8]) -> Result<What, LineFault>
 pub fn clock_line(verb: &[u8], fields: &[u8]) -> Result<Option<What>, LineFault>
     ensures { ReadsOr result (clock_line verb.now fields.now) }
 {
-    if verb == b"tick".as_slice() {
-        let what = tick_fields(fields)?;
-        Ok(Some(what))
+    let what = if verb == b"tick".as_slice() {
+        tick_fields(fields)
     } else {
-        Ok(None)
-    }
+        return Ok(None);
+    };
+    Ok(Some(what?))
 }

@@ -70,22 +70,18 @@ fn query_quota_fields(fields: &[u8]) -> Result<What, LineFault>
 pub fn control_line(alloc: Global, verb: &[u8], fields: &[u8]) -> Result<Option<What>, LineFault>
     ensures { ReadsOr result (control_line verb.now fields.now) }
 {
-    if verb == b"setreparse".as_slice() {
-        let what = set_reparse_fields(alloc, fields)?;
-        Ok(Some(what))
+    let what = if verb == b"setreparse".as_slice() {
+        set_reparse_fields(alloc, fields)
     } else if verb == b"getreparse".as_slice() {
-        let what = get_reparse_fields(fields)?;
-        Ok(Some(what))
+        get_reparse_fields(fields)
     } else if verb == b"deletereparse".as_slice() {
-        let what = delete_reparse_fields(fields)?;
-        Ok(Some(what))
+        delete_reparse_fields(fields)
     } else if verb == b"setquota".as_slice() {
-        let what = set_quota_fields(fields)?;
-        Ok(Some(what))
+        set_quota_fields(fields)
     } else if verb == b"queryquota".as_slice() {
-        let what = query_quota_fields(fields)?;
-        Ok(Some(what))
+        query_quota_fields(fields)
     } else {
-        Ok(None)
-    }
+        return Ok(None);
+    };
+    Ok(Some(what?))
 }

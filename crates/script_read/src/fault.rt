@@ -47,7 +47,7 @@ impl From<NoMemory> for ReadFault {
 }
 
 /// Why a line is not read.
-#[derive(Clone, Copy, Debug, PartialEq, Eq)]
+#[derive(Clone, Copy)]
 pub enum LineFault {
     /// There is no memory for what it says.
     NoMemory,

@@ -15,19 +15,20 @@ use std::alloc::Global;
 fn info_kind_of(word: &[u8]) -> Result<InfoKind, LineFault>
     ensures { ReadsAs (λ kind. kind) result (info_kind_of word.now) }
 {
-    if word == b"basic".as_slice() {
-        Ok(InfoKind::Basic)
+    let kind = if word == b"basic".as_slice() {
+        InfoKind::Basic
     } else if word == b"standard".as_slice() {
-        Ok(InfoKind::Standard)
+        InfoKind::Standard
     } else if word == b"internal".as_slice() {
-        Ok(InfoKind::Internal)
+        InfoKind::Internal
     } else if word == b"tag".as_slice() {
-        Ok(InfoKind::Tag)
+        InfoKind::Tag
     } else if word == b"stream".as_slice() {
-        Ok(InfoKind::Streams)
+        InfoKind::Streams
     } else {
-        Err(SYNTAX)
-    }
+        return Err(SYNTAX);
+    };
+    Ok(kind)
 }
 
 // What is asked for at the front, and what follows it.
@@ -99,16 +100,14 @@ pub fn information_line(
 ) -> Result<Option<What>, LineFault>
     ensures { ReadsOr result (information_line verb.now fields.now) }
 {
-    if verb == b"query".as_slice() {
-        let what = query_info_fields(fields)?;
-        Ok(Some(what))
+    let what = if verb == b"query".as_slice() {
+        query_info_fields(fields)
     } else if verb == b"setbasic".as_slice() {
-        let what = set_basic_fields(fields)?;
-        Ok(Some(what))
+        set_basic_fields(fields)
     } else if verb == b"setsecurity".as_slice() {
-        let what = set_security_fields(alloc, fields)?;
-        Ok(Some(what))
+        set_security_fields(alloc, fields)
     } else {
-        Ok(None)
-    }
+        return Ok(None);
+    };
+    Ok(Some(what?))
 }

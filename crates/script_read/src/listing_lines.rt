@@ -15,17 +15,18 @@ use std::alloc::Global;
 fn dir_kind_of(word: &[u8]) -> Result<DirKind, LineFault>
     ensures { ReadsAs (λ kind. kind) result (dir_kind_of word.now) }
 {
-    if word == b"names".as_slice() {
-        Ok(DirKind::Names)
+    let kind = if word == b"names".as_slice() {
+        DirKind::Names
     } else if word == b"dir".as_slice() {
-        Ok(DirKind::Dir)
+        DirKind::Dir
     } else if word == b"full".as_slice() {
-        Ok(DirKind::Full)
+        DirKind::Full
     } else if word == b"idfull".as_slice() {
-        Ok(DirKind::IdFull)
+        DirKind::IdFull
     } else {
-        Err(SYNTAX)
-    }
+        return Err(SYNTAX);
+    };
+    Ok(kind)
 }
 
 // The layout at the front, and what follows it.
@@ -82,13 +83,12 @@ fn notify_fields(fields: &[u8]) -> Result<What, LineFault>
 pub fn listing_line(alloc: Global, verb: &[u8], fields: &[u8]) -> Result<Option<What>, LineFault>
     ensures { ReadsOr result (listing_line verb.now fields.now) }
 {
-    if verb == b"querydir".as_slice() {
-        let what = query_dir_fields(alloc, fields)?;
-        Ok(Some(what))
+    let what = if verb == b"querydir".as_slice() {
+        query_dir_fields(alloc, fields)
     } else if verb == b"notify".as_slice() {
-        let what = notify_fields(fields)?;
-        Ok(Some(what))
+        notify_fields(fields)
     } else {
-        Ok(None)
-    }
+        return Ok(None);
+    };
+    Ok(Some(what?))
 }

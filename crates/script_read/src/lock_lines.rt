@@ -45,13 +45,12 @@ fn unlock_fields(fields: &[u8]) -> Result<What, LineFault>
 pub fn lock_line(verb: &[u8], fields: &[u8]) -> Result<Option<What>, LineFault>
     ensures { ReadsOr result (lock_line verb.now fields.now) }
 {
-    if verb == b"lock".as_slice() {
-        let what = lock_fields(fields)?;
-        Ok(Some(what))
+    let what = if verb == b"lock".as_slice() {
+        lock_fields(fields)
     } else if verb == b"unlock".as_slice() {
-        let what = unlock_fields(fields)?;
-        Ok(Some(what))
+        unlock_fields(fields)
     } else {
-        Ok(None)
-    }
+        return Ok(None);
+    };
+    Ok(Some(what?))
 }

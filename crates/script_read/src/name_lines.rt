@@ -58,16 +58,14 @@ fn set_disposition_fields(fields: &[u8]) -> Result<What, LineFault>
 pub fn name_line(alloc: Global, verb: &[u8], fields: &[u8]) -> Result<Option<What>, LineFault>
     ensures { ReadsOr result (name_line verb.now fields.now) }
 {
-    if verb == b"rename".as_slice() {
-        let what = rename_fields(alloc, fields)?;
-        Ok(Some(what))
+    let what = if verb == b"rename".as_slice() {
+        rename_fields(alloc, fields)
     } else if verb == b"link".as_slice() {
-        let what = link_fields(alloc, fields)?;
-        Ok(Some(what))
+        link_fields(alloc, fields)
     } else if verb == b"setdelete".as_slice() {
-        let what = set_disposition_fields(fields)?;
-        Ok(Some(what))
+        set_disposition_fields(fields)
     } else {
-        Ok(None)
-    }
+        return Ok(None);
+    };
+    Ok(Some(what?))
 }

@@ -15,21 +15,22 @@ use std::alloc::Global;
 fn disposition_of(word: &[u8]) -> Result<Disposition, LineFault>
     ensures { ReadsAs (λ disposition. disposition) result (disposition_of word.now) }
 {
-    if word == b"supersede".as_slice() {
-        Ok(Disposition::Supersede)
+    let disposition = if word == b"supersede".as_slice() {
+        Disposition::Supersede
     } else if word == b"open".as_slice() {
-        Ok(Disposition::OpenExisting)
+        Disposition::OpenExisting
     } else if word == b"create".as_slice() {
-        Ok(Disposition::CreateNew)
+        Disposition::CreateNew
     } else if word == b"open_if".as_slice() {
-        Ok(Disposition::OpenIf)
+        Disposition::OpenIf
     } else if word == b"overwrite".as_slice() {
-        Ok(Disposition::Overwrite)
+        Disposition::Overwrite
     } else if word == b"overwrite_if".as_slice() {
-        Ok(Disposition::OverwriteIf)
+        Disposition::OverwriteIf
     } else {
-        Err(SYNTAX)
-    }
+        return Err(SYNTAX);
+    };
+    Ok(disposition)
 }
 
 // The disposition at the front, and what follows it.
@@ -80,13 +81,12 @@ fn close_fields(fields: &[u8]) -> Result<What, LineFault>
 pub fn open_line(alloc: Global, verb: &[u8], fields: &[u8]) -> Result<Option<What>, LineFault>
     ensures { ReadsOr result (open_line verb.now fields.now) }
 {
-    if verb == b"create".as_slice() {
-        let what = create_fields(alloc, fields)?;
-        Ok(Some(what))
+    let what = if verb == b"create".as_slice() {
+        create_fields(alloc, fields)
     } else if verb == b"close".as_slice() {
-        let what = close_fields(fields)?;
-        Ok(Some(what))
+        close_fields(fields)
     } else {
-        Ok(None)
-    }
+        return Ok(None);
+    };
+    Ok(Some(what?))
 }

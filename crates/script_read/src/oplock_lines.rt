@@ -14,19 +14,20 @@ use fsa_types::{Level, Request, What};
 fn level_of_word(word: &[u8]) -> Result<Level, LineFault>
     ensures { ReadsAs (λ level. level) result (level_of_word word.now) }
 {
-    if word == b"none".as_slice() {
-        Ok(Level::Nil)
+    let level = if word == b"none".as_slice() {
+        Level::Nil
     } else if word == b"r".as_slice() {
-        Ok(Level::R)
+        Level::R
     } else if word == b"rh".as_slice() {
-        Ok(Level::RH)
+        Level::RH
     } else if word == b"rw".as_slice() {
-        Ok(Level::RW)
+        Level::RW
     } else if word == b"rwh".as_slice() {
-        Ok(Level::RWH)
+        Level::RWH
     } else {
-        Err(SYNTAX)
-    }
+        return Err(SYNTAX);
+    };
+    Ok(level)
 }
 
 // The level at the front, and what follows it.
@@ -74,13 +75,12 @@ fn ack_fields(fields: &[u8]) -> Result<What, LineFault>
 pub fn oplock_line(verb: &[u8], fields: &[u8]) -> Result<Option<What>, LineFault>
     ensures { ReadsOr result (oplock_line verb.now fields.now) }
 {
-    if verb == b"oplock".as_slice() {
-        let what = oplock_fields(fields)?;
-        Ok(Some(what))
+    let what = if verb == b"oplock".as_slice() {
+        oplock_fields(fields)
     } else if verb == b"ack".as_slice() {
-        let what = ack_fields(fields)?;
-        Ok(Some(what))
+        ack_fields(fields)
     } else {
-        Ok(None)
-    }
+        return Ok(None);
+    };
+    Ok(Some(what?))
 }

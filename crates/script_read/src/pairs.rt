@@ -12,12 +12,22 @@ use std::marker::Model;
 const UNITS: usize = 65_536;
 
 /// Pairs of source and target, none of them at fault after those before it.
-#[derive(Drop)]
 pub struct PairList {
     pairs: Vec<(u16, u16)>,
     // Which units are sources, and which are targets.
     sources: Vec<bool>,
     targets: Vec<bool>,
+}
+
+// One drop of the whole, so that it is one step at each end of a function that holds one.
+impl Drop for PairList {
+    fn drop(self) {
+        let PairList {
+            pairs: _,
+            sources: _,
+            targets: _,
+        } = self;
+    }
 }
 
 impl Model for PairList {

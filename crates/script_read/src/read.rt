@@ -105,15 +105,7 @@ impl Reading {
         requires { table ≡ (reading_of self).script.setup.table }
         ensures { contents result ≡ (reading_of self).script }
     {
-        let Reading {
-            stage: _,
-            default_table: _,
-            pairs: _,
-            names: _,
-            clients,
-            last_numbers: _,
-            calls,
-        } = self;
+        let (clients, calls) = self.into_parts();
         let setup = Setup { table, clients };
         Script {
             setup,

@@ -23,35 +23,28 @@ use std::alloc::Global;
 pub fn what_of(alloc: Global, verb: &[u8], fields: &[u8]) -> Result<What, LineFault>
     ensures { ReadsAs (λ what. what) result (what_of verb.now fields.now) }
 {
-    if let Some(what) = open_line(alloc, verb, fields)? {
-        return Ok(what);
-    }
-    if let Some(what) = byte_line(alloc, verb, fields)? {
-        return Ok(what);
-    }
-    if let Some(what) = lock_line(verb, fields)? {
-        return Ok(what);
-    }
-    if let Some(what) = oplock_line(verb, fields)? {
-        return Ok(what);
-    }
-    if let Some(what) = name_line(alloc, verb, fields)? {
-        return Ok(what);
-    }
-    if let Some(what) = information_line(alloc, verb, fields)? {
-        return Ok(what);
-    }
-    if let Some(what) = listing_line(alloc, verb, fields)? {
-        return Ok(what);
-    }
-    if let Some(what) = control_line(alloc, verb, fields)? {
-        return Ok(what);
-    }
-    if let Some(what) = clock_line(verb, fields)? {
-        return Ok(what);
-    }
-    if let Some(what) = wait_line(verb, fields)? {
-        return Ok(what);
-    }
-    Err(SYNTAX)
+    let what = if let Some(what) = open_line(alloc, verb, fields)? {
+        what
+    } else if let Some(what) = byte_line(alloc, verb, fields)? {
+        what
+    } else if let Some(what) = lock_line(verb, fields)? {
+        what
+    } else if let Some(what) = oplock_line(verb, fields)? {
+        what
+    } else if let Some(what) = name_line(alloc, verb, fields)? {
+        what
+    } else if let Some(what) = information_line(alloc, verb, fields)? {
+        what
+    } else if let Some(what) = listing_line(alloc, verb, fields)? {
+        what
+    } else if let Some(what) = control_line(alloc, verb, fields)? {
+        what
+    } else if let Some(what) = clock_line(verb, fields)? {
+        what
+    } else if let Some(what) = wait_line(verb, fields)? {
+        what
+    } else {
+        return Err(SYNTAX);
+    };
+    Ok(what)
 }

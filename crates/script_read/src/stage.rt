@@ -5,7 +5,7 @@ ghost use Rattle.fsa_model.specs.Script.{takes_version, takes_table, takes_pairs
 ghost use Rattle.script_read.specs.StageView.{stage_of};
 
 /// What was read last.
-#[derive(Clone, Copy, Debug, PartialEq, Eq)]
+#[derive(Clone, Copy)]
 pub enum Stage {
     /// Nothing yet.
     Nothing,

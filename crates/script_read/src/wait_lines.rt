@@ -33,13 +33,12 @@ fn wait_fields(fields: &[u8]) -> Result<What, LineFault>
 pub fn wait_line(verb: &[u8], fields: &[u8]) -> Result<Option<What>, LineFault>
     ensures { ReadsOr result (wait_line verb.now fields.now) }
 {
-    if verb == b"cancel".as_slice() {
-        let what = cancel_fields(fields)?;
-        Ok(Some(what))
+    let what = if verb == b"cancel".as_slice() {
+        cancel_fields(fields)
     } else if verb == b"wait".as_slice() {
-        let what = wait_fields(fields)?;
-        Ok(Some(what))
+        wait_fields(fields)
     } else {
-        Ok(None)
-    }
+        return Ok(None);
+    };
+    Ok(Some(what?))
 }

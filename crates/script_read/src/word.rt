@@ -113,13 +113,14 @@ pub fn mask_at(bytes: &[u8]) -> Result<(u32, &[u8]), LineFault>
 fn choice_of(first: &[u8], second: &[u8], word: &[u8]) -> Result<bool, LineFault>
     ensures { ReadsAs (λ choice. choice) result (choice_of first.now second.now word.now) }
 {
-    if word == first {
-        Ok(true)
+    let is_first = if word == first {
+        true
     } else if word == second {
-        Ok(false)
+        false
     } else {
-        Err(SYNTAX)
-    }
+        return Err(SYNTAX);
+    };
+    Ok(is_first)
 }
 
 /// One of two words at the front, true for the first, and what follows it.

@@ -26,12 +26,7 @@ pub type Pass = history_lock::Pass<Engine>;
 fn answer_of(out: Out) -> Answer
     ensures { result ≡ out.answer }
 {
-    let Out {
-        answer,
-        ended: _,
-        starved: _,
-    } = out;
-    answer
+    out.into_answer()
 }
 
 // What a call does.

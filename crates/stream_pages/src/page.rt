@@ -14,7 +14,7 @@ pub(crate) const PAGE: usize = 4096;
 const ZEROS: [u8; PAGE] = [0; PAGE];
 
 /// A page: 4,096 bytes.
-#[derive(Debug, Drop)]
+#[derive(Drop)]
 pub(crate) struct Page {
     bytes: Vec<u8>,
 }

@@ -11,7 +11,7 @@ use std::alloc::{AllocFailed, Global};
 use std::marker::Model;
 
 /// Pages under their numbers. A page is there only once it was added.
-#[derive(Debug, Drop)]
+#[derive(Drop)]
 pub(crate) struct Pages {
     // By rising number.
     pages: Vec<(u64, Page)>,

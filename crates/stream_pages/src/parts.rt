@@ -10,7 +10,7 @@ use crate::pages::Pages;
 use std::marker::Model;
 
 /// Bytes of a stream, lent in parts, each of one page. It is seen as the parts that are left.
-#[derive(Debug, Drop)]
+#[derive(Drop)]
 pub struct Parts<'a> {
     pages: &'a Pages,
     at: u64,

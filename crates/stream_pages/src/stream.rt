@@ -15,7 +15,7 @@ use std::marker::Model;
 
 /// The bytes of a stream, after [MS-FSA] 'Per Stream', in pages of 4,096 bytes. It is seen as the list
 /// of its bytes, beside the room in which nothing that is written takes memory.
-#[derive(Debug, Drop)]
+#[derive(Drop)]
 pub struct Stream {
     pages: Pages,
     // How many bytes there are; behind them the pages have zeros.

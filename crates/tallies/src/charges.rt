@@ -10,7 +10,7 @@ use std::alloc::{AllocFailed, Global};
 use std::marker::Model;
 
 /// What each owner is charged, in bytes. An owner is the number of a SID.
-#[derive(Debug, Drop)]
+#[derive(Drop)]
 pub struct Charges {
     // By rising owner.
     sums: Vec<(u32, u64)>,

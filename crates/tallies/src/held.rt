@@ -8,7 +8,7 @@ use std::marker::Model;
 
 // The opens that are held, as pairs of access and share. It has no bytes, and its functions do
 // nothing when they run.
-#[derive(Debug, Drop)]
+#[derive(Drop)]
 pub(crate) struct HeldOpens {
     ghost pairs: { List (ℕ × ℕ) },
 }

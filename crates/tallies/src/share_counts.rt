@@ -17,7 +17,7 @@ use std::marker::Model;
 /// keep from others, after [MS-FSA] 'Algorithm to Check Sharing Access to an Existing Stream or
 /// Directory'. Contracts see the list of the pairs that are held, each of an access mask and a share
 /// mask.
-#[derive(Debug, Drop)]
+#[derive(Drop)]
 pub struct ShareCounts {
     // The list that contracts see.
     held: HeldOpens,

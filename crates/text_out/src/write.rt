@@ -21,7 +21,7 @@ use wire_io::{Failed, Sink, put_all};
 const BLOCK: usize = 65_536;
 
 /// Why a text wasn't written whole.
-#[derive(Clone, Copy, Debug, PartialEq, Eq)]
+#[derive(Clone, Copy)]
 pub enum TextFault {
     /// The sink failed.
     Failed,

@@ -18,12 +18,22 @@ use volume_tables::call_key_of;
 
 /// The turns of pending calls, each under the client and number of its call, and under the client and the handle
 /// that the call names, with room for more of them.
-#[derive(Debug, Drop)]
 pub struct CallIndex {
     calls: KeyIndex,
     handles: KeyIndex,
     // How many more calls were promised.
     room: usize,
+}
+
+// One drop of the whole, so that it is one step at each end of a function that holds one.
+impl Drop for CallIndex {
+    fn drop(self) {
+        let CallIndex {
+            calls: _,
+            handles: _,
+            room: _,
+        } = self;
+    }
 }
 
 impl Model for CallIndex {

@@ -14,7 +14,6 @@ use std::marker::Model;
 
 /// How calls ended, in the order in which they did, with spare room. The end of a call is looked for among those
 /// that have the slot of its number; there are half as many slots as there is room for ends.
-#[derive(Drop)]
 pub struct EndTable {
     ends: Series<EndOf>,
     // For each end one more than the place of the last one before it that has the slot of its number; 0 where there
@@ -24,6 +23,18 @@ pub struct EndTable {
     heads: Vec<usize>,
     // For how many more ends there is room.
     room: usize,
+}
+
+// One drop of the whole, so that it is one step at each end of a function that holds one.
+impl Drop for EndTable {
+    fn drop(self) {
+        let EndTable {
+            ends: _,
+            links: _,
+            heads: _,
+            room: _,
+        } = self;
+    }
 }
 
 impl Model for EndTable {

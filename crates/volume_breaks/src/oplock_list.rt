@@ -28,7 +28,6 @@ use volume_tables::RoomList;
 /// of all of them, for the numbers of as many breaks, and for what as many holders are told. There are fewer than
 /// 2^32. At most one is of a handle, with a numbered break exactly where it has a target, which is within its
 /// level; the numbers of breaks differ, and none is above the last one given.
-#[derive(Drop)]
 pub struct Oplocks {
     rows: Vec<OplockRow>,
     // Copies of those that the last break chose, in the order in which it broke them.
@@ -41,6 +40,20 @@ pub struct Oplocks {
     last: u64,
     // What was promised to each home, all of which the lists have.
     rooms: RoomList,
+}
+
+// One drop of the whole, so that it is one step at each end of a function that holds one.
+impl Drop for Oplocks {
+    fn drop(self) {
+        let Oplocks {
+            rows: _,
+            chosen: _,
+            told: _,
+            waited: _,
+            last: _,
+            rooms: _,
+        } = self;
+    }
 }
 
 impl Model for Oplocks {

@@ -27,7 +27,6 @@ use volume_rows::{PendingRow, find_next_pending, is_call};
 /// of those that are held. No two have one client and number, or one turn. As long as the turns rise, calls
 /// are found by an index, under their clients and numbers and under the handles that they name. The room that
 /// was taken stays as it is where calls and blockers go.
-#[derive(Drop)]
 pub struct PendingCalls {
     rows: ShiftRows<(u64, PendingRow)>,
     queue: PendingQueue,
@@ -41,6 +40,21 @@ pub struct PendingCalls {
     waiting: bool,
     // The turns of all calls, as long as they rise.
     turns: CallIndex,
+}
+
+// One drop of the whole, so that it is one step at each end of a function that holds one.
+impl Drop for PendingCalls {
+    fn drop(self) {
+        let PendingCalls {
+            rows: _,
+            queue: _,
+            room: _,
+            blockers: _,
+            rising: _,
+            waiting: _,
+            turns: _,
+        } = self;
+    }
 }
 
 impl Model for PendingCalls {

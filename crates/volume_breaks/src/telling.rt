@@ -12,7 +12,7 @@ use fsa_types::{Class, Level};
 use volume_rows::{BreakEffect, OplockRow, effect};
 
 /// Whom a break tells, and what.
-#[derive(Clone, Copy, Debug)]
+#[derive(Clone, Copy)]
 pub struct Told {
     /// The handle.
     pub handle: u64,

@@ -9,7 +9,7 @@ use std::alloc::Global;
 use std::marker::Model;
 
 /// Where an enumeration of a directory stands.
-#[derive(Debug, Drop)]
+#[derive(Drop)]
 pub enum Cursor {
     /// At its start.
     Start,
@@ -33,10 +33,19 @@ impl TryCopy for Cursor {
 }
 
 /// The enumeration of a directory through a handle. Its expression is none that is refused.
-#[derive(Debug, Drop)]
 pub struct Enumeration {
     expression: Name,
     cursor: Cursor,
+}
+
+// One drop of the whole, so that it is one step at each end of a function that holds one.
+impl Drop for Enumeration {
+    fn drop(self) {
+        let Enumeration {
+            expression: _,
+            cursor: _,
+        } = self;
+    }
 }
 
 impl Model for Enumeration {

@@ -8,7 +8,7 @@ ghost use Rattle.volume_rows.specs.Effects.{effect_of};
 use fsa_types::{Class, Level};
 
 /// What a class of requests does to an oplock.
-#[derive(Clone, Copy, Debug, PartialEq, Eq)]
+#[derive(Clone, Copy)]
 pub enum BreakEffect {
     /// Nothing.
     Stays,

@@ -17,13 +17,23 @@ use std::marker::Model;
 
 /// Links under numbers that rise from 1, with room for more of them. The links of a file are found without a
 /// look at the others.
-#[derive(Debug, Drop)]
 pub struct LinksByFile {
     links: Table<LinkRow>,
     // The numbers of all links, under their files.
     files: KeyIndex,
     // How many more links were promised.
     room: usize,
+}
+
+// One drop of the whole, so that it is one step at each end of a function that holds one.
+impl Drop for LinksByFile {
+    fn drop(self) {
+        let LinksByFile {
+            links: _,
+            files: _,
+            room: _,
+        } = self;
+    }
 }
 
 impl Model for LinksByFile {

@@ -10,7 +10,6 @@ use std::marker::Model;
 use stream_pages::{Parts, Stream};
 
 /// A file or a directory, after [MS-FSA] 'Per File'. Times are ticks of the volume's clock.
-#[derive(Debug, Drop)]
 pub struct FileRow {
     /// Whether it is a directory.
     pub directory: bool,
@@ -30,6 +29,23 @@ pub struct FileRow {
     pub dacl: Option<Dacl>,
     /// The tag and the bytes of its reparse point, at most 16,376 bytes.
     pub point: Option<(u32, Bytes)>,
+}
+
+// One drop of the whole, so that it is one step at each end of a function that holds one.
+impl Drop for FileRow {
+    fn drop(self) {
+        let FileRow {
+            directory: _,
+            attributes: _,
+            creation: _,
+            access: _,
+            write: _,
+            change: _,
+            owner: _,
+            dacl: _,
+            point: _,
+        } = self;
+    }
 }
 
 impl Model for FileRow {
@@ -93,7 +109,7 @@ impl FileRow {
 }
 
 /// A name of a file in its parent directory, after [MS-FSA] 'Per Link'.
-#[derive(Debug, Drop)]
+#[derive(Drop)]
 pub struct LinkRow {
     /// The file number of the parent directory.
     pub parent: u64,
@@ -114,7 +130,6 @@ impl Model for LinkRow {
 }
 
 /// An open, after [MS-FSA] 'Per Open'.
-#[derive(Debug, Drop)]
 pub struct HandleRow {
     /// The client, by its place in the setup.
     pub client: u32,
@@ -136,6 +151,23 @@ pub struct HandleRow {
     pub enumeration: Option<Enumeration>,
 }
 
+// One drop of the whole, so that it is one step at each end of a function that holds one.
+impl Drop for HandleRow {
+    fn drop(self) {
+        let HandleRow {
+            client: _,
+            number: _,
+            link: _,
+            stream: _,
+            access: _,
+            share: _,
+            key: _,
+            delete_on_close: _,
+            enumeration: _,
+        } = self;
+    }
+}
+
 impl Model for HandleRow {
     ghost use Rattle.fsa_model.specs.Volume.{Handle};
 
@@ -155,7 +187,7 @@ impl Model for HandleRow {
 }
 
 /// A stream of a file, after [MS-FSA] 'Per Stream', without its bytes.
-#[derive(Debug, Drop)]
+#[derive(Drop)]
 pub struct StreamInfo {
     /// Its file.
     pub file: u64,
@@ -168,12 +200,18 @@ pub struct StreamInfo {
 }
 
 /// A stream with its bytes.
-#[derive(Debug, Drop)]
 pub struct StreamRow {
     /// All but its bytes.
     pub info: StreamInfo,
     /// Its bytes.
     pub bytes: Stream,
+}
+
+// One drop of the whole, so that it is one step at each end of a function that holds one.
+impl Drop for StreamRow {
+    fn drop(self) {
+        let StreamRow { info: _, bytes: _ } = self;
+    }
 }
 
 impl Model for StreamRow {
@@ -191,7 +229,7 @@ impl Model for StreamRow {
 }
 
 /// Room to be taken, for how many more of each kind.
-#[derive(Clone, Copy, Debug, PartialEq, Eq)]
+#[derive(Clone, Copy)]
 pub struct Need {
     /// Files and directories.
     pub files: u32,

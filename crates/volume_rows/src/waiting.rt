@@ -11,7 +11,7 @@ use fsa_types::{BlockerList, Call, Level};
 use std::marker::Model;
 
 /// An oplock of a handle, after [MS-FSA] 'Per Oplock'.
-#[derive(Clone, Copy, Debug)]
+#[derive(Clone, Copy)]
 pub struct OplockRow {
     /// Its handle.
     pub handle: u64,
@@ -52,12 +52,21 @@ impl Model for OplockRow {
 }
 
 /// A call that hasn't ended.
-#[derive(Debug, Drop)]
 pub struct PendingRow {
     /// The call.
     pub call: Call,
     /// What it waits for.
     pub blockers: BlockerList,
+}
+
+// One drop of the whole, so that it is one step at each end of a function that holds one.
+impl Drop for PendingRow {
+    fn drop(self) {
+        let PendingRow {
+            call: _,
+            blockers: _,
+        } = self;
+    }
 }
 
 impl Model for PendingRow {

@@ -33,7 +33,7 @@ use volume_rows::{find_target, in_both};
 use volume_tables::HandleTable;
 
 // A handle that is open on a stream, and its key.
-#[derive(Clone, Copy, Debug)]
+#[derive(Clone, Copy)]
 struct Opened {
     handle: u64,
     key: u64,

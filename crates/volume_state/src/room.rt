@@ -10,7 +10,7 @@ use crate::volume::Volume;
 use volume_rows::LinksByFile;
 
 /// The room that a note of one change takes.
-#[derive(Clone, Copy, Debug, PartialEq, Eq)]
+#[derive(Clone, Copy)]
 pub struct NoteRoom {
     /// UTF-16 units of the path from the root, with its stream part.
     pub units: u64,

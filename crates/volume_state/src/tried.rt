@@ -5,7 +5,7 @@ ghost use Rattle.std.specs.Prelude.{◌≡◌};
 use fsa_types::{BlockerList, Body, Interim, Reply, Status};
 
 /// What one try of a call comes to.
-#[derive(Debug, Drop)]
+#[derive(Drop)]
 pub enum Tried {
     /// The call has ended with this reply.
     Done(Reply),

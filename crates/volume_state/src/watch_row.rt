@@ -5,7 +5,7 @@ ghost use Rattle.std.specs.Option.{option_copied};
 
 /// A watch of a directory, after [MS-FSA] 'Per ChangeNotifyEntry', with what is known of its handle, of what is due
 /// to it, and of who asks for that.
-#[derive(Clone, Copy, Debug, PartialEq, Eq)]
+#[derive(Clone, Copy)]
 pub struct WatchRow {
     /// Its handle.
     pub handle: u64,

@@ -17,13 +17,24 @@ use volume_rows::HandleRow;
 
 /// The numbers of handles, each under the client and number of the call that opened it, under its stream and under
 /// its link, with room for more of them.
-#[derive(Debug, Drop)]
 pub struct HandleIndex {
     calls: KeyIndex,
     streams: KeyIndex,
     links: KeyIndex,
     // How many more handles were promised.
     room: usize,
+}
+
+// One drop of the whole, so that it is one step at each end of a function that holds one.
+impl Drop for HandleIndex {
+    fn drop(self) {
+        let HandleIndex {
+            calls: _,
+            streams: _,
+            links: _,
+            room: _,
+        } = self;
+    }
 }
 
 impl Model for HandleIndex {

@@ -16,10 +16,19 @@ use std::marker::Model;
 use volume_rows::HandleRow;
 
 /// The accesses and shares of handles, counted for each stream and for each link, with room for more handles.
-#[derive(Debug, Drop)]
 pub struct HandleShares {
     streams: ShareTable,
     links: ShareTable,
+}
+
+// One drop of the whole, so that it is one step at each end of a function that holds one.
+impl Drop for HandleShares {
+    fn drop(self) {
+        let HandleShares {
+            streams: _,
+            links: _,
+        } = self;
+    }
 }
 
 impl Model for HandleShares {

@@ -33,7 +33,6 @@ use volume_rows::{Enumeration, HandleRow, LinksByFile};
 /// Handles under numbers that rise from 1, the byte-range locks that they hold, under numbers of their
 /// own, and for each stream how many more locks can be added on it without taking memory. A lock is on
 /// the stream of its handle.
-#[derive(Debug, Drop)]
 pub struct HandleTable {
     table: Table<HandleRow>,
     // The handles by the calls that opened them, by streams and by links; what was promised is its room.
@@ -45,6 +44,20 @@ pub struct HandleTable {
     ranges: StreamRanges,
     // What was promised to each stream.
     rooms: RoomList,
+}
+
+// One drop of the whole, so that it is one step at each end of a function that holds one.
+impl Drop for HandleTable {
+    fn drop(self) {
+        let HandleTable {
+            table: _,
+            index: _,
+            shares: _,
+            locks: _,
+            ranges: _,
+            rooms: _,
+        } = self;
+    }
 }
 
 impl Model for HandleTable {

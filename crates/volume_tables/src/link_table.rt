@@ -21,7 +21,6 @@ use volume_rows::{LinkRow, LinksByFile};
 /// without taking memory. Adding to one directory leaves the room of the others. A name is found in its
 /// directory, and where those that follow it begin, by binary search; names compare by the case table, and
 /// those of one directory differ.
-#[derive(Debug, Drop)]
 pub struct LinkTable {
     table: UpcaseTable,
     // Links by number and by file.
@@ -30,6 +29,18 @@ pub struct LinkTable {
     names: NamesByDirectory,
     // What was promised to each directory. The table has all of it, and the index of each directory its own.
     rooms: RoomList,
+}
+
+// One drop of the whole, so that it is one step at each end of a function that holds one.
+impl Drop for LinkTable {
+    fn drop(self) {
+        let LinkTable {
+            table: _,
+            links: _,
+            names: _,
+            rooms: _,
+        } = self;
+    }
 }
 
 impl Model for LinkTable {

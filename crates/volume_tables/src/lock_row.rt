@@ -5,7 +5,7 @@ ghost use Rattle.std.specs.Prelude.{◌≡◌};
 use std::marker::Model;
 
 /// A byte-range lock, after [MS-FSA] 'Per ByteRangeLock'.
-#[derive(Clone, Copy, Debug)]
+#[derive(Clone, Copy)]
 pub struct LockRow {
     /// The handle that holds it.
     pub handle: u64,

@@ -26,12 +26,22 @@ use volume_rows::LinkRow;
 /// the links alone. A directory is found by a binary search among those that have an index, and a name in it as
 /// `link_index` says, as is what moves where a name comes or goes. Each link that is looked up takes time logarithmic in
 /// all links at most. Where an index comes or goes, 16 bytes move of each directory behind it, or before it.
-#[derive(Debug, Drop)]
 pub struct NamesByDirectory {
     // Each directory that has an index, with the slot of it, by rising number.
     places: ShiftList<(u64, usize)>,
     indexes: Slab<Directory>,
     alloc: Global,
+}
+
+// One drop of the whole, so that it is one step at each end of a function that holds one.
+impl Drop for NamesByDirectory {
+    fn drop(self) {
+        let NamesByDirectory {
+            places: _,
+            indexes: _,
+            alloc: _,
+        } = self;
+    }
 }
 
 impl Model for NamesByDirectory {

@@ -16,13 +16,23 @@ use std::marker::Model;
 
 /// For each stream the ranges that are locked on it. A stream without locks may have no table. It finds one in time
 /// logarithmic in the tables; where one comes, those behind it are moved.
-#[derive(Debug, Drop)]
 pub struct StreamRanges {
     // By rising number of the stream.
     tables: Vec<(u64, RangeTable)>,
     // That of a stream without one.
     none: RangeTable,
     alloc: Global,
+}
+
+// One drop of the whole, so that it is one step at each end of a function that holds one.
+impl Drop for StreamRanges {
+    fn drop(self) {
+        let StreamRanges {
+            tables: _,
+            none: _,
+            alloc: _,
+        } = self;
+    }
 }
 
 impl Model for StreamRanges {

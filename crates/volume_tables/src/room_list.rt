@@ -11,7 +11,7 @@ use std::marker::Model;
 /// For how many more items there is room, promised to each directory or stream apart: what one of them
 /// takes is taken from its own. It keeps only those that have room, and finds one in time logarithmic in them;
 /// where one comes or goes, those behind it are moved.
-#[derive(Debug, Drop)]
+#[derive(Drop)]
 pub struct RoomList {
     // Those with room, by rising number, each with how much; and all of it.
     rooms: Vec<(u64, usize)>,

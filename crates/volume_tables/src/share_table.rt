@@ -18,11 +18,20 @@ use tallies::ShareCounts;
 /// For each key the opens that are held under it, as counts. A key goes with its last open: each one that is there has
 /// some. It is found in time logarithmic in the keys; where one comes or goes, 16 bytes move of each of those before it
 /// or of those behind it, whichever are fewer.
-#[derive(Debug, Drop)]
 pub struct ShareTable {
     // Each key with the slot of its counts, by rising key.
     places: ShiftList<(u64, usize)>,
     counts: Slab<ShareCounts>,
+}
+
+// One drop of the whole, so that it is one step at each end of a function that holds one.
+impl Drop for ShareTable {
+    fn drop(self) {
+        let ShareTable {
+            places: _,
+            counts: _,
+        } = self;
+    }
 }
 
 impl Model for ShareTable {

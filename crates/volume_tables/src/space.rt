@@ -13,7 +13,7 @@ use tallies::Charges;
 
 /// What each owner is charged, in bytes, and how many clusters all streams take. An owner is
 /// the number of a SID, and has to be admitted before he is charged.
-#[derive(Debug, Drop)]
+#[derive(Drop)]
 pub struct SpaceTally {
     charges: Charges,
     clusters: u64,

@@ -24,13 +24,23 @@ use volume_rows::{StreamRow, clusters_of, is_stream_named};
 
 /// Streams under numbers that rise from 1, with room for more of them. A stream is found by its name among those
 /// of its file alone.
-#[derive(Debug, Drop)]
 pub struct StreamTable {
     table: Table<StreamRow>,
     // The numbers of all streams, under their files.
     files: KeyIndex,
     // How many more streams were promised.
     room: usize,
+}
+
+// One drop of the whole, so that it is one step at each end of a function that holds one.
+impl Drop for StreamTable {
+    fn drop(self) {
+        let StreamTable {
+            table: _,
+            files: _,
+            room: _,
+        } = self;
+    }
 }
 
 impl Model for StreamTable {

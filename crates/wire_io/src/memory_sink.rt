@@ -13,7 +13,6 @@ use std::marker::Model;
 /// Bytes in memory, with room for so many, that are taken in pieces. Its calls are counted from 1,
 /// and those whose number is in the list of failing calls fail and write nothing. So does a put of
 /// a piece that isn't empty where the room is full.
-#[derive(Drop)]
 pub struct MemorySink {
     bytes: Vec<u8>,
     room: usize,
@@ -23,6 +22,22 @@ pub struct MemorySink {
     faults: u64,
     empty_puts: u64,
     since_fault: u64,
+}
+
+// One drop of the whole, so that it is one step at each end of a function that holds one.
+impl Drop for MemorySink {
+    fn drop(self) {
+        let MemorySink {
+            bytes: _,
+            room: _,
+            piece: _,
+            failing: _,
+            calls: _,
+            faults: _,
+            empty_puts: _,
+            since_fault: _,
+        } = self;
+    }
 }
 
 impl Model for MemorySink {

@@ -12,7 +12,6 @@ use std::marker::Model;
 
 /// Bytes in memory that are given in pieces. Its calls are counted from 1, and those whose number
 /// is in the list of failing calls fail and give nothing.
-#[derive(Drop)]
 pub struct MemorySource {
     bytes: Vec<u8>,
     place: usize,
@@ -22,6 +21,22 @@ pub struct MemorySource {
     faults: u64,
     stops: u64,
     since: u64,
+}
+
+// One drop of the whole, so that it is one step at each end of a function that holds one.
+impl Drop for MemorySource {
+    fn drop(self) {
+        let MemorySource {
+            bytes: _,
+            place: _,
+            piece: _,
+            failing: _,
+            calls: _,
+            faults: _,
+            stops: _,
+            since: _,
+        } = self;
+    }
 }
 
 impl Model for MemorySource {

@@ -9,7 +9,7 @@ use super::sources::Source;
 use std::alloc::{AllocError, Global};
 
 /// Why the bytes of a source aren't all there.
-#[derive(Clone, Copy, Debug, PartialEq, Eq)]
+#[derive(Clone, Copy, Debug)]
 pub enum InputFault {
     /// A take failed.
     Failed,
