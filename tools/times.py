@@ -1,20 +1,24 @@
 #!/usr/bin/env python3
 """times.py [COMMAND ..]: runs `rt ci`, or the command given, and prints what each crate took of the processors.
 
-It looks several times a second which crate each prover below the command works on, and whether it proves the crate or
-its tests or tries a must-fail edit, and sums up the processor time. With a kit whose `rt ci` keeps what it proved, that
-isn't proved again and doesn't count: `rt ci --anew` proves all. The table goes to standard output, what the command says
-to standard error.
+It looks several times a second which crate each prover below the command works on, and what it does there: it proves the
+crate or its tests, proves it once more so that edits are tried over that (and looks at its end whether that still holds),
+or tries a must-fail edit. It sums up the processor time, and names the edits that took most. With a kit whose `rt ci`
+keeps what it proved, that isn't proved again and doesn't count: `rt ci --anew` proves all. The tables go to standard
+output, also where this is stopped by a signal, and what the command says to standard error.
 """
 import os
 import re
+import signal
 import subprocess
 import sys
 import time
 
 TOP = os.path.dirname(os.path.dirname(os.path.realpath(__file__)))
 TICK = os.sysconf("SC_CLK_TCK")
-KINDS = ("proofs", "tests", "edits")
+KINDS = ("proofs", "tests", "once more", "edits")
+# how many of the edits that took most are named
+DEAREST = 15
 
 
 def processes():
@@ -46,7 +50,7 @@ def below(found, top):
 
 
 def of_prover(pid):
-    """Returns the crate that a prover works on, and what it does, or None where this is no prover."""
+    """Returns the crate that a prover works on, what it does, and which edit it tries, or None where this is no prover."""
     try:
         with open(f"/proc/{pid}/cmdline", "rb") as it:
             words = it.read().decode("utf-8", "replace").split("\0")
@@ -55,8 +59,18 @@ def of_prover(pid):
         return None
     if not words[0].endswith("/rattle") or "--crate-name" not in words:
         return None
-    is_edit = re.search(r"/rt-edit-[^/]*$", folder)
-    return words[words.index("--crate-name") + 1], "edits" if is_edit else "tests" if "--test" in words else "proofs"
+    crate = words[words.index("--crate-name") + 1]
+    if not re.search(r"/rt-edit-[^/]*$", folder):
+        return crate, "tests" if "--test" in words else "proofs", None
+    over = os.path.basename(words[words.index("--incremental") + 1]) if "--incremental" in words else ""
+    return crate, "once more" if over == "seed" else "edits", int(over) if over.isdigit() else None
+
+
+def edit_of(crate, number):
+    """Returns the name of a crate's edit, by its place among them."""
+    folder = f"{TOP}/crates/{crate}/must-fail"
+    names = sorted(it for it in os.listdir(folder) if it.endswith(".edit")) if os.path.isdir(folder) else []
+    return names[number].removesuffix(".edit").replace("_", " ") if number < len(names) else str(number)
 
 
 def place_of(crate):
@@ -66,10 +80,30 @@ def place_of(crate):
     return names.index(crate) if crate in names else len(names)
 
 
+def tell(spent, began):
+    """Prints the tables."""
+    table, edits = {}, {}
+    for (crate, kind, number), ticks in spent.values():
+        row = table.setdefault(crate, dict.fromkeys(KINDS, 0))
+        row[kind] += ticks / TICK
+        if number is not None:
+            edits[crate, number] = edits.get((crate, number), 0) + ticks / TICK
+    print("| Crate | Proofs | Tests | Once more | Edits |\n|---|---|---|---|---|")
+    for crate, row in sorted(table.items(), key=lambda it: place_of(it[0])):
+        print(f"| `{crate}` | " + " | ".join(f"{row[it]:.0f} s" if row[it] else "" for it in KINDS) + " |")
+    sums = {it: sum(row[it] for row in table.values()) for it in KINDS}
+    print("| all | " + " | ".join(f"{sums[it] / 60:.0f} min" for it in KINDS) + " |")
+    print(f"\n{sum(sums.values()) / 60:.0f} minutes of processor time, {(time.monotonic() - began) / 60:.0f} minutes by the clock, on {len(os.sched_getaffinity(0))} processors")
+    for (crate, number), took in sorted(edits.items(), key=lambda it: -it[1])[:DEAREST]:
+        print(f"{took:.0f} s: {crate}, {edit_of(crate, number)}")
+
+
 def main(*command):
     command = command or ("rt", "ci")
     began, spent, known = time.monotonic(), {}, {}
     ran = subprocess.Popen(command, stdin=subprocess.DEVNULL, stdout=sys.stderr)
+    signal.signal(signal.SIGTERM, lambda *_: ran.terminate())
+    signal.signal(signal.SIGINT, lambda *_: ran.terminate())
     while ran.poll() is None:
         found = processes()
         for pid in below(found, ran.pid):
@@ -80,16 +114,7 @@ def main(*command):
                 if known[pid, start]:
                     spent[pid, start] = known[pid, start], ticks
         time.sleep(0.3)
-    table = {}
-    for (crate, kind), ticks in spent.values():
-        row = table.setdefault(crate, dict.fromkeys(KINDS, 0))
-        row[kind] += ticks / TICK
-    print("| Crate | Proofs | Tests | Edits |\n|---|---|---|---|")
-    for crate, row in sorted(table.items(), key=lambda it: place_of(it[0])):
-        print(f"| `{crate}` | " + " | ".join(f"{row[it]:.0f} s" if row[it] else "" for it in KINDS) + " |")
-    sums = {it: sum(row[it] for row in table.values()) for it in KINDS}
-    print("| all | " + " | ".join(f"{sums[it] / 60:.0f} min" for it in KINDS) + " |")
-    print(f"\n{sum(sums.values()) / 60:.0f} minutes of processor time, {(time.monotonic() - began) / 60:.0f} minutes by the clock, on {len(os.sched_getaffinity(0))} processors")
+    tell(spent, began)
     return ran.returncode
 
 
