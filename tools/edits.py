@@ -5,22 +5,22 @@ import os
 TOP = os.path.dirname(os.path.dirname(os.path.realpath(__file__)))
 
 
-def edits():
-    """Returns the names of the edits of each crate that has some, in the order of crates.txt."""
-    found = {}
-    with open(f"{TOP}/crates.txt", encoding="utf-8") as lines:
-        for line in lines:
-            head, colon, _ = line.partition("#")[0].partition(":")
-            folder = f"{TOP}/crates/{head.split()[0]}/must-fail" if colon else ""
-            if os.path.isdir(folder):
-                found[head.split()[0]] = sorted(it.removesuffix(".edit") for it in os.listdir(folder) if it.endswith(".edit"))
-    return {crate: names for crate, names in found.items() if names}
+def named(folder):
+    """Returns the names of the edits in a folder, in one text."""
+    files = sorted(os.listdir(folder)) if os.path.isdir(folder) else []
+    return "; ".join(it.removesuffix(".edit").replace("_", " ") for it in files if it.endswith(".edit"))
 
 
 def main():
-    print("| Crate | Refused |\n|---|---|")
-    for crate, names in edits().items():
-        print(f"| `{crate}` | {'; '.join(it.replace('_', ' ') for it in names)} |")
+    print("| Crate | Refused in the gate | By `checks/edits` |\n|---|---|---|")
+    with open(f"{TOP}/crates.txt", encoding="utf-8") as lines:
+        for line in lines:
+            head, colon, _ = line.partition("#")[0].partition(":")
+            if colon:
+                crate = head.split()[0]
+                found = [named(f"{TOP}/crates/{crate}/{it}") for it in ("must-fail", "edits")]
+                if any(found):
+                    print(f"| `{crate}` | {' | '.join(found)} |")
 
 
 if __name__ == "__main__":

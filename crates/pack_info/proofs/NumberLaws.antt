@@ -4,7 +4,7 @@ use Rattle.std.proofs.lemmas.List.Concat.{flat_map-cons}
 use Rattle.fsa_types.specs.declared.reply.PackKind.{PackKind}
 use Rattle.fsa_types.specs.declared.reply.PackKind.TheVariants.{Names, Dir, Full, IdFull, Streams, Changes}
 use Rattle.fsa_types.specs.PackedRows.{Numbers}
-use Rattle.fsa_types.specs.Packing.{shown, head, packed, before_name, after_name, name_field, size_of, rounded, entry_bytes}
+use Rattle.fsa_types.specs.Packing.{shown, head, before_name, after_name, name_field, size_of, rounded, entry_bytes}
 use Rattle.pack_info.specs.Entries.{entry_with}
 use Rattle.fsa_types.specs.LittleEndian.{unit_bytes, utf16, zeros}
 

@@ -1,6 +1,6 @@
 -- Sizes of buffers, and the prefixes that fit.
 use Rattle.std.proofs.Common.{◌≡◌, ℕ, zero, suc, ◌+◌, ◌-◌, ◌*◌, ◌<◌, ◌≤◌, ◌^◌, Bool, true, false, cond, ltb, eqb, map, List, [], ◌∷◌, ◌++◌, length, take, refl, sym, ap, subst, ◌∙◌, append_assoc, arith, length-append, inl, inr}
-use Rattle.std.specs.Prelude.{◌⊎◌, All, slice_index_or}
+use Rattle.std.specs.Prelude.{◌⊎◌, All}
 use Rattle.std.proofs.lemmas.Bool.{le-ltb, ltb-true, ltb-false, cases_lt}
 use Rattle.std.proofs.lemmas.Bool.Decides.{nat_tests}
 use Rattle.std.proofs.lemmas.List.{append-nil}
@@ -8,7 +8,7 @@ use Rattle.fsa_types.specs.declared.reply.PackKind.{PackKind}
 use Rattle.fsa_types.specs.declared.reply.PackKind.TheVariants.{Names, Dir, Full, IdFull, Streams, Changes}
 use Rattle.fsa_types.specs.PackedRows.{Numbers, NumbersFit, PackRow}
 use Rattle.fsa_types.specs.LittleEndian.{zeros}
-use Rattle.fsa_types.specs.Packing.{Packed, packed, before_name, after_name, name_field, head, head_size, rounded, size_of, entry_bytes, is_nothing, entries_bytes, shown, bytes, size, fitting, longest_fitting}
+use Rattle.fsa_types.specs.Packing.{Packed, packed, before_name, after_name, name_field, head, head_size, rounded, size_of, entry_bytes, is_nothing, entries_bytes, shown, size, fitting, longest_fitting}
 use Rattle.pack_info.specs.Entries.{entries_size, rows_as_entries, IsFitting, next_distance, IsEntry, AreEntries, FitsWidths, AreWritable}
 use Rattle.pack_info.proofs.NumberLaws.{length-zeros, length-name_of}
 

@@ -1,5 +1,5 @@
 -- Numbers that are read, and that no other numbers are spelled so.
-use Rattle.std.proofs.Common.{◌≡◌, ℕ, ◌<◌, ◌≤◌, ◌^◌, List, [], ◌∷◌, ◌++◌, length, get_or, take, drop, refl, sym, ap, ◌∙◌, arith, inl, inr, ◌-◌, true, false, nat_eq, Some, None}
+use Rattle.std.proofs.Common.{◌≡◌, ℕ, ◌<◌, ◌≤◌, ◌^◌, List, [], ◌∷◌, ◌++◌, length, get_or, suc, zero, take, drop, refl, sym, ap, ◌∙◌, arith, inl, inr, ◌-◌, true, false, nat_eq, Some, None}
 use Rattle.std.specs.Int.{w16, w32, w64, from_le_bytes, to_le_bytes}
 use Rattle.std.specs.List.{flat_map}
 use Rattle.std.proofs.lemmas.Bool.{cases_lt, lt-ltb, le-ltb, eq-eqb, ne_eqb}
@@ -104,37 +104,44 @@ pub record IsHeadOf (kind : PackKind) (h : Head) (n : Numbers) (next len : ℕ) 
   pub numbers_are : h.numbers ≡ shown kind n
   pub rest_is : r ≡ s
 
+-- the number of the field at a place
+abbrev number_at : ℕ → List Field → ℕ
+number_at n [] = 0
+number_at zero (Four x ∷ rest) = x
+number_at zero (Eight x ∷ rest) = x
+number_at (suc n) (x ∷ rest) = number_at n rest
+
 same_fields : (kind : PackKind) (h : Head) (n : Numbers) (next len : ℕ) (r s : List ℕ) → IsPlain kind h → raw_fields kind h ≡ fields kind n next len → r ≡ s → IsHeadOf kind h n next len r s
-same_fields Changes h n next len r s plain e rest = record { constants = plain.blank; next_is = cc; len_is = cc; numbers_are = let a : h.numbers.action ≡ n.action = cc in sym plain.numbers ∙ rw a refl; rest_is = rest }
-same_fields Names h n next len r s plain e rest = record { constants = (cc, plain.blank.0, plain.blank.1); next_is = cc; len_is = cc; numbers_are = sym plain.numbers; rest_is = rest }
-same_fields Streams h n next len r s plain e rest = record { constants = plain.blank; next_is = cc; len_is = cc; numbers_are = let a : h.numbers.length ≡ n.length = cc in let b : h.numbers.room ≡ n.room = cc in sym plain.numbers ∙ rw (a, b) refl; rest_is = rest }
+same_fields Changes h n next len r s plain e rest = record { constants = plain.blank; next_is = ap (number_at 0) e; len_is = ap (number_at 2) e; numbers_are = let a : h.numbers.action ≡ n.action = ap (number_at 1) e in sym plain.numbers ∙ rw a refl; rest_is = rest }
+same_fields Names h n next len r s plain e rest = record { constants = (ap (number_at 1) e, plain.blank.0, plain.blank.1); next_is = ap (number_at 0) e; len_is = ap (number_at 2) e; numbers_are = sym plain.numbers; rest_is = rest }
+same_fields Streams h n next len r s plain e rest = record { constants = plain.blank; next_is = ap (number_at 0) e; len_is = ap (number_at 1) e; numbers_are = let a : h.numbers.length ≡ n.length = ap (number_at 2) e in let b : h.numbers.room ≡ n.room = ap (number_at 3) e in sym plain.numbers ∙ rw (a, b) refl; rest_is = rest }
 same_fields Dir h n next len r s plain e rest = record {
-  constants = (cc, plain.blank.0, plain.blank.1);
-  next_is = cc;
-  len_is = cc;
+  constants = (ap (number_at 1) e, plain.blank.0, plain.blank.1);
+  next_is = ap (number_at 0) e;
+  len_is = ap (number_at 9) e;
   numbers_are =
-      let a : h.numbers.creation ≡ n.creation = cc in let b : h.numbers.access ≡ n.access = cc in let c : h.numbers.write ≡ n.write = cc in let d : h.numbers.change ≡ n.change = cc in
-      let f : h.numbers.length ≡ n.length = cc in let g : h.numbers.room ≡ n.room = cc in let i : h.numbers.attributes ≡ n.attributes = cc in
+      let a : h.numbers.creation ≡ n.creation = ap (number_at 2) e in let b : h.numbers.access ≡ n.access = ap (number_at 3) e in let c : h.numbers.write ≡ n.write = ap (number_at 4) e in let d : h.numbers.change ≡ n.change = ap (number_at 5) e in
+      let f : h.numbers.length ≡ n.length = ap (number_at 6) e in let g : h.numbers.room ≡ n.room = ap (number_at 7) e in let i : h.numbers.attributes ≡ n.attributes = ap (number_at 8) e in
       sym plain.numbers ∙ rw (a, b, c, d, f, g, i) refl;
   rest_is = rest;
 }
 same_fields Full h n next len r s plain e rest = record {
-  constants = (cc, cc, plain.blank);
-  next_is = cc;
-  len_is = cc;
+  constants = (ap (number_at 1) e, ap (number_at 10) e, plain.blank);
+  next_is = ap (number_at 0) e;
+  len_is = ap (number_at 9) e;
   numbers_are =
-      let a : h.numbers.creation ≡ n.creation = cc in let b : h.numbers.access ≡ n.access = cc in let c : h.numbers.write ≡ n.write = cc in let d : h.numbers.change ≡ n.change = cc in
-      let f : h.numbers.length ≡ n.length = cc in let g : h.numbers.room ≡ n.room = cc in let i : h.numbers.attributes ≡ n.attributes = cc in
+      let a : h.numbers.creation ≡ n.creation = ap (number_at 2) e in let b : h.numbers.access ≡ n.access = ap (number_at 3) e in let c : h.numbers.write ≡ n.write = ap (number_at 4) e in let d : h.numbers.change ≡ n.change = ap (number_at 5) e in
+      let f : h.numbers.length ≡ n.length = ap (number_at 6) e in let g : h.numbers.room ≡ n.room = ap (number_at 7) e in let i : h.numbers.attributes ≡ n.attributes = ap (number_at 8) e in
       sym plain.numbers ∙ rw (a, b, c, d, f, g, i) refl;
   rest_is = rest;
 }
 same_fields IdFull h n next len r s plain e rest = record {
-  constants = (cc, cc, cc);
-  next_is = cc;
-  len_is = cc;
+  constants = (ap (number_at 1) e, ap (number_at 10) e, ap (number_at 11) e);
+  next_is = ap (number_at 0) e;
+  len_is = ap (number_at 9) e;
   numbers_are =
-      let a : h.numbers.creation ≡ n.creation = cc in let b : h.numbers.access ≡ n.access = cc in let c : h.numbers.write ≡ n.write = cc in let d : h.numbers.change ≡ n.change = cc in
-      let f : h.numbers.length ≡ n.length = cc in let g : h.numbers.room ≡ n.room = cc in let i : h.numbers.attributes ≡ n.attributes = cc in let j : h.numbers.file ≡ n.file = cc in
+      let a : h.numbers.creation ≡ n.creation = ap (number_at 2) e in let b : h.numbers.access ≡ n.access = ap (number_at 3) e in let c : h.numbers.write ≡ n.write = ap (number_at 4) e in let d : h.numbers.change ≡ n.change = ap (number_at 5) e in
+      let f : h.numbers.length ≡ n.length = ap (number_at 6) e in let g : h.numbers.room ≡ n.room = ap (number_at 7) e in let i : h.numbers.attributes ≡ n.attributes = ap (number_at 8) e in let j : h.numbers.file ≡ n.file = ap (number_at 12) e in
       sym plain.numbers ∙ rw (a, b, c, d, f, g, i, j) refl;
   rest_is = rest;
 }

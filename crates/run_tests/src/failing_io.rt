@@ -1,5 +1,6 @@
 //! What a run answers where its source or its sink fails, at each call in turn.
 
+use crate::faults::{RENAME, RENAME_TEXT, WRITE, WRITE_TEXT};
 use crate::program::{repeated, run};
 use crate::tests::{FIRST, FIRST_TEXT};
 use std::alloc::Global;
@@ -21,10 +22,11 @@ enum Trouble {
 
 // Cases: what a script repeats and how often; the trouble; how many bytes a call moves at most; how
 // many calls there are, each of which meets the trouble in turn; the status then, and the status
-// and the text where the trouble comes after them.
+// and the text where the trouble comes after them. A last call of the source meets its end; a text,
+// which is shorter than a block, is put in as many calls as its bytes need, and `bad line 1` in three.
 //
 // The script of one client has 114 bytes, and its text 148.
-const CASES: [(&str, usize, Trouble, usize, u32, u8, u8, &str); 12] = [
+const CASES: [(&str, usize, Trouble, usize, u32, u8, u8, &str); 24] = [
     (FIRST, 1, Trouble::Take, 1, 115, 3, 0, FIRST_TEXT),
     (FIRST, 1, Trouble::Take, 32, 5, 3, 0, FIRST_TEXT),
     (FIRST, 1, Trouble::Take, 65536, 2, 3, 0, FIRST_TEXT),
@@ -32,6 +34,18 @@ const CASES: [(&str, usize, Trouble, usize, u32, u8, u8, &str); 12] = [
     (FIRST, 1, Trouble::Put, 65536, 1, 4, 0, FIRST_TEXT),
     (FIRST, 1, Trouble::Nothing, 1, 148, 4, 0, FIRST_TEXT),
     (FIRST, 1, Trouble::Nothing, 65536, 1, 4, 0, FIRST_TEXT),
+    (RENAME, 1, Trouble::Take, 32, 9, 3, 0, RENAME_TEXT),
+    (RENAME, 1, Trouble::Take, 65536, 2, 3, 0, RENAME_TEXT),
+    (RENAME, 1, Trouble::Put, 32, 14, 4, 0, RENAME_TEXT),
+    (RENAME, 1, Trouble::Put, 65536, 1, 4, 0, RENAME_TEXT),
+    (RENAME, 1, Trouble::Nothing, 32, 14, 4, 0, RENAME_TEXT),
+    (RENAME, 1, Trouble::Nothing, 65536, 1, 4, 0, RENAME_TEXT),
+    (WRITE, 1, Trouble::Take, 32, 8, 3, 0, WRITE_TEXT),
+    (WRITE, 1, Trouble::Take, 65536, 2, 3, 0, WRITE_TEXT),
+    (WRITE, 1, Trouble::Put, 32, 11, 4, 0, WRITE_TEXT),
+    (WRITE, 1, Trouble::Put, 65536, 1, 4, 0, WRITE_TEXT),
+    (WRITE, 1, Trouble::Nothing, 32, 11, 4, 0, WRITE_TEXT),
+    (WRITE, 1, Trouble::Nothing, 65536, 1, 4, 0, WRITE_TEXT),
     ("fsa 2\n", 1, Trouble::Put, 65536, 3, 2, 2, "bad line 1\n"),
     ("fsa 2\n", 1, Trouble::Nothing, 1, 11, 2, 2, "bad line 1\n"),
     (
@@ -98,8 +112,8 @@ pub fn over_memory(
     Ok((status, Vec::from_slice(alloc, sink.bytes())?))
 }
 
-/// The same, where the sink's call with this number takes nothing.
-pub fn over_reluctant(
+// The same, where the sink's call with this number takes nothing.
+fn over_reluctant(
     alloc: Global,
     script: &[u8],
     piece: usize,
@@ -134,12 +148,18 @@ fn outcome(
     }
 }
 
-// How many bytes are written before this call fails, where a call writes one; any number else.
+// Whether so many bytes may be written where the trouble comes at this call: none where it is the source's or
+// the first, and those of each call before it where a call moves a few.
 fn is_written(trouble: Trouble, piece: usize, call: u64, count: usize) -> bool {
-    match (trouble, piece) {
-        (Trouble::Take, _) => count == 0,
-        (_, 1) => count as u64 == call.saturating_sub(1),
-        _ => true,
+    match trouble {
+        Trouble::Take => count == 0,
+        _ => {
+            if piece <= 32 {
+                count as u64 == (piece as u64).saturating_mul(call.saturating_sub(1))
+            } else {
+                call > 1 || count == 0
+            }
+        }
     }
 }
 

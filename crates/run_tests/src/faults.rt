@@ -1,18 +1,20 @@
-//! Scripts in which requests wait and go on, over a source or a sink that fails at each of its calls in turn.
+//! Scripts in which requests wait and go on, and what comes first where a source or a sink fails.
 
-use crate::failing_io::{over_memory, over_reluctant};
+use crate::failing_io::over_memory;
 use crate::program::{on_one_thread, repeated, run, words_of};
 use std::alloc::Global;
 use std::test::Fail;
 use wire_io::{MemorySink, MemorySource};
 
-// A rename waits for a break, and goes on where the holder closes; a watch is told both names.
-const RENAME: &str = "fsa 1\nclient a 7\nclient b 9\na 1 create =\\d 0x10001 0x7 create 0x1 0x0 0\n\
+/// A rename waits for a break, and goes on where the holder closes; a watch is told both names.
+pub const RENAME: &str =
+    "fsa 1\nclient a 7\nclient b 9\na 1 create =\\d 0x10001 0x7 create 0x1 0x0 0\n\
     b 1 create =\\d\\f 0x1 0x7 create 0x0 0x0 0\nb 2 oplock 1 rh\n\
     a 2 create =\\ 0x1 0x7 open 0x1 0x0 0\na 3 notify 2 0x2 tree 100\n\
     a 4 rename 1 =\\e keep\nb 3 close 1\n";
 
-const RENAME_TEXT: &str =
+/// The text of `RENAME`.
+pub const RENAME_TEXT: &str =
     "> a 1 create\na 1 SUCCESS created\n> b 1 create\nb 1 SUCCESS created\n> b 2 oplock\n\
     b 2 PENDING granted rh\n> a 2 create\na 2 SUCCESS opened\n> a 3 notify\n\
     a 3 PENDING watch\n> a 4 rename\na 4 PENDING held\nb 2 SUCCESS broken r ack\n\
@@ -20,91 +22,19 @@ const RENAME_TEXT: &str =
     a 3 SUCCESS x100000000400000002000000640000000000000005000000020000006500 RENAMED_OLD_NAME=d RENAMED_NEW_NAME=e\n\
     > a 5 leave\na 5 SUCCESS\n> b 4 leave\nb 4 SUCCESS\nend 9\n";
 
-// A write waits for a break that a clashing open began; both go on where the holder answers.
-const WRITE: &str =
+/// A write waits for a break that a clashing open began; both go on where the holder answers.
+pub const WRITE: &str =
     "fsa 1\nclient a 7\nclient b 9\nclient c 8\na 1 create =\\w 0x1 0x3 create 0x0 0x0 0\n\
     b 1 create =\\w 0x2 0x7 open 0x0 0x0 0\na 2 oplock 1 rh\n\
     c 1 create =\\w 0x10000 0x7 open 0x0 0x0 0\nb 2 write 1 0 x41\na 3 ack 1 r\n";
 
-const WRITE_TEXT: &str =
+/// The text of `WRITE`.
+pub const WRITE_TEXT: &str =
     "> a 1 create\na 1 SUCCESS created\n> b 1 create\nb 1 SUCCESS opened\n> a 2 oplock\n\
     a 2 PENDING granted rh\n> c 1 create\nc 1 PENDING held\na 2 SUCCESS broken r ack\n\
     > b 2 write\nb 2 PENDING held\n> a 3 ack\na 3 SUCCESS none\nc 1 SHARING_VIOLATION\n\
     b 2 SUCCESS 1\n> a 4 leave\na 4 SUCCESS\n> b 3 leave\nb 3 SUCCESS\n> c 2 leave\n\
     c 2 SUCCESS\nend 9\n";
-
-// Cases: a script, its text, how many bytes a call moves at most, and how many calls of the source and of
-// the sink there are, each of which fails in turn. A last call of the source meets its end; the text, which
-// is shorter than a block, is put in as many calls as its bytes need.
-const CASES: [(&str, &str, usize, u32, u32); 4] = [
-    (RENAME, RENAME_TEXT, 32, 9, 14),
-    (RENAME, RENAME_TEXT, 65536, 2, 1),
-    (WRITE, WRITE_TEXT, 32, 8, 11),
-    (WRITE, WRITE_TEXT, 65536, 2, 1),
-];
-
-#[test]
-fn a_source_that_fails_at_a_call_gives_nothing(rt: HostRuntime) -> Result<(), Fail> {
-    let alloc = rt.alloc();
-    for (script, text, piece, takes, _puts) in CASES {
-        for call in 1..=u64::from(takes) {
-            let (status, bytes) = over_memory(alloc, script.as_bytes(), piece, &[call], &[])?;
-            assert_eq!(rt; status, 3, "{script} {piece} {call}");
-            assert_eq!(rt; bytes.len(), 0, "{script} {piece} {call}");
-        }
-        let after = u64::from(takes) + 1;
-        let (status, bytes) = over_memory(alloc, script.as_bytes(), piece, &[after], &[])?;
-        assert_eq!(rt; status, 0, "{script} {piece}");
-        assert_eq!(rt; bytes.as_slice(), text.as_bytes(), "{script} {piece}");
-    }
-    Ok(())
-}
-
-// The status, and what is written, where this call of the sink fails, or takes nothing.
-fn over_sink(
-    alloc: Global,
-    script: &str,
-    piece: usize,
-    call: u64,
-    takes_nothing: bool,
-) -> Result<(u8, Vec<u8>), Fail> {
-    if takes_nothing {
-        over_reluctant(alloc, script.as_bytes(), piece, call)
-    } else {
-        over_memory(alloc, script.as_bytes(), piece, &[], &[call])
-    }
-}
-
-#[test]
-fn a_sink_that_fails_at_a_call_has_a_beginning(rt: HostRuntime) -> Result<(), Fail> {
-    let alloc = rt.alloc();
-    for (script, text, piece, _takes, puts) in CASES {
-        for takes_nothing in [false, true] {
-            let mut least = 0;
-            for call in 1..=u64::from(puts) {
-                let (status, bytes) = over_sink(alloc, script, piece, call, takes_nothing)?;
-                assert_eq!(rt; status, 4, "{script} {piece} {call}");
-                assert!(rt;
-                    text.as_bytes().starts_with(&bytes),
-                    "{script} {piece} {call}"
-                );
-                // Nothing was written before the first call, and more before each later one.
-                assert!(rt;
-                    (bytes.len() == 0) == (call == 1),
-                    "{script} {piece} {call}"
-                );
-                assert!(rt; bytes.len() >= least, "{script} {piece} {call}");
-                assert!(rt; bytes.len() < text.len(), "{script} {piece} {call}");
-                least = bytes.len();
-            }
-            let after = u64::from(puts) + 1;
-            let (status, bytes) = over_sink(alloc, script, piece, after, takes_nothing)?;
-            assert_eq!(rt; status, 0, "{script} {piece}");
-            assert_eq!(rt; bytes.as_slice(), text.as_bytes(), "{script} {piece}");
-        }
-    }
-    Ok(())
-}
 
 // A file of 16,384 zeros: 8,000 of them are read five times, whose answers make a block, and then all.
 const ZEROS: &str =

@@ -131,22 +131,16 @@ impl Volume {
         ensures room { OnOk result (HasRoom self.new.content self.new.spare need.now) }
         ensures kept { IsNoLess self.old.spare self.new.spare }
     {
-        let need = *need;
-        self.files.reserve(need.files as usize)?;
-        self.links.reserve(need.parent, need.links as usize)?;
-        self.streams.reserve(need.streams as usize)?;
-        self.handles.reserve(need.handles as usize)?;
-        self.handles
-            .reserve_locks(need.handle, need.locks as usize)?;
-        self.ended.reserve(need.ends as usize)?;
-        let (units, dirs) = (need.units as usize, need.dirs as usize);
-        self.changes.reserve(need.changes as usize, units, dirs)?;
-        reserve_oplocks(&mut self.oplocks, &self.handles, need.handle, need.oplocks)?;
-        let (calls, blockers) = (need.pending as usize, need.blockers as usize);
-        self.pending.reserve(calls, blockers)?;
-        self.watches.reserve(need.watches as usize)?;
-        self.limits.reserve(need.limits as usize)?;
-        self.space.reserve(need.owners as usize)?;
+        reserve_objects(
+            &mut self.files,
+            &mut self.links,
+            &mut self.streams,
+            &mut self.space,
+            need,
+        )?;
+        reserve_handles(&mut self.handles, &mut self.oplocks, need)?;
+        reserve_notes(&mut self.changes, &mut self.watches, &mut self.limits, need)?;
+        reserve_calls(&mut self.pending, &mut self.ended, need)?;
         Ok(())
     }
 
@@ -198,6 +192,88 @@ impl Volume {
     {
         self.left[client as usize] = true;
     }
+}
+
+// Takes room for files, links, streams and owners.
+fn reserve_objects(
+    files: &mut Table<FileRow>,
+    links: &mut LinkTable,
+    streams: &mut StreamTable,
+    space: &mut SpaceTally,
+    need: &Need,
+) -> Result<(), NoMemory>
+    ensures files { (files.new.rows ≡ files.old.rows) × (files.new.last ≡ files.old.last) × (files.old.room ≤ files.new.room) }
+    ensures links { (links.new.table ≡ links.old.table) × (links.new.rows ≡ links.old.rows) × (links.new.last ≡ links.old.last) }
+    ensures links_kept { (other : ℕ) → room_in links.old.rooms other ≤ room_in links.new.rooms other }
+    ensures streams { (streams.new.rows ≡ streams.old.rows) × (streams.new.last ≡ streams.old.last) × (streams.old.room ≤ streams.new.room) }
+    ensures space { space.new ≡ record space.old { room = space.new.room } }
+    ensures space_kept { space.old.room ≤ space.new.room }
+    ensures room { OnOk result ((need.now.files ≤ files.new.room) × (need.now.links ≤ room_in links.new.rooms need.now.parent) × (need.now.streams ≤ streams.new.room) × (need.now.owners ≤ space.new.room)) }
+{
+    files.reserve(need.files as usize)?;
+    links.reserve(need.parent, need.links as usize)?;
+    streams.reserve(need.streams as usize)?;
+    space.reserve(need.owners as usize)?;
+    Ok(())
+}
+
+// Takes room for handles, and for locks and oplocks on the stream of a handle.
+fn reserve_handles(
+    handles: &mut HandleTable,
+    oplocks: &mut OplockTable,
+    need: &Need,
+) -> Result<(), NoMemory>
+    requires fit { HomesFit handles.old.rows }
+    ensures handles { handles.new ≡ record handles.old { room = handles.new.room; rooms = handles.new.rooms } }
+    ensures handles_kept { (handles.old.room ≤ handles.new.room) × ((other : ℕ) → room_in handles.old.rooms other ≤ room_in handles.new.rooms other) }
+    ensures oplocks { oplocks.new ≡ record oplocks.old { rooms = oplocks.new.rooms; tables = oplocks.new.tables } }
+    ensures oplocks_kept { (other : ℕ) → room_in oplocks.old.rooms other ≤ room_in oplocks.new.rooms other }
+    ensures sorted { KeepSorted oplocks.old oplocks.new }
+    ensures room { OnOk result (need.now.handles ≤ handles.new.room) }
+    ensures locks { OnOk result ((stream : ℕ) → stream_of_handle handles.new.rows need.now.handle ≡ Some stream → need.now.locks ≤ room_in handles.new.rooms stream) }
+    ensures oplock_room { OnOk result ((stream : ℕ) → stream_of_handle handles.new.rows need.now.handle ≡ Some stream → need.now.oplocks ≤ room_in oplocks.new.rooms stream) }
+{
+    handles.reserve(need.handles as usize)?;
+    handles.reserve_locks(need.handle, need.locks as usize)?;
+    reserve_oplocks(oplocks, handles, need.handle, need.oplocks)?;
+    Ok(())
+}
+
+// Takes room for changes, watches and limits.
+fn reserve_notes(
+    changes: &mut Changes,
+    watches: &mut SpareList<WatchRow>,
+    limits: &mut SpareList<(u32, u64)>,
+    need: &Need,
+) -> Result<(), NoMemory>
+    ensures changes { (changes.new.changes ≡ changes.old.changes) × (changes.new.base ≡ changes.old.base) }
+    ensures changes_kept { (changes.old.room ≤ changes.new.room) × (changes.old.units ≤ changes.new.units) × (changes.old.dirs ≤ changes.new.dirs) }
+    ensures watches { (watches.new.items ≡ watches.old.items) × (watches.old.room ≤ watches.new.room) }
+    ensures limits { (limits.new.items ≡ limits.old.items) × (limits.old.room ≤ limits.new.room) }
+    ensures room { OnOk result ((need.now.changes ≤ changes.new.room) × (need.now.units ≤ changes.new.units) × (need.now.dirs ≤ changes.new.dirs)) }
+    ensures rows { OnOk result ((need.now.watches ≤ watches.new.room) × (need.now.limits ≤ limits.new.room)) }
+{
+    let (units, dirs) = (need.units as usize, need.dirs as usize);
+    changes.reserve(need.changes as usize, units, dirs)?;
+    watches.reserve(need.watches as usize)?;
+    limits.reserve(need.limits as usize)?;
+    Ok(())
+}
+
+// Takes room for pending calls, their blockers, and ends.
+fn reserve_calls(
+    pending: &mut PendingCalls,
+    ended: &mut EndTable,
+    need: &Need,
+) -> Result<(), NoMemory>
+    ensures pending { pending.new ≡ record pending.old { room = pending.new.room; blockers = pending.new.blockers } }
+    ensures pending_kept { (pending.old.room ≤ pending.new.room) × (pending.old.blockers ≤ pending.new.blockers) }
+    ensures ended { (ended.new.items ≡ ended.old.items) × (ended.old.room ≤ ended.new.room) }
+    ensures room { OnOk result ((need.now.pending ≤ pending.new.room) × (need.now.blockers ≤ pending.new.blockers) × (need.now.ends ≤ ended.new.room)) }
+{
+    pending.reserve(need.pending as usize, need.blockers as usize)?;
+    ended.reserve(need.ends as usize)?;
+    Ok(())
 }
 
 // Takes room for so many oplocks on the stream of a handle; where there is no such handle, or it has no stream,

@@ -1,4 +1,4 @@
-use Rattle.std.proofs.Common.{◌∙◌, subst, sym, arith}
+use Rattle.std.proofs.Common.{subst, sym, arith}
 use Rattle.std.proofs.lemmas.List.{length-take}
 use Rattle.fsa_types.specs.Packing.{Packed}
 use Rattle.pack_info.specs.Entries.{AreWritable}

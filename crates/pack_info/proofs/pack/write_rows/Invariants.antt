@@ -1,4 +1,4 @@
-use Rattle.std.proofs.Common.{◌≡◌, ◌++◌, ◌<◌, ◌^◌, length}
+use Rattle.std.proofs.Common.{◌≡◌, ◌++◌, length}
 use Rattle.pack_info.specs.Entries.{AreEntries, AreWritable, rows_as_entries}
 use Rattle.fsa_types.specs.Packing.{entries_bytes}
 use Rattle.pack_info.proofs.pack.write_rows.Given as goal
