@@ -175,7 +175,7 @@ class Builder:
         for file in ("crates.txt", "HANDLES"):
             if os.path.isfile(f"{TOP}/{file}"):
                 shutil.copyfile(f"{TOP}/{file}", f"{top}/{file}")
-        shutil.copytree(f"{TOP}/crates", f"{top}/crates", dirs_exist_ok=True, ignore=lambda at, names: {"out", "must-fail"} & {*names})
+        shutil.copytree(f"{TOP}/crates", f"{top}/crates", dirs_exist_ok=True, ignore=lambda at, names: {"out", "must-fail", "edits"} & {*names})
         for it in below(self.uses, name):
             shutil.copytree(f"{TOP}/crates/{it}/out/rlib", f"{top}/crates/{it}/out/rlib", copy_function=link)
         return top

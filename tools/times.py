@@ -68,7 +68,8 @@ def of_prover(pid):
 
 def edit_of(crate, number):
     """Returns the name of a crate's edit, by its place among them."""
-    folder = f"{TOP}/crates/{crate}/must-fail"
+    is_rest = any(it.endswith("checks/edits") for it in sys.argv)
+    folder = f"{TOP}/crates/{crate}/{'edits' if is_rest else 'must-fail'}"
     names = sorted(it for it in os.listdir(folder) if it.endswith(".edit")) if os.path.isdir(folder) else []
     return names[number].removesuffix(".edit").replace("_", " ") if number < len(names) else str(number)
 
