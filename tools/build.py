@@ -23,6 +23,9 @@ PROGRAM = "fsa"
 BUILD = f"{TOP}/build"
 # what one check is likely to take at most, in bytes
 MEMORY = 3_000_000_000
+# A check with several jobs loads the libraries again for each of them, many times over: over more crates than these that
+# takes longer than it saves (`client_race` 300 s by one job, and over 1,000 by four).
+MOST_BELOW = 20
 
 
 def say(text):
@@ -239,6 +242,8 @@ class Builder:
                 idle = self.lanes - sum(self.running.values())
                 while ready and idle > 0 and not self.failed:
                     name, jobs = ready[0], max(1, min(4, idle // len(ready)))
+                    if len(below(self.uses, name)) > MOST_BELOW:
+                        jobs = 1
                     ready.pop(0)
                     left.remove(name)
                     self.running[name], idle = jobs, idle - jobs
