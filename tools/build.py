@@ -24,7 +24,7 @@ BUILD = f"{TOP}/build"
 # what one check is likely to take at most, in bytes
 MEMORY = 3_000_000_000
 # A check with several jobs loads the libraries again for each of them, many times over: over more crates than these that
-# takes longer than it saves (`client_race` 300 s by one job, and over 1,000 by four).
+# takes longer than it saves (`shared_volume` took 348 s with four, and 141 s of one processor in the gate).
 MOST_BELOW = 20
 
 
