@@ -1,301 +1,335 @@
 #!/usr/bin/env python3
 """Builds the proved program: proves the crates that it stands on, side by side where none needs another, and then the program.
 
-It works with `rt lib`, which locks the folders of a crate and of all crates below it. So that two of them can run at
-once, each crate is proved in a folder of its own below .git/, over the libraries that are done, and what that made is
-moved to the crate's out/ here, where `rt check` and `rt run` find it. The locks of this checkout are held meanwhile, so
-an `rt` command here waits for this one and this one for it. All that it says goes to standard error.
+It calls the prover itself, as `rt` does. The first time a crate's library holds what other crates can cite of it, and not
+its proofs, which then need not be loaded above. Such libraries fit only those that they were built over, so they stand
+apart, in crates/fsa/out/rlib, where `rt` takes none from. A crate that is built again keeps what is proved of it, function
+by function, in build/work. A crate is built again where its files, the crates below it or the kit changed, by what they
+hold. The lock that `rt` takes of crates/fsa is held meanwhile, so that the gate waits for this and this for the gate.
+All that it says goes to standard error.
 """
 import contextlib
 import fcntl
+import hashlib
 import os
 import re
 import shutil
 import signal
 import subprocess
 import sys
-import tempfile
 import threading
 import time
 
 TOP = os.path.dirname(os.path.dirname(os.path.realpath(__file__)))
 PROGRAM = "fsa"
 BUILD = f"{TOP}/build"
-# what one check is likely to take at most, in bytes
+# the one folder with libraries' sources that the gate passes over
+LIBRARIES = f"{TOP}/crates/{PROGRAM}/out/rlib"
+# what one job of a check is likely to take at most, in bytes
 MEMORY = 3_000_000_000
-# A check with several jobs loads the libraries again for each of them, many times over: over more crates than these that
-# takes longer than it saves (`shared_volume` took 348 s with four, and 141 s of one processor in the gate).
-MOST_BELOW = 20
-
-
-def say(text):
-    print(f"fsa: {text}", file=sys.stderr, flush=True)
-
-
-def libraries():
-    """Returns the crates of crates.txt with the crates of this repository that each names, those below the program alone."""
-    uses = {}
-    with open(f"{TOP}/crates.txt", encoding="utf-8") as lines:
-        for line in lines:
-            head, colon, names = line.partition("#")[0].partition(":")
-            if colon:
-                uses[head.split()[0]] = names.split()
-    uses = {name: [it for it in used if it in uses] for name, used in uses.items()}
-    found, left = set(), [PROGRAM]
-    while left:
-        name = left.pop()
-        if name not in found:
-            found.add(name)
-            left += uses[name]
-    return {name: uses[name] for name in uses if name in found}
-
-
-def below(uses, name):
-    """Returns all crates below this one."""
-    found, left = set(), list(uses[name])
-    while left:
-        it = left.pop()
-        if it not in found:
-            found.add(it)
-            left += uses[it]
-    return found
-
-
-def weight_of(name):
-    """Returns how many lines of code a crate has, twenty lines of its proofs as one: by this the longest chain is found."""
-    lines = {}
-    for part in ("src", "proofs"):
-        lines[part] = 0
-        for at, _, files in os.walk(f"{TOP}/crates/{name}/{part}"):
-            for file in files:
-                with open(f"{at}/{file}", "rb") as it:
-                    lines[part] += it.read().count(b"\n")
-    return lines["src"] + lines["proofs"] // 20
-
-
-def is_kept(uses, name):
-    """Returns whether the crate's library was built here after each of its files and each library below it changed, so that nothing is to be done.
-
-    It saves time alone: `rt run` looks at what the files hold, and builds what this takes for granted."""
-
-    def made(it):
-        file = f"{BUILD}/done-{it}"
-        return os.stat(file).st_mtime_ns if os.path.isfile(file) and os.path.isfile(f"{TOP}/crates/{it}/out/rlib/stamp") else 0
-
-    files = [f"{TOP}/crates.txt"]
-    for part in ("src", "specs", "proofs"):
-        for at, _, names in os.walk(f"{TOP}/crates/{name}/{part}"):
-            files += [at, *(f"{at}/{it}" for it in names)]
-    return made(name) > max([os.stat(it).st_mtime_ns for it in files] + [made(it) for it in uses[name]])
-
-
-def mark(name, then):
-    """Notes that the crate's library is built of the files as they stood then."""
-    with open(f"{BUILD}/done-{name}", "w", encoding="utf-8"):
-        pass
-    os.utime(f"{BUILD}/done-{name}", (then, then))
-
-
-def lanes():
-    """Returns how many checks can run side by side, by processors and free memory."""
-    found = len(os.sched_getaffinity(0))
-    with contextlib.suppress(OSError, TypeError):
-        with open("/proc/meminfo", encoding="utf-8") as it:
-            free = 1024 * int(re.search(r"MemAvailable:\s+(\d+)", it.read())[1])
-        found = min(found, max(free // MEMORY, 1))
-    return found
-
-
-@contextlib.contextmanager
-def locked(names):
-    """Holds the locks that rt takes of these crates' folders, in rt's order."""
-    held = []
-    try:
-        for folder in sorted(os.path.realpath(f"{TOP}/crates/{name}") for name in names):
-            held.append(os.open(folder, os.O_RDONLY))
-            try:
-                fcntl.flock(held[-1], fcntl.LOCK_EX | fcntl.LOCK_NB)
-            except BlockingIOError:
-                say(f"waiting for another command that works in {os.path.relpath(folder, TOP)}")
-                fcntl.flock(held[-1], fcntl.LOCK_EX)
-            except OSError:
-                # some file systems have no locks
-                pass
-        yield
-    finally:
-        for it in held:
-            os.close(it)
-
-
-def link(one, other):
-    try:
-        os.link(one, other)
-    except OSError:
-        shutil.copy2(one, other)
-
-
-def move(one, other):
-    if os.path.isdir(one):
-        shutil.rmtree(other, ignore_errors=True)
-        os.makedirs(os.path.dirname(other), exist_ok=True)
-        shutil.move(one, other)
-
-
-def tell_end(name):
-    """Shows the end of a crate's log."""
-    with contextlib.suppress(OSError):
-        with open(f"{BUILD}/log-{name}", encoding="utf-8", errors="replace") as log:
-            sys.stderr.write("".join(log.readlines()[-20:]))
+# how many jobs a check gains from
+MOST_JOBS = 4
+# A crate leads where what stands on it, with the crate itself, is at least this part of the longest chain.
+NEAR = 0.95
+# begins a command in a process group of its own, so that it can be stopped with all that it starts, and so far behind others
+BEGIN = "import os, sys; os.setpgid(0, 0); os.nice(int(sys.argv[1])); os.execv(sys.argv[2], sys.argv[2:])"
 
 
 class Failed(Exception):
     pass
 
 
+def say(text):
+    # where nobody listens, the work goes on
+    with contextlib.suppress(OSError, ValueError):
+        print(f"fsa: {text}", file=sys.stderr, flush=True)
+
+
+def said_by(*words):
+    """Returns what a command prints, or nothing where it fails."""
+    with contextlib.suppress(OSError):
+        return subprocess.run(words, stdin=subprocess.DEVNULL, capture_output=True, text=True).stdout.strip()
+    return ""
+
+
+def crates():
+    """Returns the program's crate and those below it with the crates that each uses, the kit's too, each after those that it uses."""
+    uses = {}
+    with open(f"{TOP}/crates.txt", encoding="utf-8") as lines:
+        for line in lines:
+            head, _, names = line.partition("#")[0].partition(":")
+            if head.strip():
+                uses[head.split()[0]] = names.replace(",", " ").split()
+    found = {}
+
+    def add(name, above):
+        if name in above:
+            raise Failed(f"crates.txt: {name} stands on itself")
+        if name in uses and name not in found:
+            for it in uses[name]:
+                add(it, (*above, name))
+            found[name] = uses[name]
+
+    add(PROGRAM, ())
+    return found
+
+
+def files_of(name):
+    """Returns the files of a crate that a check of it reads."""
+    found = []
+    for part in ("src", "specs", "proofs"):
+        for at, _, names in os.walk(f"{TOP}/crates/{name}/{part}"):
+            found += [f"{at}/{it}" for it in names if it.endswith((".rt", ".antt"))]
+    return sorted(found)
+
+
+def weights_of(names):
+    """Returns what the proof of each crate takes about, by which the longest chain is found: the seconds of the table in docs/ARCHITECTURE.md, 'The gate', or else an eighth of its lines."""
+    found = {}
+    with contextlib.suppress(OSError), open(f"{TOP}/docs/ARCHITECTURE.md", encoding="utf-8") as text:
+        for name, seconds in re.findall(r"(?m)^\| `(\w+)` \| (\d+) s \|", text.read()):
+            found.setdefault(name, int(seconds))
+    for name in {*names} - {*found}:
+        found[name] = 10
+        for file in files_of(name):
+            with open(file, "rb") as it:
+                found[name] += it.read().count(b"\n") // 8
+    return found
+
+
+def rooms(processors):
+    """Returns how many jobs can run side by side: those of the crate that leads and, behind these, one for each other processor, where memory allows."""
+    found = min(MOST_JOBS, processors) + processors - 1
+    with contextlib.suppress(OSError, TypeError):
+        with open("/proc/meminfo", encoding="utf-8") as it:
+            free = 1024 * int(re.search(r"MemAvailable:\s+(\d+)", it.read())[1])
+        with contextlib.suppress(OSError, ValueError), open("/sys/fs/cgroup/memory.max", encoding="utf-8") as it:
+            free = min(free, int(it.read()))
+        found = min(found, max(free // MEMORY, 1))
+    return found
+
+
+@contextlib.contextmanager
+def locked():
+    """Holds the lock that rt takes of the program's folder, and gives its descriptor."""
+    lock = os.open(f"{TOP}/crates/{PROGRAM}", os.O_RDONLY)
+    try:
+        try:
+            fcntl.flock(lock, fcntl.LOCK_EX | fcntl.LOCK_NB)
+        except BlockingIOError:
+            say(f"waiting for another command that works in crates/{PROGRAM}")
+            fcntl.flock(lock, fcntl.LOCK_EX)
+        except OSError:
+            # some file systems have no locks
+            pass
+        yield lock
+    finally:
+        os.close(lock)
+
+
 class Builder:
-    def __init__(self, room):
-        self.room, self.uses = room, libraries()
-        self.libraries = []
+    def __init__(self, lock):
+        self.lock, self.kit, self.version = lock, os.path.dirname(said_by("rt", "doc")), said_by("rt", "version")
+        if not self.version or not os.path.isfile(f"{self.kit}/bin/rattle"):
+            raise Failed("the kit's prover is not found: `rt doc` names no page in the folder of a kit that has bin/rattle")
+        self.uses = crates()
+        # the crates of this repository that each uses
+        self.under = {name: [it for it in used if it in self.uses] for name, used in self.uses.items()}
+        self.sums, self.to_do = {}, []
         for it in self.uses:
-            if it != PROGRAM and ({*self.uses[it]} & {*self.libraries} or not is_kept(self.uses, it)):
-                self.libraries.append(it)
-        self.kept = {it for it in self.uses if it != PROGRAM} - {*self.libraries}
+            self.sums[it] = self.sum_of(it)
+            if {*self.under[it]} & {*self.to_do} or not self.is_kept(it):
+                self.to_do.append(it)
         self.begun, self.done, self.running, self.failed = time.monotonic(), [], {}, None
-        self.commands = {}
-        self.turn, self.lanes = threading.Condition(), lanes()
-        weights = {it: weight_of(it) for it in self.uses}
+        self.commands, self.leaders, self.turn = {}, set(), threading.Condition()
+        self.processors = len(os.sched_getaffinity(0))
+        self.rooms = rooms(self.processors)
+        weights = weights_of(self.uses)
         # what stands on a crate, and the crate itself
         self.behind = dict(weights)
-        # crates.txt has a crate after those that it uses
         for it in reversed(list(self.uses)):
-            for under in self.uses[it]:
+            for under in self.under[it]:
                 self.behind[under] = max(self.behind[under], weights[under] + self.behind[it])
 
-    def cell(self, name):
-        """Makes the folder in which a crate is proved: its text and that of those below it, and their libraries."""
-        top = f"{self.room}/{name}"
-        os.makedirs(f"{top}/crates")
-        for file in ("crates.txt", "HANDLES"):
-            if os.path.isfile(f"{TOP}/{file}"):
-                shutil.copyfile(f"{TOP}/{file}", f"{top}/{file}")
-        shutil.copytree(f"{TOP}/crates", f"{top}/crates", dirs_exist_ok=True, ignore=lambda at, names: {"out", "must-fail", "edits"} & {*names})
-        for it in below(self.uses, name):
-            shutil.copytree(f"{TOP}/crates/{it}/out/rlib", f"{top}/crates/{it}/out/rlib", copy_function=link)
-        return top
+    def sum_of(self, name):
+        """Returns a sum of all that a crate is built of: the kit, its files, and the crates below it."""
+        found = hashlib.sha256(repr((self.version, self.uses[name], [self.sums[it] for it in self.under[name]])).encode())
+        for file in files_of(name):
+            with open(file, "rb") as it:
+                found.update(repr((os.path.relpath(file, TOP), it.read())).encode())
+        return found.hexdigest()
 
-    def prove(self, name, jobs):
-        top = self.cell(name)
-        here, there = f"{TOP}/crates/{name}/out", f"{top}/crates/{name}/out"
-        for part in ("incremental", "rlib"):
-            move(f"{here}/{part}", f"{there}/{part}")
-        try:
-            with open(f"{BUILD}/log-{name}", "w", encoding="utf-8") as log:
-                how = {"stdin": subprocess.DEVNULL, "stdout": log, "stderr": log}
-                self.commands[name] = subprocess.Popen(["rt", "lib", "--jobs", str(jobs)], cwd=f"{top}/crates/{name}", **how)
-                status = self.commands[name].wait()
-        finally:
-            for part in ("incremental", "rlib"):
-                move(f"{there}/{part}", f"{here}/{part}")
-            shutil.rmtree(top, ignore_errors=True)
-        if status:
-            raise Failed(name)
+    def is_kept(self, name):
+        """Returns whether what was built here of a crate is of the files as they are."""
+        with contextlib.suppress(OSError), open(f"{BUILD}/done-{name}", encoding="utf-8") as it:
+            return it.read() == self.sums[name] and os.path.isfile(f"{BUILD}/{name}" if name == PROGRAM else f"{LIBRARIES}/{name}.rlib/format")
+        return False
+
+    def words(self, name, jobs):
+        """Returns the prover's command for a crate."""
+        kit, root = self.kit, "main" if name == PROGRAM else "lib"
+        words = [f"{kit}/bin/rattle", "build", "--crate-name", name, f"src/{root}.rt"]
+        for it in ["std", *self.uses[name]]:
+            words += ["--extern", f"{it}={LIBRARIES if it in self.uses else f'{kit}/rlibs'}/{it}.rlib"]
+        words += ["-L", f"dependency={LIBRARIES}", "-L", f"dependency={kit}/rlibs"]
+        words += ["--antt-project", f"{kit}/rattle/logic/antt-project.json", "--logic-built", f"{kit}/logic_built"]
+        words += ["--links", f"{name}=", "--jobs", str(jobs)]
+        if os.path.exists(f"{BUILD}/done-{name}"):
+            words += ["--incremental", f"{BUILD}/work/{name}"]
+        elif name != PROGRAM:
+            words += ["--statements"]
+        if name == PROGRAM:
+            return words + ["--backend", "llvm", "--toolchain", f"{kit}/toolchain", "-o", f"{BUILD}/{name}.o"]
+        return words + ["-o", f"{LIBRARIES}/{name}.rlib"]
+
+    def link(self, log):
+        """Links the program."""
+        kit, made = self.kit, f"{BUILD}/{PROGRAM}"
+        words = [f"{kit}/bin/rattle-link", "--target", "x86_64-unknown-linux-gnu", "--toolchain", f"{kit}/toolchain"]
+        words += ["-o", f"{made}.linked", f"{made}.o", f"{kit}/c/libos_c.a", f"{kit}/c/liblibc_c.a"]
+        if subprocess.run(words, stdin=subprocess.DEVNULL, stdout=log, stderr=log).returncode:
+            raise Failed(f"the program was not linked; the whole log is build/log-{PROGRAM}")
+        os.replace(f"{made}.linked", made)
+        os.remove(f"{made}.o")
+
+    def prove(self, name, jobs, log):
+        """Proves a crate and builds its library or the program."""
+        nice = "0" if name in self.leaders else "10"
+        how = {"cwd": f"{TOP}/crates/{name}", "stdin": subprocess.DEVNULL, "stdout": log, "stderr": log}
+        # whoever ends this script, the lock lasts as long as what it started
+        command = subprocess.Popen([sys.executable, "-ISc", BEGIN, nice, *self.words(name, jobs)], pass_fds=[self.lock], **how)
+        with contextlib.suppress(OSError):
+            os.setpgid(command.pid, command.pid)
+        self.commands[name] = command
+        if self.failed:
+            self.stop_all()
+        status = command.wait()
+        del self.commands[name]
+        if status == -signal.SIGKILL and jobs > 1 and not self.failed:
+            # most likely for want of memory
+            self.prove(name, 1, log)
+        elif status == -signal.SIGKILL:
+            raise Failed(f"the check of {name} was killed, most likely for want of memory; run this again")
+        elif status:
+            raise Failed(f"{name} was not proved; the whole log is build/log-{name}")
+        elif name == PROGRAM:
+            self.link(log)
+
+    def build(self, name, jobs):
+        """Builds a crate, and notes of what, where its files stayed as they were meanwhile."""
+        made = f"{LIBRARIES}/{name}.rlib"
+        # the prover replaces nothing else
+        if os.path.isdir(made) and not os.path.isfile(f"{made}/format"):
+            shutil.rmtree(made)
+        with open(f"{BUILD}/log-{name}", "w", encoding="utf-8") as log:
+            self.prove(name, jobs, log)
+        is_same = self.sum_of(name) == self.sums[name]
+        with open(f"{BUILD}/done-{name}", "w", encoding="utf-8") as it:
+            it.write(self.sums[name] if is_same else "of files that changed meanwhile")
 
     def work(self, name, jobs):
-        began, then = time.monotonic(), time.time()
+        began, said = time.monotonic(), None
         try:
-            self.prove(name, jobs)
-            mark(name, then)
-            said = None
-        except Failed:
-            said = f"{name} was not proved; the whole log is build/log-{name}"
-        except OSError as error:
+            self.build(name, jobs)
+        except Failed as error:
+            said = str(error)
+        except Exception as error:
             said = f"{name}: {error}"
         with self.turn:
             del self.running[name]
+            self.leaders.discard(name)
             if said:
                 self.failed = self.failed or (name, said)
             else:
                 self.done.append(name)
                 now = time.monotonic()
-                say(f"{len(self.done)} of {len(self.libraries)}: {name} is proved ({now - began:.0f} s; {now - self.begun:.0f} s in all{self.rest(now)})")
+                what = "is built" if name == PROGRAM else "is proved"
+                say(f"{len(self.done)} of {len(self.to_do)}: {name} {what} ({now - began:.0f} s; {now - self.begun:.0f} s in all{self.rest(now)})")
             self.turn.notify_all()
 
+    def stop_all(self, *_):
+        """Stops all that was started, by a signal or where a crate was not proved."""
+        self.failed = self.failed or (None, "stopped; the crates that were proved are kept")
+        for it in list(self.commands.values()):
+            with contextlib.suppress(OSError):
+                os.killpg(it.pid, signal.SIGTERM)
+
     def chain(self):
-        """Returns the weight of the longest chain of crates, one upon another, that are to be proved."""
-        return max((self.behind[it] for it in self.libraries if it not in self.done), default=0)
+        """Returns the weight of the longest chain of crates, one upon another, that are to be built."""
+        return max((self.behind[it] for it in self.to_do if it not in self.done), default=0)
 
     def rest(self, now):
         """Returns a guess of how long it still takes, as the weight of the longest chain falls."""
         gone = self.whole - self.chain()
-        if 10 * gone < self.whole or not self.chain():
+        if 20 * gone < self.whole or not self.chain():
             return ""
         return f", about {max(1, round((now - self.begun) * self.chain() / gone / 60))} min more"
 
+    def start(self, left):
+        """Starts the checks for which there is room. Those on a chain that is about the longest share the processors, with several jobs each where they are few; the others have one job each, behind these."""
+        ready = [it for it in left if not {*self.under[it]} & ({*self.to_do} - {*self.done})]
+        leading = {it for it in ready if self.behind[it] >= NEAR * self.chain()}
+        share = -(-self.processors // max(1, len(leading)))
+        for at, name in enumerate(ready):
+            room, jobs = self.rooms - sum(self.running.values()), 1
+            if room < 1 or name not in leading and len(self.running) >= self.processors:
+                break
+            if name in leading:
+                self.leaders.add(name)
+                # those that can start behind it
+                others = min(len(ready) - at, self.processors - len(self.running)) - 1
+                jobs = max(1, min(MOST_JOBS, share, room - max(0, others)))
+            left.remove(name)
+            self.running[name] = jobs
+            threading.Thread(target=self.work, args=(name, jobs)).start()
+
     def all(self):
+        """Builds what is to be built."""
         self.whole = self.chain()
-        if self.libraries:
-            say(f"{len(self.libraries)} crates are to be proved, up to {self.lanes} side by side; the first lines come after some minutes")
-        left = sorted(self.libraries, key=lambda it: -self.behind[it])
+        say("building the proved program; from nothing this takes long (README.md, 'Try it').")
+        if sys.argv[1:]:
+            say(f"For an unproved answer within a minute or two, stop this and say: {' '.join(sys.argv[1:])}")
+        say(f"{len(self.to_do)} crates are to be proved, several side by side; the first lines come after some minutes")
+        left = sorted(self.to_do, key=lambda it: -self.behind[it])
         with self.turn:
             while (left and not self.failed) or self.running:
-                ready = [it for it in left if {*self.uses[it]} <= self.kept | {*self.done}]
-                idle = self.lanes - sum(self.running.values())
-                while ready and idle > 0 and not self.failed:
-                    name, jobs = ready[0], max(1, min(4, idle // len(ready)))
-                    if len(below(self.uses, name)) > MOST_BELOW:
-                        jobs = 1
-                    ready.pop(0)
-                    left.remove(name)
-                    self.running[name], idle = jobs, idle - jobs
-                    threading.Thread(target=self.work, args=(name, jobs)).start()
-                try:
-                    self.turn.wait()
-                except (KeyboardInterrupt, SystemExit):
-                    self.failed = self.failed or (None, "stopped; what was proved so far is kept")
-                    for name in self.running:
-                        if name in self.commands:
-                            self.commands[name].terminate()
+                if not self.failed:
+                    self.start(left)
+                self.turn.wait()
         if self.failed:
             name, said = self.failed
-            if name:
-                tell_end(name)
-            say(said)
-            return 1
-        return 0
+            with contextlib.suppress(OSError):
+                if name:
+                    with open(f"{BUILD}/log-{name}", encoding="utf-8", errors="replace") as log:
+                        sys.stderr.write("".join(log.readlines()[-20:]))
+            raise Failed(said)
 
 
 def main():
-    os.makedirs(BUILD, exist_ok=True)
-    # where no check of the repository looks; on the same disk where that can be, so that libraries are linked and not copied
-    rooms = f"{TOP}/.git" if os.path.isdir(f"{TOP}/.git") else tempfile.gettempdir()
-    for name in os.listdir(rooms):
-        pid = re.fullmatch(r"fsa-build-(\d+)", name)
-        if pid and not os.path.exists(f"/proc/{pid[1]}"):
-            shutil.rmtree(f"{rooms}/{name}", ignore_errors=True)
-    room = f"{rooms}/fsa-build-{os.getpid()}"
-    for it in (signal.SIGTERM, signal.SIGHUP):
-        signal.signal(it, lambda number, _: sys.exit(128 + number))
-    builder = Builder(room)
-    try:
-        with locked(builder.uses):
-            status = builder.all()
-    finally:
-        shutil.rmtree(room, ignore_errors=True)
-    if status:
-        return status
-    # the words make the program answer at once, with its line on usage: only that it is built counts
-    with contextlib.suppress(FileNotFoundError):
-        os.remove(f"{TOP}/crates/{PROGRAM}/out/{PROGRAM}")
-    with open(f"{BUILD}/log-{PROGRAM}", "w", encoding="utf-8") as log:
-        how = {"stdin": subprocess.DEVNULL, "stdout": log, "stderr": log}
-        subprocess.run(["rt", "run", "--", "--build"], cwd=f"{TOP}/crates/{PROGRAM}", **how)
-    if not os.access(f"{TOP}/crates/{PROGRAM}/out/{PROGRAM}", os.X_OK):
-        tell_end(PROGRAM)
-        say(f"the program was not built; the whole log is build/log-{PROGRAM}")
-        return 1
-    say(f"the program is built ({time.monotonic() - builder.begun:.0f} s in all)")
-    return 0
+    for it in (BUILD, f"{BUILD}/work", LIBRARIES):
+        os.makedirs(it, exist_ok=True)
+    with locked() as lock:
+        # once more where files changed meanwhile
+        while True:
+            then = time.time()
+            builder = Builder(lock)
+            if not builder.to_do:
+                # `fsa` looks whether a file is newer than the program
+                os.utime(f"{BUILD}/{PROGRAM}", (then, then))
+                return
+            for it in (signal.SIGINT, signal.SIGTERM, signal.SIGHUP):
+                if signal.getsignal(it) != signal.SIG_IGN:
+                    signal.signal(it, builder.stop_all)
+            builder.all()
+            say(f"the program is built ({time.monotonic() - builder.begun:.0f} s in all)")
 
 
 if __name__ == "__main__":
-    sys.exit(main())
+    try:
+        main()
+    except (Failed, OSError) as error:
+        say(error)
+        sys.exit(1)
+    except KeyboardInterrupt:
+        say("stopped")
+        sys.exit(1)

@@ -104,7 +104,7 @@ pub record IsHeadOf (kind : PackKind) (h : Head) (n : Numbers) (next len : ℕ) 
   pub numbers_are : h.numbers ≡ shown kind n
   pub rest_is : r ≡ s
 
--- the number of the field at a place
+-- the number of the field at a place, and 0 behind the last
 abbrev number_at : ℕ → List Field → ℕ
 number_at n [] = 0
 number_at zero (Four x ∷ rest) = x

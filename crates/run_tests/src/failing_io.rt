@@ -22,8 +22,8 @@ enum Trouble {
 
 // Cases: what a script repeats and how often; the trouble; how many bytes a call moves at most; how
 // many calls there are, each of which meets the trouble in turn; the status then, and the status
-// and the text where the trouble comes after them. A last call of the source meets its end; a text,
-// which is shorter than a block, is put in as many calls as its bytes need, and `bad line 1` in three.
+// and the text where the trouble comes after them. The last call of the source meets its end. Each text is shorter than
+// a block, so it is put in as few calls as its bytes need; `bad line 1` is put in three parts.
 //
 // The script of one client has 114 bytes, and its text 148.
 const CASES: [(&str, usize, Trouble, usize, u32, u8, u8, &str); 24] = [
@@ -148,8 +148,9 @@ fn outcome(
     }
 }
 
-// Whether so many bytes may be written where the trouble comes at this call: none where it is the source's or
-// the first, and those of each call before it where a call moves a few.
+// Whether so many bytes may be written where the trouble comes at this call: none where it is the source's; where a
+// call moves 32 bytes at most, just those of the sink's calls before it; else none at the first call, and any number
+// later.
 fn is_written(trouble: Trouble, piece: usize, call: u64, count: usize) -> bool {
     match trouble {
         Trouble::Take => count == 0,
