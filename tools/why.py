@@ -128,6 +128,8 @@ def request(words, names, calls):
         return f"the line is neither the first line, a table, a client nor a request: {name!r} is no client's name (1 to 16 of a to z, 0 to 9 and _)"
     if not names:
         return "a client is to be named before the first request, as `client a 7`"
+    if len(words) > 1 and words[1] in names and name not in names:
+        return f"the client comes first, and then its number: {words[1]} {name}"
     if len(words) > 1 and number(words[1], MOST_ID, "number"):
         return number(words[1], MOST_ID, "number of the request")
     if len(words) < 3:
