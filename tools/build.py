@@ -1,12 +1,15 @@
 #!/usr/bin/env python3
 """Builds the proved program: proves the crates that it stands on, side by side where none needs another, and then the program.
 
-It calls the prover itself, as `rt` does. The first time a crate's library holds what other crates can cite of it, and not
-its proofs, which then need not be loaded above. Such libraries fit only those that they were built over, so they stand
-apart, in crates/fsa/out/rlib, where `rt` takes none from. A crate that is built again keeps what is proved of it, function
-by function, in build/work. A crate is built again where its files, the crates below it or the kit changed, by what they
-hold. The lock that `rt` takes of crates/fsa is held meanwhile, so that the gate waits for this and this for the gate.
-All that it says goes to standard error.
+It calls the prover itself, as `rt` does. A crate's library holds what other crates can cite of it, and not its proofs,
+which then need not be loaded above. Such libraries fit only those that they were built over, so they stand apart, in
+crates/fsa/out/rlib, where `rt` takes none from. Of a crate whose own files changed since it was built here, and of all
+where at most ten are to be proved, what is proved is kept function by function, in build/work, and the library has its
+proofs: from the second such time on only what changed is proved.
+
+What was built is known by a mark, build/done-NAME, which has sums of the crate's files, of the kit, of its library and of
+those below it. The lock that `rt` takes of crates/fsa is held meanwhile, so that the gate waits for this and this for the
+gate. All that it says goes to standard error.
 """
 import contextlib
 import fcntl
@@ -31,12 +34,18 @@ MEMORY = 3_000_000_000
 MOST_JOBS = 4
 # A crate leads where what stands on it, with the crate itself, is at least this part of the longest chain.
 NEAR = 0.95
+# Where no more crates than these are to be proved, all of them are kept function by function.
+FEW = 10
 # begins a command in a process group of its own, so that it can be stopped with all that it starts, and so far behind others
 BEGIN = "import os, sys; os.setpgid(0, 0); os.nice(int(sys.argv[1])); os.execv(sys.argv[2], sys.argv[2:])"
 
 
 class Failed(Exception):
-    pass
+    """What was not to be done, in words."""
+
+
+class Stopped(Exception):
+    """The end of what was told already."""
 
 
 def say(text):
@@ -109,6 +118,12 @@ def rooms(processors):
     return found
 
 
+def tell_end(name):
+    """Shows the end of a crate's log."""
+    with contextlib.suppress(OSError, ValueError), open(f"{BUILD}/log-{name}", encoding="utf-8", errors="replace") as log:
+        sys.stderr.write("".join(log.readlines()[-20:]))
+
+
 @contextlib.contextmanager
 def locked():
     """Holds the lock that rt takes of the program's folder, and gives its descriptor."""
@@ -127,21 +142,47 @@ def locked():
         os.close(lock)
 
 
+def sum_of_file(file):
+    """Returns a sum of what a file holds, or nothing where it can't be read."""
+    with contextlib.suppress(OSError), open(file, "rb") as it:
+        return hashlib.sha256(it.read()).hexdigest()
+    return ""
+
+
+def put(file, text):
+    """Writes a small file whole, or not at all."""
+    with open(f"{file}.new", "w", encoding="utf-8") as it:
+        it.write(text)
+    os.replace(f"{file}.new", file)
+
+
+def text_of(file):
+    """Returns what a small file holds, or nothing where it isn't there."""
+    with contextlib.suppress(OSError), open(file, encoding="utf-8") as it:
+        return it.read()
+    return ""
+
+
 class Builder:
-    def __init__(self, lock):
-        self.lock, self.kit, self.version = lock, os.path.dirname(said_by("rt", "doc")), said_by("rt", "version")
+    def __init__(self, lock, then):
+        self.lock, self.then = lock, then
+        self.kit, self.version = os.path.dirname(said_by("rt", "doc")), said_by("rt", "version")
         if not self.version or not os.path.isfile(f"{self.kit}/bin/rattle"):
             raise Failed("the kit's prover is not found: `rt doc` names no page in the folder of a kit that has bin/rattle")
         self.uses = crates()
-        # the crates of this repository that each uses
+        # the crates of this repository that each uses, and all below each
         self.under = {name: [it for it in used if it in self.uses] for name, used in self.uses.items()}
-        self.sums, self.to_do = {}, []
-        for it in self.uses:
-            self.sums[it] = self.sum_of(it)
-            if {*self.under[it]} & {*self.to_do} or not self.is_kept(it):
-                self.to_do.append(it)
+        self.below = {}
+        for name, used in self.under.items():
+            self.below[name] = sorted({*used}.union(*(self.below[it] for it in used)))
+        self.states, self.own, self.to_do = {}, {}, []
+        for name in self.uses:
+            self.states[name] = self.state_of(name)
+            self.own[name] = self.sum_of(name)
+            if {*self.under[name]} & {*self.to_do} or text_of(f"{BUILD}/done-{name}") != self.mark_of(name):
+                self.to_do.append(name)
         self.begun, self.done, self.running, self.failed = time.monotonic(), [], {}, None
-        self.commands, self.leaders, self.turn = {}, set(), threading.Condition()
+        self.commands, self.leaders, self.turn, self.is_stopped = {}, set(), threading.Condition(), False
         self.processors = len(os.sched_getaffinity(0))
         self.rooms = rooms(self.processors)
         weights = weights_of(self.uses)
@@ -151,19 +192,26 @@ class Builder:
             for under in self.under[it]:
                 self.behind[under] = max(self.behind[under], weights[under] + self.behind[it])
 
+    def state_of(self, name):
+        """Returns when each file of a crate changed, so that one that changed and changed back is seen."""
+        return [(it, os.stat(it).st_mtime_ns, os.stat(it).st_ctime_ns) for it in files_of(name)]
+
     def sum_of(self, name):
-        """Returns a sum of all that a crate is built of: the kit, its files, and the crates below it."""
-        found = hashlib.sha256(repr((self.version, self.uses[name], [self.sums[it] for it in self.under[name]])).encode())
+        """Returns a sum of what a crate uses and of its own files."""
+        found = hashlib.sha256(repr(self.uses[name]).encode())
         for file in files_of(name):
             with open(file, "rb") as it:
                 found.update(repr((os.path.relpath(file, TOP), it.read())).encode())
         return found.hexdigest()
 
-    def is_kept(self, name):
-        """Returns whether what was built here of a crate is of the files as they are."""
-        with contextlib.suppress(OSError), open(f"{BUILD}/done-{name}", encoding="utf-8") as it:
-            return it.read() == self.sums[name] and os.path.isfile(f"{BUILD}/{name}" if name == PROGRAM else f"{LIBRARIES}/{name}.rlib/format")
-        return False
+    def made_of(self, name):
+        """Returns a sum of what was built of a crate: of the program, or of the file `format` of its library, which has sums of its other files."""
+        return sum_of_file(f"{BUILD}/{name}" if name == PROGRAM else f"{LIBRARIES}/{name}.rlib/format")
+
+    def mark_of(self, name):
+        """Returns the mark of a crate that is built as it stands here: the kit, what it is built of, what that made, and the same of all below."""
+        lines = [f"{it} {self.own[it]} {self.made_of(it)}" for it in [name, *self.below[name]]]
+        return "\n".join([self.version, *lines, ""]) if self.made_of(name) else "nothing"
 
     def words(self, name, jobs):
         """Returns the prover's command for a crate."""
@@ -174,12 +222,11 @@ class Builder:
         words += ["-L", f"dependency={LIBRARIES}", "-L", f"dependency={kit}/rlibs"]
         words += ["--antt-project", f"{kit}/rattle/logic/antt-project.json", "--logic-built", f"{kit}/logic_built"]
         words += ["--links", f"{name}=", "--jobs", str(jobs)]
-        if os.path.exists(f"{BUILD}/done-{name}"):
-            words += ["--incremental", f"{BUILD}/work/{name}"]
-        elif name != PROGRAM:
-            words += ["--statements"]
         if name == PROGRAM:
             return words + ["--backend", "llvm", "--toolchain", f"{kit}/toolchain", "-o", f"{BUILD}/{name}.o"]
+        was = text_of(f"{BUILD}/own-{name}")
+        keeps = was and (was != self.own[name] or len(self.to_do) <= FEW)
+        words += ["--incremental", f"{BUILD}/work/{name}"] if keeps else ["--statements"]
         return words + ["-o", f"{LIBRARIES}/{name}.rlib"]
 
     def link(self, log):
@@ -189,6 +236,8 @@ class Builder:
         words += ["-o", f"{made}.linked", f"{made}.o", f"{kit}/c/libos_c.a", f"{kit}/c/liblibc_c.a"]
         if subprocess.run(words, stdin=subprocess.DEVNULL, stdout=log, stderr=log).returncode:
             raise Failed(f"the program was not linked; the whole log is build/log-{PROGRAM}")
+        # `fsa` looks whether a file changed since
+        os.utime(f"{made}.linked", (self.then, self.then))
         os.replace(f"{made}.linked", made)
         os.remove(f"{made}.o")
 
@@ -201,9 +250,13 @@ class Builder:
         with contextlib.suppress(OSError):
             os.setpgid(command.pid, command.pid)
         self.commands[name] = command
-        if self.failed:
+        if self.is_stopped:
             self.stop_all()
         status = command.wait()
+        if status < 0:
+            # what one that was killed left
+            with contextlib.suppress(OSError):
+                os.killpg(command.pid, signal.SIGKILL)
         del self.commands[name]
         if status == -signal.SIGKILL and jobs > 1 and not self.failed:
             # most likely for want of memory
@@ -216,16 +269,17 @@ class Builder:
             self.link(log)
 
     def build(self, name, jobs):
-        """Builds a crate, and notes of what, where its files stayed as they were meanwhile."""
+        """Builds a crate, and marks it where its files and the libraries below it stayed as they were meanwhile."""
         made = f"{LIBRARIES}/{name}.rlib"
         # the prover replaces nothing else
         if os.path.isdir(made) and not os.path.isfile(f"{made}/format"):
             shutil.rmtree(made)
+        over = [self.made_of(it) for it in self.below[name]]
         with open(f"{BUILD}/log-{name}", "w", encoding="utf-8") as log:
             self.prove(name, jobs, log)
-        is_same = self.sum_of(name) == self.sums[name]
-        with open(f"{BUILD}/done-{name}", "w", encoding="utf-8") as it:
-            it.write(self.sums[name] if is_same else "of files that changed meanwhile")
+        put(f"{BUILD}/own-{name}", self.own[name])
+        if self.state_of(name) == self.states[name] and over == [self.made_of(it) for it in self.below[name]]:
+            put(f"{BUILD}/done-{name}", self.mark_of(name))
 
     def work(self, name, jobs):
         began, said = time.monotonic(), None
@@ -238,9 +292,12 @@ class Builder:
         with self.turn:
             del self.running[name]
             self.leaders.discard(name)
-            if said:
-                self.failed = self.failed or (name, said)
-            else:
+            if said and not self.failed:
+                self.failed = said
+                if "log" in said:
+                    tell_end(name)
+                say(f"{said}{'; what else runs is let end' if self.running else ''}")
+            elif not said:
                 self.done.append(name)
                 now = time.monotonic()
                 what = "is built" if name == PROGRAM else "is proved"
@@ -248,8 +305,11 @@ class Builder:
             self.turn.notify_all()
 
     def stop_all(self, *_):
-        """Stops all that was started, by a signal or where a crate was not proved."""
-        self.failed = self.failed or (None, "stopped; the crates that were proved are kept")
+        """Stops all that was started, by a signal."""
+        self.is_stopped = True
+        if not self.failed:
+            self.failed = "stopped; the crates that were proved are kept"
+            say(self.failed)
         for it in list(self.commands.values()):
             with contextlib.suppress(OSError):
                 os.killpg(it.pid, signal.SIGTERM)
@@ -297,29 +357,27 @@ class Builder:
                     self.start(left)
                 self.turn.wait()
         if self.failed:
-            name, said = self.failed
-            with contextlib.suppress(OSError):
-                if name:
-                    with open(f"{BUILD}/log-{name}", encoding="utf-8", errors="replace") as log:
-                        sys.stderr.write("".join(log.readlines()[-20:]))
-            raise Failed(said)
+            raise Stopped
 
 
 def main():
-    for it in (BUILD, f"{BUILD}/work", LIBRARIES):
-        os.makedirs(it, exist_ok=True)
     with locked() as lock:
+        for it in (f"{BUILD}/work", LIBRARIES):
+            os.makedirs(it, exist_ok=True)
         # once more where files changed meanwhile
         while True:
             then = time.time()
-            builder = Builder(lock)
+            builder = Builder(lock, then)
             if not builder.to_do:
-                # `fsa` looks whether a file is newer than the program
                 os.utime(f"{BUILD}/{PROGRAM}", (then, then))
                 return
             for it in (signal.SIGINT, signal.SIGTERM, signal.SIGHUP):
                 if signal.getsignal(it) != signal.SIG_IGN:
                     signal.signal(it, builder.stop_all)
+            # what is not marked again isn't kept, whoever ends this
+            for it in builder.to_do:
+                with contextlib.suppress(FileNotFoundError):
+                    os.remove(f"{BUILD}/done-{it}")
             builder.all()
             say(f"the program is built ({time.monotonic() - builder.begun:.0f} s in all)")
 
@@ -327,6 +385,8 @@ def main():
 if __name__ == "__main__":
     try:
         main()
+    except Stopped:
+        sys.exit(1)
     except (Failed, OSError) as error:
         say(error)
         sys.exit(1)
