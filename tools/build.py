@@ -3,12 +3,12 @@
 
 It calls the prover itself, as `rt` does. A crate's library holds what other crates can cite of it, and not its proofs,
 which then need not be loaded above. Such libraries fit only those that they were built over, so they stand apart, in
-crates/fsa/out/rlib, where `rt` takes none from. Of a crate whose own files changed since it was built here, and of all
-where at most ten are to be proved, what is proved is kept function by function, in build/work, and the library has its
-proofs: from the second such time on only what changed is proved.
+crates/fsa/out/rlib, where `rt` takes none from. Of a library whose own files changed since it was built here, and of all
+where at most ten crates are to be proved, what is proved is kept function by function, in build/work, and the library has
+its proofs: from the second such time on only what changed is proved.
 
-What was built is known by a mark, build/done-NAME, which has sums of the crate's files, of the kit, of its library and of
-those below it. The lock that `rt` takes of crates/fsa is held meanwhile, so that the gate waits for this and this for the
+What was built is known by a mark, build/done-NAME, which has the kit's name, and sums of the crate's files, of its library
+and of the same below it. The lock that `rt` takes of crates/fsa is held meanwhile, so that the gate waits for this and this for the
 gate. All that it says goes to standard error.
 """
 import contextlib
@@ -88,7 +88,8 @@ def files_of(name):
     found = []
     for part in ("src", "specs", "proofs"):
         for at, _, names in os.walk(f"{TOP}/crates/{name}/{part}"):
-            found += [f"{at}/{it}" for it in names if it.endswith((".rt", ".antt"))]
+            # editors leave files whose names begin with a dot
+            found += [f"{at}/{it}" for it in names if it.endswith((".rt", ".antt")) and not it.startswith(".")]
     return sorted(found)
 
 
@@ -185,12 +186,12 @@ class Builder:
         self.commands, self.leaders, self.turn, self.is_stopped = {}, set(), threading.Condition(), False
         self.processors = len(os.sched_getaffinity(0))
         self.rooms = rooms(self.processors)
-        weights = weights_of(self.uses)
+        self.weights = weights_of(self.uses)
         # what stands on a crate, and the crate itself
-        self.behind = dict(weights)
+        self.behind = dict(self.weights)
         for it in reversed(list(self.uses)):
             for under in self.under[it]:
-                self.behind[under] = max(self.behind[under], weights[under] + self.behind[it])
+                self.behind[under] = max(self.behind[under], self.weights[under] + self.behind[it])
 
     def state_of(self, name):
         """Returns when each file of a crate changed, so that one that changed and changed back is seen."""
@@ -247,8 +248,6 @@ class Builder:
         how = {"cwd": f"{TOP}/crates/{name}", "stdin": subprocess.DEVNULL, "stdout": log, "stderr": log}
         # whoever ends this script, the lock lasts as long as what it started
         command = subprocess.Popen([sys.executable, "-ISc", BEGIN, nice, *self.words(name, jobs)], pass_fds=[self.lock], **how)
-        with contextlib.suppress(OSError):
-            os.setpgid(command.pid, command.pid)
         self.commands[name] = command
         if self.is_stopped:
             self.stop_all()
@@ -292,8 +291,8 @@ class Builder:
         with self.turn:
             del self.running[name]
             self.leaders.discard(name)
-            if said and not self.failed:
-                self.failed = said
+            if said and not self.is_stopped:
+                self.failed = self.failed or said
                 if "log" in said:
                     tell_end(name)
                 say(f"{said}{'; what else runs is let end' if self.running else ''}")
@@ -312,18 +311,23 @@ class Builder:
             say(self.failed)
         for it in list(self.commands.values()):
             with contextlib.suppress(OSError):
-                os.killpg(it.pid, signal.SIGTERM)
+                try:
+                    os.killpg(it.pid, signal.SIGTERM)
+                except ProcessLookupError:
+                    # it has no group so far
+                    os.kill(it.pid, signal.SIGTERM)
 
     def chain(self):
         """Returns the weight of the longest chain of crates, one upon another, that are to be built."""
         return max((self.behind[it] for it in self.to_do if it not in self.done), default=0)
 
     def rest(self, now):
-        """Returns a guess of how long it still takes, as the weight of the longest chain falls."""
-        gone = self.whole - self.chain()
-        if 20 * gone < self.whole or not self.chain():
+        """Returns a guess of how long it still takes, as the weight of what is left falls."""
+        gone = sum(self.weights[it] for it in self.done)
+        left = sum(self.weights[it] for it in self.to_do) - gone
+        if 20 * gone < left or not left:
             return ""
-        return f", about {max(1, round((now - self.begun) * self.chain() / gone / 60))} min more"
+        return f", about {max(1, round((now - self.begun) * left / gone / 60))} min more"
 
     def start(self, left):
         """Starts the checks for which there is room. Those on a chain that is about the longest share the processors, with several jobs each where they are few; the others have one job each, behind these."""
@@ -345,7 +349,6 @@ class Builder:
 
     def all(self):
         """Builds what is to be built."""
-        self.whole = self.chain()
         say("building the proved program; from nothing this takes long (README.md, 'Try it').")
         if sys.argv[1:]:
             say(f"For an unproved answer within a minute or two, stop this and say: {' '.join(sys.argv[1:])}")
@@ -364,10 +367,13 @@ def main():
     with locked() as lock:
         for it in (f"{BUILD}/work", LIBRARIES):
             os.makedirs(it, exist_ok=True)
+        builder = None
         # once more where files changed meanwhile
         while True:
             then = time.time()
-            builder = Builder(lock, then)
+            was, builder = builder, Builder(lock, then)
+            if was and was.is_stopped:
+                raise Stopped
             if not builder.to_do:
                 os.utime(f"{BUILD}/{PROGRAM}", (then, then))
                 return

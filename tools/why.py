@@ -129,7 +129,7 @@ def request(words, names, calls):
     if not names:
         return "a client is to be named before the first request, as `client a 7`"
     if len(words) > 1 and words[1] in names and name not in names:
-        return f"the client comes first, and then its number: {words[1]} {name}"
+        return f"a request begins with its client, not with {name}: {words[1]}, the number of the request, and the verb"
     if len(words) > 1 and number(words[1], MOST_ID, "number"):
         return number(words[1], MOST_ID, "number of the request")
     if len(words) < 3:
