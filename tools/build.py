@@ -4,7 +4,7 @@
 It calls the prover itself, as `rt` does. A crate's library holds what other crates can cite of it, and not its proofs,
 which then need not be loaded above. Such libraries fit only those that they were built over, so they stand apart, in
 crates/fsa/out/rlib, where `rt` takes none from. Of a library whose own files changed since it was built here, and of all
-where at most ten crates are to be proved, what is proved is kept function by function, in build/work, and the library has
+where at most ten crates are to be proved, what is proved is kept function by function, in build/kept, and the library has
 its proofs: from the second such time on only what changed is proved.
 
 What was built is known by a mark, build/done-NAME, which has the kit's name, and sums of the crate's files, of its library
@@ -227,7 +227,7 @@ class Builder:
             return words + ["--backend", "llvm", "--toolchain", f"{kit}/toolchain", "-o", f"{BUILD}/{name}.o"]
         was = text_of(f"{BUILD}/own-{name}")
         keeps = was and (was != self.own[name] or len(self.to_do) <= FEW)
-        words += ["--incremental", f"{BUILD}/work/{name}"] if keeps else ["--statements"]
+        words += ["--incremental", f"{BUILD}/kept/{name}"] if keeps else ["--statements"]
         return words + ["-o", f"{LIBRARIES}/{name}.rlib"]
 
     def link(self, log):
@@ -365,7 +365,7 @@ class Builder:
 
 def main():
     with locked() as lock:
-        for it in (f"{BUILD}/work", LIBRARIES):
+        for it in (f"{BUILD}/kept", LIBRARIES):
             os.makedirs(it, exist_ok=True)
         builder = None
         # once more where files changed meanwhile
