@@ -1,12 +1,22 @@
--- What the laws of turns say of each turn of a history that makes no call twice.
-use Rattle.std.proofs.Common.{List, [], ◌∷◌, ◌++◌, append_assoc, subst, sym, ◌∙◌}
+-- What holds throughout a history that makes no call twice, and none while its client waits.
+use Rattle.std.proofs.Common.{◌≡◌, Err, OnErr, Result, List, [], ◌∷◌, ◌++◌, append_assoc, subst, sym, ◌∙◌}
 use Rattle.fsa_model.specs.Engine.{CallsDiffer}
 use Rattle.fsa_model.specs.History.{HistoryEntry}
-use Rattle.fsa_model.specs.Setup.{Setup}
+use Rattle.fsa_model.specs.Schedule.{Scheduled}
+use Rattle.fsa_model.specs.Setup.{Script, Setup}
+use Rattle.fsa_model.specs.Text.{text}
+use Rattle.fsa_model.proofs.CoherenceRuns.{run-coherent}
 use Rattle.fsa_model.proofs.EngineLaws.{run-ends_once, run-released}
 use Rattle.fsa_model.proofs.HeldLaws.{run-blocked}
+use Rattle.fsa_model.proofs.NoticeEnds.{run-watches_report}
+use Rattle.history_laws.specs.Races.{NoneMadeWaiting, Whole}
+use Rattle.history_laws.proofs.Releasing.{others-release_none}
+use Rattle.history_laws.proofs.ScheduledCalls.{Scheduled-differ, Scheduled-free}
+use Rattle.history_laws.proofs.WaitedFor.{free-over}
+use Rattle.text_out.specs.declared.write.TextFault.{TextFault}
+use Rattle.wire_io.specs.Sink.{AppendsPart, Written}
 use Rattle.client_run.proofs.RunLaws.{differ-front}
-use Rattle.fsa_top.specs.Runs.{EndsEachCallOnce, KeepsHeldBlocked, TakesUpReleased}
+use Rattle.fsa_top.specs.Runs.{EndsEachCallOnce, HoldsThroughout, KeepsHeldBlocked, TakesUpReleased, WritesWholePart}
 
 pub ends_each_once : (setup : Setup) (history : List HistoryEntry) → CallsDiffer history → EndsEachCallOnce setup history
 ends_each_once setup history differ r runs = run-ends_once setup history r differ runs
@@ -17,3 +27,25 @@ keeps_held_blocked setup history differ front later r is runs = run-blocked setu
 pub takes_up_released : (setup : Setup) (history : List HistoryEntry) → CallsDiffer history → TakesUpReleased setup history
 takes_up_released setup history differ front later entry r is runs =
     run-released setup front entry r (differ-front (front ++ entry ∷ []) later (subst CallsDiffer (is ∙ sym (append_assoc front (entry ∷ []) later)) differ)) runs
+
+-- all that holds
+pub throughout : (script : Script) (history : List HistoryEntry) → NoneMadeWaiting script history → CallsDiffer history → HoldsThroughout script.setup history
+throughout script history free differ = record {
+  makes_no_call_twice = differ;
+  calls_come_after_waits = free-over script history free differ;
+  each_call_ends_once = ends_each_once script.setup history differ;
+  a_held_call_has_living_blockers = keeps_held_blocked script.setup history differ;
+  released_calls_are_tried_once = takes_up_released script.setup history differ;
+  few_calls_release_held_ones = others-release_none script.setup history differ;
+  caching_is_coherent = run-coherent script.setup history;
+  watches_report_exactly = run-watches_report script.setup history;
+}
+
+pub scheduled-throughout : (script : Script) (history : List HistoryEntry) → Scheduled script history → HoldsThroughout script.setup history
+scheduled-throughout script history scheduled = throughout script history (Scheduled-free script history scheduled) (Scheduled-differ script history scheduled)
+
+-- where the text of such a whole history wasn't all written, a part of it was
+pub whole-part : (script : Script) (history : List HistoryEntry) (written written_now : Written) (result : Result (Unit {0}) TextFault) (fault : TextFault) → Whole script history → CallsDiffer history → result ≡ Err fault
+    → OnErr result (AppendsPart written written_now (text script history)) → WritesWholePart script written written_now
+whole-part script history written written_now result fault whole differ failed part =
+    (history, whole, throughout script history whole.free differ, (let there : AppendsPart written written_now (text script history) = rw failed at part in there))

@@ -14,10 +14,8 @@ use Rattle.fsa_model.specs.Setup.{Script, Setup, client_of}
 use Rattle.fsa_model.specs.Text.{last_line, shown_turns, text, turn_text}
 use Rattle.fsa_model.specs.Turn.{Turned, turn}
 use Rattle.fsa_model.specs.Waiting.{waits}
-use Rattle.fsa_model.proofs.CoherenceRuns.{run-coherent}
 use Rattle.fsa_model.proofs.CountLaws.{how_many-length}
 use Rattle.fsa_model.proofs.HistoryLaws.{shown_turns-push, steps-push}
-use Rattle.fsa_model.proofs.NoticeEnds.{run-watches_report}
 use Rattle.fsa_model.proofs.RowLaws.{option_cases}
 use Rattle.fsa_model.proofs.ScheduleLaws.{Scheduled-none, Scheduled-push}
 use Rattle.fsa_model.proofs.ScriptLaws.{all_calls-numbered}
@@ -40,6 +38,7 @@ use Rattle.text_out.proofs.GatherLaws.{Gathers-all, Gathers-append, Gathers-more
 use Rattle.text_out.specs.declared.write.TextFault.{TextFault}
 use Rattle.text_out.specs.declared.write.TextFault.TheVariants.{Failed, NoMemory}
 use Rattle.fsa_top.specs.Order.{AreNextPlaces, IsLeastCursor, IsWithinLimits}
+use Rattle.fsa_top.proofs.RaceLaws.{scheduled-throughout}
 use Rattle.fsa_top.specs.Runs.{IsHistory, WritesPart, WritesText}
 use Rattle.fsa_top.specs.Progress.{IsNextAt, TurnWasMade, MakesTurn, WroteTurns, Progress}
 use Rattle.fsa_top.specs.declared.order.Order.{Order}
@@ -228,7 +227,7 @@ text_split script whole shown rest is = ap (λ (lines : List ℕ). lines ++ last
 whole_part : (script : Script) (history whole : List HistoryEntry) (first now : Written) → (goes : GoesOnTo script history whole)
     → AppendsPart first now (shown_turns script history ++ (goes.shows.0 ++ last_line (length whole))) → WritesPart script first now
 whole_part script history whole first now goes part =
-    (whole, goes.scheduled, goes.all, run-coherent script.setup whole, run-watches_report script.setup whole, subst (AppendsPart first now) (sym (text_split script whole (shown_turns script history) goes.shows.0 goes.shows.1)) part)
+    (whole, goes.scheduled, goes.all, scheduled-throughout script whole goes.scheduled, subst (AppendsPart first now) (sym (text_split script whole (shown_turns script history) goes.shows.0 goes.shows.1)) part)
 
 -- what was gathered was put
 WroteTurns-put : (script : Script) (history : List HistoryEntry) (first mid now : Written) (gathered : List ℕ) → IsReadScript script → WroteTurns script history first mid gathered → Appends mid now gathered → WritesPart script first now
@@ -270,9 +269,9 @@ MakesTurn-part script old new call first mid now gathered gathered_now NoMemory 
 WroteTurns-last_part : (script : Script) (history : List HistoryEntry) (first mid now : Written) (gathered gathered_now : List ℕ) (fault : TextFault) → HasAllCalls script history → WroteTurns script history first mid gathered → Finishes mid now gathered gathered_now (last_line (length history)) (Err fault)
     → WritesPart script first now
 WroteTurns-last_part script history first mid now gathered gathered_now Failed all shows last =
-    (history, shows.scheduled, all, run-coherent script.setup history, run-watches_report script.setup history, Gathers-more_part first mid now [] gathered _ _ shows.wrote last.0)
+    (history, shows.scheduled, all, scheduled-throughout script history shows.scheduled, Gathers-more_part first mid now [] gathered _ _ shows.wrote last.0)
 WroteTurns-last_part script history first mid now gathered gathered_now NoMemory all shows last =
-    (history, shows.scheduled, all, run-coherent script.setup history, run-watches_report script.setup history, AppendsPart-whole first now (shown_turns script history) (last_line (length history)) (omega arith) (Gathers-all first mid now [] gathered _ shows.wrote last.0))
+    (history, shows.scheduled, all, scheduled-throughout script history shows.scheduled, AppendsPart-whole first now (shown_turns script history) (last_line (length history)) (omega arith) (Gathers-all first mid now [] gathered _ shows.wrote last.0))
 
 -- a schedule that has all calls is the one history with its text
 pub history-one : (script : Script) (history : List HistoryEntry) → IsReadScript script → Scheduled script history → HasAllCalls script history → IsHistory script history
@@ -280,8 +279,7 @@ history-one script history is_read scheduled all = record {
   scheduled = scheduled;
   whole = all;
   only = λ other others whole same. same_text script history other is_read scheduled all others whole same;
-  caching_is_coherent = run-coherent script.setup history;
-  watches_report_exactly = run-watches_report script.setup history;
+  throughout = scheduled-throughout script history scheduled;
   plainly = λ none. text-plain script history is_read scheduled all none;
 }
 

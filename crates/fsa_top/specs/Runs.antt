@@ -10,37 +10,13 @@ use Rattle.fsa_model.specs.Schedule.{HasAllCalls, Scheduled, plain}
 use Rattle.fsa_model.specs.Script.{script_of}
 use Rattle.fsa_model.specs.Text.{shows_no_memory, text}
 use Rattle.fsa_model.specs.Watched.{WatchesReport}
-use Rattle.history_laws.specs.Races.{Begun, Whole}
+use Rattle.history_laws.specs.Releasing.{OthersReleaseNone}
+use Rattle.history_laws.specs.Races.{AllComeAfterWaits, Begun, Whole}
 use Rattle.wire_io.specs.Source.{ReadsWhole}
 use Rattle.wire_io.specs.Sink.{Written, Appends, AppendsFront, AppendsPart}
 use Rattle.fsa_top.specs.declared.limits.Limit.{Limit}
 use Rattle.fsa_top.specs.Limits.{PassesLimit, limit_of}
 use Rattle.fsa_top.specs.Words.{Says, limit_line}
-
--- the one history of a script on one thread: each turn's call was the next one, it has all calls, no other
--- such history has its text, caching by oplocks is coherent over it, each watch reports exactly the matching
--- changes since its last report, and where no line of its text shows NO_MEMORY no call found no memory
-pub record IsHistory (script : Script) (history : List HistoryEntry) : Type 0 where
-  pub scheduled : Scheduled script history
-  pub whole : HasAllCalls script history
-  pub only : (other : List HistoryEntry) → Scheduled script other → HasAllCalls script other → text script other ≡ text script history → other ≡ history
-  pub caching_is_coherent : CachingIsCoherent script.setup history
-  pub watches_report_exactly : WatchesReport script.setup history
-  pub plainly : shows_no_memory (text script history) ≡ false → history ≡ plain script
-
--- the line that names the first faulty line
-abbrev pub bad_line : ℕ → List ℕ
-bad_line line = codes "bad line " ++ decimal line ++ 10 ∷ []
-
--- a part of the text of a scheduled history that has all calls of the script was written; over it too caching is
--- coherent, and watches report so
-abbrev pub WritesPart : Script → Written → Written → Type 0
-WritesPart script written written_now =
-    (history : List HistoryEntry) × Scheduled script history × HasAllCalls script history × CachingIsCoherent script.setup history × WatchesReport script.setup history × AppendsPart written written_now (text script history)
-
--- the text of the script's history was written
-abbrev pub WritesText : Script → Written → Written → Type 0
-WritesText script written written_now = (history : List HistoryEntry) × IsHistory script history × Appends written written_now (text script history)
 
 -- over the whole history no call ends twice, and each has ended or is pending
 abbrev pub EndsEachCallOnce : Setup → List HistoryEntry → Type 0
@@ -55,27 +31,57 @@ abbrev pub TakesUpReleased : Setup → List HistoryEntry → Type 0
 TakesUpReleased setup history =
     (front later : List HistoryEntry) (entry : HistoryEntry) (r : Run) → history ≡ front ++ entry ∷ later → run setup front ≡ Some r → TakesReleased r.volume entry.call entry.starved
 
--- a history of the script whose clients ran side by side: it is whole for the script, so that it makes no call twice,
--- no other that is has its text, each call ends once, a held one is taken up in the turn that lets it go and in no
--- earlier one, caching by oplocks is coherent over it, and each watch reports exactly the matching changes since its
--- last report
+-- no call is made twice. Each stands after the end of every wait that its client had made and, where that end is SUCCESS,
+-- after the end of the call that was waited for. No call ends twice; a held call has a blocker that lives, a turn takes up
+-- just those held calls that its own call let go, and only few kinds of calls let any go. Caching by oplocks is coherent,
+-- and each watch reports exactly the matching changes since its last report
+pub record HoldsThroughout (setup : Setup) (history : List HistoryEntry) : Type 0 where
+  pub makes_no_call_twice : CallsDiffer history
+  pub calls_come_after_waits : AllComeAfterWaits setup history
+  pub each_call_ends_once : EndsEachCallOnce setup history
+  pub a_held_call_has_living_blockers : KeepsHeldBlocked setup history
+  pub released_calls_are_tried_once : TakesUpReleased setup history
+  pub few_calls_release_held_ones : OthersReleaseNone setup history
+  pub caching_is_coherent : CachingIsCoherent setup history
+  pub watches_report_exactly : WatchesReport setup history
+
+-- the one history of a script on one thread: each turn's call was the next one, it has all calls, no other such history
+-- has its text, this holds throughout it, and where no line of its text shows NO_MEMORY no call found no memory
+pub record IsHistory (script : Script) (history : List HistoryEntry) : Type 0 where
+  pub scheduled : Scheduled script history
+  pub whole : HasAllCalls script history
+  pub only : (other : List HistoryEntry) → Scheduled script other → HasAllCalls script other → text script other ≡ text script history → other ≡ history
+  pub throughout : HoldsThroughout script.setup history
+  pub plainly : shows_no_memory (text script history) ≡ false → history ≡ plain script
+
+-- the line that names the first faulty line
+abbrev pub bad_line : ℕ → List ℕ
+bad_line line = codes "bad line " ++ decimal line ++ 10 ∷ []
+
+-- a part of the text of a scheduled history that has all calls of the script was written; this holds throughout it too
+abbrev pub WritesPart : Script → Written → Written → Type 0
+WritesPart script written written_now =
+    (history : List HistoryEntry) × Scheduled script history × HasAllCalls script history × HoldsThroughout script.setup history × AppendsPart written written_now (text script history)
+
+-- the text of the script's history was written
+abbrev pub WritesText : Script → Written → Written → Type 0
+WritesText script written written_now = (history : List HistoryEntry) × IsHistory script history × Appends written written_now (text script history)
+
+-- a history of the script whose clients ran side by side: it is whole for the script, no other that is has its text, and
+-- this holds throughout it
 pub record IsRaced (script : Script) (history : List HistoryEntry) : Type 0 where
   pub whole : Whole script history
-  pub makes_no_call_twice : CallsDiffer history
-  pub each_call_ends_once : EndsEachCallOnce script.setup history
-  pub a_held_call_has_living_blockers : KeepsHeldBlocked script.setup history
-  pub released_calls_are_tried_once : TakesUpReleased script.setup history
   pub only : (other : List HistoryEntry) → Whole script other → text script other ≡ text script history → other ≡ history
-  pub caching_is_coherent : CachingIsCoherent script.setup history
-  pub watches_report_exactly : WatchesReport script.setup history
+  pub throughout : HoldsThroughout script.setup history
 
 -- the text of such a history was written
 abbrev pub WritesWhole : Script → Written → Written → Type 0
 WritesWhole script written written_now = (history : List HistoryEntry) × IsRaced script history × Appends written written_now (text script history)
 
--- a part of the text of a history that is whole for the script was written
+-- a part of the text of a history that is whole for the script was written; this holds throughout it too
 abbrev pub WritesWholePart : Script → Written → Written → Type 0
-WritesWholePart script written written_now = (history : List HistoryEntry) × Whole script history × AppendsPart written written_now (text script history)
+WritesWholePart script written written_now =
+    (history : List HistoryEntry) × Whole script history × HoldsThroughout script.setup history × AppendsPart written written_now (text script history)
 
 -- a beginning of the text of a history was written, or nothing, or all of it, in which each client has made the first of
 -- its calls

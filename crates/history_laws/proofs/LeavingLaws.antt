@@ -252,7 +252,7 @@ answered_fewer call turn (Hold w blockers interim) test fails =
     let one = how_many-append (λ (e : ℕ × Pending). test e.1.call) w.pending ((turn, record { call = call; blockers = blockers }) ∷ []) in
     let none : how_many (λ (e : ℕ × Pending). test e.1.call) ((turn, record { call = call; blockers = blockers }) ∷ []) ≡ 0 = rw fails refl in omega arith
 
-own_fewer : (v : Volume) (call : Call) (turn : ℕ) (test : Call → Bool) → HasOneOplockEach v → test call ≡ false
+pub own_fewer : (v : Volume) (call : Call) (turn : ℕ) (test : Call → Bool) → HasOneOplockEach v → test call ≡ false
     → how_many (λ (e : ℕ × Pending). test e.1.call) (answered call turn (try v call turn)).pending ≤ how_many (λ (e : ℕ × Pending). test e.1.call) v.pending
 own_fewer v call turn test one fails =
     let tried = tried_fewer v turn call.what (try v call turn) (try-keeps v call turn one) (λ e. test e.1.call) in

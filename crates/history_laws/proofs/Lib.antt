@@ -10,11 +10,14 @@ pub mod PlainText
 pub mod PlainTries
 pub mod ReadBack
 pub mod ReadNames
+pub mod Releasing
 pub mod SameRace
 pub mod SameText
+pub mod ScheduledCalls
 pub mod SettlePlain
 pub mod SpareLaws
 pub mod SpareOwn
 pub mod SpareTries
 pub mod WaitRuns
+pub mod WaitedFor
 pub mod WholeLaws

@@ -54,7 +54,7 @@ module _ (who number : ℕ) (fine : Reply → Bool) where
       let second = how_many-filter (λ (end : EndOf). not (fine end.reply)) (is_end who number) b in
       let both = ap (how_many (λ (end : EndOf). not (fine end.reply))) same in omega arith
 
-  fine-more : (ended : List EndOf) (end : EndOf) → (is_end who number end ≡ true → fine end.reply ≡ true) → AreFine ended → AreFine (ended ++ end ∷ [])
+  pub fine-more : (ended : List EndOf) (end : EndOf) → (is_end who number end ≡ true → fine end.reply ≡ true) → AreFine ended → AreFine (ended ++ end ∷ [])
   fine-more ended end so all =
       let pushed = how_many-append (λ e. is_end who number e && not (fine e.reply)) ended (end ∷ []) in
       elim (cases_Bool (is_end who number end)) [
@@ -63,7 +63,7 @@ module _ (who number : ℕ) (fine : Reply → Bool) where
       ]
 
   -- calls that end with a status that is fine
-  fine-calls : (status_of : What → Status) → ((what : What) → fine (record { status = status_of what; body = Nothing }) ≡ true) → (calls : List (ℕ × Pending)) (v : Volume) → AreFine v.ended → AreFine (with_calls_ended status_of calls v).ended
+  pub fine-calls : (status_of : What → Status) → ((what : What) → fine (record { status = status_of what; body = Nothing }) ≡ true) → (calls : List (ℕ × Pending)) (v : Volume) → AreFine v.ended → AreFine (with_calls_ended status_of calls v).ended
   fine-calls status_of so [] v all = all
   fine-calls status_of so (entry ∷ calls) v all =
       fine-calls status_of so calls (with_end v entry.1.call.client entry.1.call.number (record { status = status_of entry.1.call.what; body = Nothing }))
@@ -88,13 +88,13 @@ module _ (who number : ℕ) (fine : Reply → Bool) where
   wait-not_held Leave waits held = (let impossible : false ≡ true = waits in cc)
   wait-not_held _ waits held = (let impossible : false ≡ true = waits in cc)
 
-  held_other : (v : Volume) (entry : ℕ × Pending) → MaySettle v → IsBareWait who number v → IsNext v entry → is_held entry.1 ≡ true → is_call who number entry.1 ≡ false
+  pub held_other : (v : Volume) (entry : ℕ × Pending) → MaySettle v → IsBareWait who number v → IsNext v entry → is_held entry.1 ≡ true → is_call who number entry.1 ≡ false
   held_other v entry may bare next held = elim (cases_Bool (is_call who number entry.1)) [
     | inr isnt ↦ isnt
     | inl its ↦ absurd (wait-not_held entry.1.call.what (wait_next v entry bare next its) (next-may_be_held v entry may next held))
   ]
 
-  bare-onward : {v w : Volume} → ((turn : ℕ) → how_many (is_granted_under turn) w.oplocks ≤ how_many (is_granted_under turn) v.oplocks)
+  pub bare-onward : {v w : Volume} → ((turn : ℕ) → how_many (is_granted_under turn) w.oplocks ≤ how_many (is_granted_under turn) v.oplocks)
       → ((test : ℕ → Call → Bool) → how_many (λ e. test e.0 e.1.call) w.pending ≤ how_many (λ e. test e.0 e.1.call) v.pending) → IsBareWait who number v → IsBareWait who number w
   bare-onward granted fewer bare = record {
     waits = (let few = fewer (λ turn call. (call.client == who && call.number == number) && not (is_wait call.what)) in let none = bare.waits in omega arith);
@@ -111,62 +111,187 @@ module _ (who number : ℕ) (fine : Reply → Bool) where
   held-goes_on (Ask _) held = refl
   held-goes_on _ held = refl
 
+  fine-come : (s : Settling) (pending : Pending) (what : What) → (is_call who number pending ≡ true → is_wait what ≡ true) → (is_call who number pending ≡ true → fine (record { status = Success; body = Nothing }) ≡ true)
+      → AreFine s.volume.ended → AreFine (come_over s pending what).volume.ended
+  fine-come s pending (Ask (Notify handle asked whole room)) its comes all = elim (option_cases (handle_of s.volume pending.call.client handle)) [
+    | inl none ↦ rw none all
+    | inr some ↦ rw some.1 (elim (cases_Bool (starves s.starved pending && nat_le (due_size s.volume some.0) room)) [
+      | inl starving ↦ rw starving (fine-more s.volume.ended (record { client = pending.call.client; number = pending.call.number; reply = record { status = NoMemory; body = Nothing } })
+          (λ is. (let impossible : false ≡ true = its is in cc)) all)
+      | inr reports ↦ rw reports (fine-more s.volume.ended (record { client = pending.call.client; number = pending.call.number; reply = report s.volume some.0 room })
+          (λ is. (let impossible : false ≡ true = its is in cc)) all)
+    ])
+  ]
+  fine-come s pending _ its comes all = fine-more s.volume.ended (record { client = pending.call.client; number = pending.call.number; reply = record { status = Success; body = Nothing } }) comes all
+
+  fine-tried : (turn : ℕ) (pending : Pending) (outcome : Outcome) → is_call who number pending ≡ false → AreFine (volume_after outcome).ended → AreFine (with_tried turn pending outcome).ended
+  fine-tried turn pending (Done v reply) other all =
+      fine-more v.ended (record { client = pending.call.client; number = pending.call.number; reply = reply }) (λ is. (let impossible : true ≡ false = sym is ∙ other in cc)) all
+  fine-tried turn pending (Stay v interim) other all = all
+  fine-tried turn pending (Hold v blockers interim) other all = all
+
+  -- a try that doesn't cancel it
+  fine-try : (v : Volume) (call : Call) (turn : ℕ) → EndsWell v → cancels who number call ≡ false → AreFine (volume_after (try v call turn)).ended
+  fine-try v call turn well other =
+      let keeps : TriesKeep who number v (try v call turn) = try-keeps_ends who number v call turn other in
+      fine-same v.ended (volume_after (try v call turn)).ended (keeps.so.ended well.bare) well.ended
+
+  pub fine-taken_up : (s : Settling) (entry : ℕ × Pending) → MaySettle s.volume → EndsWell s.volume → IsNext s.volume entry → (is_call who number entry.1 ≡ true → fine (record { status = Success; body = Nothing }) ≡ true)
+      → AreFine (taken_up s entry).volume.ended
+  fine-taken_up s entry may well next comes = elim (cases_Bool (is_held entry.1)) [
+    | inr waits ↦ rw waits (fine-come s entry.1 entry.1.call.what (wait_next s.volume entry well.bare next) comes well.ended)
+    | inl held ↦ (let other : is_call who number entry.1 ≡ false = held_other s.volume entry may well.bare next held in
+        rw held (elim (cases_Bool (starves s.starved entry.1)) [
+          | inl starving ↦ rw starving (fine-more s.volume.ended (record { client = entry.1.call.client; number = entry.1.call.number; reply = record { status = NoMemory; body = Nothing } })
+              (λ is. (let impossible : true ≡ false = sym is ∙ other in cc)) well.ended)
+          | inr plenty ↦ rw plenty (fine-tried entry.0 entry.1 (try s.volume entry.1.call entry.0) other
+              (fine-try s.volume entry.1.call entry.0 well (rw (held-goes_on entry.1.call.what (next-may_be_held s.volume entry may next held)) (never (entry.1.call.client == who)))))
+        ]))
+  ]
+
+  granted-tried : (v : Volume) (turn : ℕ) (pending : Pending) (outcome : Outcome) → TriesTo Leaves v outcome → (other : ℕ)
+      → how_many (is_granted_under other) (with_tried turn pending outcome).oplocks ≤ how_many (is_granted_under other) v.oplocks
+  granted-tried v turn pending (Done w reply) tries other = tries.0.keeps.granted other
+  granted-tried v turn pending (Stay w interim) tries other = absurd tries
+  granted-tried v turn pending (Hold w blockers interim) tries other = tries.0.keeps.granted other
+
+  pub granted-taken_up : (s : Settling) (entry : ℕ × Pending) → MaySettle s.volume → IsNext s.volume entry → (other : ℕ)
+      → how_many (is_granted_under other) (taken_up s entry).volume.oplocks ≤ how_many (is_granted_under other) s.volume.oplocks
+  granted-taken_up s entry may next other = elim (cases_Bool (is_held entry.1)) [
+    | inr waits ↦ rw waits (let comes = comes_over s entry.1 waits next.ready in
+        let same = ap (λ (v : Volume). how_many (is_granted_under other) v.oplocks) comes.is in
+        let seen = ap (λ oplocks. how_many (is_granted_under other) oplocks) comes.untouched.oplocks in omega arith)
+    | inl held ↦ rw held (elim (cases_Bool (starves s.starved entry.1)) [
+      | inl starving ↦ rw starving (omega arith)
+      | inr plenty ↦ rw plenty (granted-tried s.volume entry.0 entry.1 (try s.volume entry.1.call entry.0)
+          (Tries.so (try-tries s.volume entry.1.call entry.0 may.oplocks (next-may_be_held s.volume entry may next held))) other)
+    ])
+  ]
+
+  -- ---- the turn's own call
+
+  -- another call becomes pending in its turn
+  bare-pending : (v w : Volume) (call : Call) (blockers : List Blocker) → MayTurn v → IsBareWait who number v → (call.client == who && call.number == number) ≡ false
+      → ((test : ℕ × Pending → Bool) → how_many test w.pending ≤ how_many test v.pending)
+      → ((other : ℕ) → (turn_number v == other) ≡ false → how_many (is_granted_under other) w.oplocks ≤ how_many (is_granted_under other) v.oplocks)
+      → IsBareWait who number (with_pending w (turn_number v) call blockers)
+  bare-pending v w call blockers may bare other fewer granted = record {
+    waits =
+        (let pushed = how_many-append (λ e. is_call who number e.1 && not (is_wait e.1.call.what)) w.pending ((turn_number v, record { call = call; blockers = blockers }) ∷ []) in
+        let all : how_many (λ e. is_call who number e.1 && not (is_wait e.1.call.what)) (w.pending ++ (turn_number v, record { call = call; blockers = blockers }) ∷ []) ≡ how_many (λ e. is_call who number e.1 && not (is_wait e.1.call.what)) w.pending + (0 + 0) = rw other at pushed in
+        let few = fewer (λ e. is_call who number e.1 && not (is_wait e.1.call.what)) in let none = bare.waits in omega arith);
+    none = λ turn some.
+        (let pushed = how_many-append (λ e. is_under turn e && is_call who number e.1) w.pending ((turn_number v, record { call = call; blockers = blockers }) ∷ []) in
+        let gone : (is_under turn (turn_number v, record { call = call; blockers = blockers }) && is_call who number (record { call = call; blockers = blockers })) ≡ false = rw other (never (turn_number v == turn)) in
+        let all : how_many (λ e. is_under turn e && is_call who number e.1) (w.pending ++ (turn_number v, record { call = call; blockers = blockers }) ∷ []) ≡ how_many (λ e. is_under turn e && is_call who number e.1) w.pending + (0 + 0) = rw gone at pushed in
+        let few = fewer (λ e. is_under turn e && is_call who number e.1) in
+        elim (cases_Bool (turn_number v == turn)) [
+          | inr differs ↦ (let many = granted turn differs in let none = bare.none turn (omega arith) in omega arith)
+          | inl its ↦ (let same : turn_number v ≡ turn = eqb-true (turn_number v) turn its in
+              let later = how_many-weaker (λ e. is_under turn e && is_call who number e.1) (λ e. nat_lt (made v) e.0) v.pending
+              (λ e both. (let here : e.0 ≡ turn = eqb-true e.0 turn (and_left (is_under turn e) _ both) in lt-ltb (made v) e.0 (omega arith))) in
+              let none = may.turns in omega arith)
+        ]);
+  }
+
+  pub bare-answered : (v : Volume) (call : Call) (outcome : Outcome) → MayTurn v → IsBareWait who number v → (call.client == who && call.number == number) ≡ false
+      → TriedTo v (turn_number v) call.what outcome → IsBareWait who number (answered call (turn_number v) outcome)
+  bare-answered v call (Done w reply) may bare other tried =
+      IsBareWait-fewer who number {v = v} {w = with_end w call.client call.number reply} tried.0.keeps.granted
+      (λ test. (let few = how_many-filter_le test (λ entry. not (is_call call.client call.number entry.1)) w.pending in let first = tried.0.keeps.pending test in omega arith)) bare
+  bare-answered v call (Stay w interim) may bare other tried =
+      bare-pending v w call [] may bare other tried.pending
+      (λ turn differs. (let many = tried.granted turn in let few : how_many (is_granted_under turn) w.oplocks ≤ how_many (is_granted_under turn) v.oplocks + 0 = rw differs at many in omega arith))
+  bare-answered v call (Hold w blockers interim) may bare other tried =
+      bare-pending v w call blockers may bare other tried.0.keeps.pending (λ turn differs. tried.0.keeps.granted turn)
+
+  pub fine-answered : (v : Volume) (call : Call) (outcome : Outcome) → (call.client == who && call.number == number) ≡ false → AreFine (volume_after outcome).ended → AreFine (answered call (turn_number v) outcome).ended
+  fine-answered v call (Done w reply) other all = fine-more w.ended (record { client = call.client; number = call.number; reply = reply }) (λ is. (let impossible : true ≡ false = sym is ∙ other in cc)) all
+  fine-answered v call (Stay w interim) other all = all
+  fine-answered v call (Hold w blockers interim) other all = all
+
+  -- the client's own cancellation, or its leaving
+  fine-leave : (v : Volume) (client : ℕ) → EndsWell v → fine (record { status = Cancelled; body = Nothing }) ≡ true → AreFine (volume_after (try_leave v client)).ended
+  unfolding try_leave with_client_gone
+  fine-leave v client well cancelled =
+      let calls : List (ℕ × Pending) = pending_by_turn (is_left_behind client) v in
+      let over : Volume = with_calls_ended (λ _. Cancelled) calls v in
+      fine-same over.ended (with_all_closed (handles_of_client v client) over).ended
+      (Spares.ended (all_closed who number (handles_of_client v client) over) (IsBareWait-calls who number (λ _. Cancelled) calls v well.bare))
+      (fine-calls (λ _. Cancelled) (λ what. cancelled) calls v well.ended)
+
+  fine-cancel : (v : Volume) (client other : ℕ) → EndsWell v → fine (record { status = Cancelled; body = Nothing }) ≡ true → AreFine (volume_after (try_cancel v client other)).ended
+  unfolding try_cancel
+  fine-cancel v client other well cancelled = elim (option_cases (number_of (is_call client other) v.pending)) [
+    | inl none ↦ rw none well.ended
+    | inr some ↦ rw some.1 (fine-more v.ended (record { client = client; number = other; reply = record { status = Cancelled; body = Nothing } }) (λ is. cancelled) well.ended)
+  ]
+
+  fine-what : (v : Volume) (turn client call : ℕ) (what : What) → EndsWell v → (is_leave what || is_cancel_of number what) ≡ true → fine (record { status = Cancelled; body = Nothing }) ≡ true
+      → AreFine (volume_after (try_what v turn client call what)).ended
+  fine-what v turn client call Leave well some cancelled = fine-leave v client well cancelled
+  fine-what v turn client call (Ask (Cancel other)) well some cancelled = fine-cancel v client other well cancelled
+  fine-what v turn client call _ well some cancelled = absurd (let impossible : false ≡ true = some in cc)
+
+  pub fine-any : (v : Volume) (call : Call) (turn : ℕ) → EndsWell v → (cancels who number call ≡ true → fine (record { status = Cancelled; body = Nothing }) ≡ true) → AreFine (volume_after (try v call turn)).ended
+  fine-any v call turn well cancelled = elim (cases_Bool (cancels who number call)) [
+    | inr other ↦ fine-try v call turn well other
+    | inl is ↦ elim (cases_Bool (has_left v call.client)) [
+      | inl gone ↦ rw gone well.ended
+      | inr here ↦ rw here (fine-what v turn call.client call.number call.what well (and_right (call.client == who) _ is) (cancelled is))
+    ]
+  ]
+
+  -- ---- the wait's own turn
+
+  -- a call that isn't made yet
+  pub well-new : (v : Volume) → times who number v ≡ 0 → EndsWell v
+  well-new v none = record {
+    bare = record {
+      waits = (let weaker = how_many-weaker (λ (e : ℕ × Pending). is_call who number e.1 && not (is_wait e.1.call.what)) (λ e. is_call who number e.1) v.pending (λ e both. and_left (is_call who number e.1) _ both) in omega arith);
+      none = λ turn some. (let weaker = how_many-weaker (λ (e : ℕ × Pending). is_under turn e && is_call who number e.1) (λ e. is_call who number e.1) v.pending (λ e both. and_right (is_under turn e) _ both) in omega arith);
+    };
+    ended = (let weaker = how_many-weaker (λ (end : EndOf). is_end who number end && not (fine end.reply)) (is_end who number) v.ended (λ end both. and_left (is_end who number end) _ both) in omega arith);
+  }
+
+  well-done : (v : Volume) (client other : ℕ) (reply : Reply) → EndsWell v → fine reply ≡ true → EndsWell (with_end v client other reply)
+  well-done v client other reply well so = record {
+    bare = IsBareWait-fewer who number {v = v} {w = with_end v client other reply} (λ turn. omega arith) (λ test. how_many-filter_le test (λ entry. not (is_call client other entry.1)) v.pending) well.bare;
+    ended = fine-more v.ended (record { client = client; number = other; reply = reply }) (λ is. so) well.ended;
+  }
+
+  pub well-stays : (v : Volume) (call : Call) → MayTurn v → times who number v ≡ 0 → is_wait call.what ≡ true → EndsWell (with_pending v (turn_number v) call [])
+  well-stays v call may none waits = record {
+    bare = record {
+      waits =
+          (let pushed = how_many-append (λ e. is_call who number e.1 && not (is_wait e.1.call.what)) v.pending ((turn_number v, record { call = call; blockers = [] }) ∷ []) in
+          let right : (is_call who number (record { call = call; blockers = [] }) && not (is_wait call.what)) ≡ false = rw waits (never (is_call who number (record { call = call; blockers = [] }))) in
+          let all : how_many (λ e. is_call who number e.1 && not (is_wait e.1.call.what)) (v.pending ++ (turn_number v, record { call = call; blockers = [] }) ∷ []) ≡ how_many (λ e. is_call who number e.1 && not (is_wait e.1.call.what)) v.pending + (0 + 0) = rw right at pushed in
+          let before = (well-new v none).bare.waits in omega arith);
+      none = λ turn some. elim (cases_Bool (turn_number v == turn)) [
+        | inl its ↦ (let same : turn_number v ≡ turn = eqb-true (turn_number v) turn its in let no_grant = may.granted turn (omega arith) in absurd (omega arith))
+        | inr differs ↦ (let pushed = how_many-append (λ e. is_under turn e && is_call who number e.1) v.pending ((turn_number v, record { call = call; blockers = [] }) ∷ []) in
+            let all : how_many (λ e. is_under turn e && is_call who number e.1) (v.pending ++ (turn_number v, record { call = call; blockers = [] }) ∷ []) ≡ how_many (λ e. is_under turn e && is_call who number e.1) v.pending + (0 + 0) = rw differs at pushed in
+            let before = (well-new v none).bare.none turn some in omega arith)
+      ];
+    };
+    ended = (well-new v none).ended;
+  }
+
+  -- ---- the turns behind it
+
+  abbrev pub Differ : Run → List HistoryEntry → Type 0
+  Differ r history = (client other : ℕ) → times client other r.volume + how_many (is_entry_of client other) history ≤ 1
+
+  pub new-call : (r : Run) (entry : HistoryEntry) (more : List HistoryEntry) → Differ r (entry ∷ more) → times entry.call.client entry.call.number r.volume ≡ 0
+  new-call r entry more differ =
+      let few = differ entry.call.client entry.call.number in
+      let self : is_entry_of entry.call.client entry.call.number entry ≡ true = is_entry_of-self entry in
+      let one : times entry.call.client entry.call.number r.volume + (1 + how_many (is_entry_of entry.call.client entry.call.number) more) ≤ 1 = rw self at few in omega arith
+
+  -- ---- where SUCCESS and STALLED are fine
+
   module _ (success : fine (record { status = Success; body = Nothing }) ≡ true) (stalled : fine (record { status = Stalled; body = Nothing }) ≡ true) where
-    fine-come : (s : Settling) (pending : Pending) (what : What) → (is_call who number pending ≡ true → is_wait what ≡ true) → AreFine s.volume.ended → AreFine (come_over s pending what).volume.ended
-    fine-come s pending (Ask (Notify handle asked whole room)) its all = elim (option_cases (handle_of s.volume pending.call.client handle)) [
-      | inl none ↦ rw none all
-      | inr some ↦ rw some.1 (elim (cases_Bool (starves s.starved pending && nat_le (due_size s.volume some.0) room)) [
-        | inl starving ↦ rw starving (fine-more s.volume.ended (record { client = pending.call.client; number = pending.call.number; reply = record { status = NoMemory; body = Nothing } })
-            (λ is. (let impossible : false ≡ true = its is in cc)) all)
-        | inr reports ↦ rw reports (fine-more s.volume.ended (record { client = pending.call.client; number = pending.call.number; reply = report s.volume some.0 room })
-            (λ is. (let impossible : false ≡ true = its is in cc)) all)
-      ])
-    ]
-    fine-come s pending _ its all = fine-more s.volume.ended (record { client = pending.call.client; number = pending.call.number; reply = record { status = Success; body = Nothing } }) (λ is. success) all
-
-    fine-tried : (turn : ℕ) (pending : Pending) (outcome : Outcome) → is_call who number pending ≡ false → AreFine (volume_after outcome).ended → AreFine (with_tried turn pending outcome).ended
-    fine-tried turn pending (Done v reply) other all =
-        fine-more v.ended (record { client = pending.call.client; number = pending.call.number; reply = reply }) (λ is. (let impossible : true ≡ false = sym is ∙ other in cc)) all
-    fine-tried turn pending (Stay v interim) other all = all
-    fine-tried turn pending (Hold v blockers interim) other all = all
-
-    -- a try that doesn't cancel it
-    fine-try : (v : Volume) (call : Call) (turn : ℕ) → EndsWell v → cancels who number call ≡ false → AreFine (volume_after (try v call turn)).ended
-    fine-try v call turn well other =
-        let keeps : TriesKeep who number v (try v call turn) = try-keeps_ends who number v call turn other in
-        fine-same v.ended (volume_after (try v call turn)).ended (keeps.so.ended well.bare) well.ended
-
-    fine-taken_up : (s : Settling) (entry : ℕ × Pending) → MaySettle s.volume → EndsWell s.volume → IsNext s.volume entry → AreFine (taken_up s entry).volume.ended
-    fine-taken_up s entry may well next = elim (cases_Bool (is_held entry.1)) [
-      | inr waits ↦ rw waits (fine-come s entry.1 entry.1.call.what (wait_next s.volume entry well.bare next) well.ended)
-      | inl held ↦ (let other : is_call who number entry.1 ≡ false = held_other s.volume entry may well.bare next held in
-          rw held (elim (cases_Bool (starves s.starved entry.1)) [
-            | inl starving ↦ rw starving (fine-more s.volume.ended (record { client = entry.1.call.client; number = entry.1.call.number; reply = record { status = NoMemory; body = Nothing } })
-                (λ is. (let impossible : true ≡ false = sym is ∙ other in cc)) well.ended)
-            | inr plenty ↦ rw plenty (fine-tried entry.0 entry.1 (try s.volume entry.1.call entry.0) other
-                (fine-try s.volume entry.1.call entry.0 well (rw (held-goes_on entry.1.call.what (next-may_be_held s.volume entry may next held)) (never (entry.1.call.client == who)))))
-          ]))
-    ]
-
-    granted-tried : (v : Volume) (turn : ℕ) (pending : Pending) (outcome : Outcome) → TriesTo Leaves v outcome → (other : ℕ)
-        → how_many (is_granted_under other) (with_tried turn pending outcome).oplocks ≤ how_many (is_granted_under other) v.oplocks
-    granted-tried v turn pending (Done w reply) tries other = tries.0.keeps.granted other
-    granted-tried v turn pending (Stay w interim) tries other = absurd tries
-    granted-tried v turn pending (Hold w blockers interim) tries other = tries.0.keeps.granted other
-
-    granted-taken_up : (s : Settling) (entry : ℕ × Pending) → MaySettle s.volume → IsNext s.volume entry → (other : ℕ)
-        → how_many (is_granted_under other) (taken_up s entry).volume.oplocks ≤ how_many (is_granted_under other) s.volume.oplocks
-    granted-taken_up s entry may next other = elim (cases_Bool (is_held entry.1)) [
-      | inr waits ↦ rw waits (let comes = comes_over s entry.1 waits next.ready in
-          let same = ap (λ (v : Volume). how_many (is_granted_under other) v.oplocks) comes.is in
-          let seen = ap (λ oplocks. how_many (is_granted_under other) oplocks) comes.untouched.oplocks in omega arith)
-      | inl held ↦ rw held (elim (cases_Bool (starves s.starved entry.1)) [
-        | inl starving ↦ rw starving (omega arith)
-        | inr plenty ↦ rw plenty (granted-tried s.volume entry.0 entry.1 (try s.volume entry.1.call entry.0)
-            (Tries.so (try-tries s.volume entry.1.call entry.0 may.oplocks (next-may_be_held s.volume entry may next held))) other)
-      ])
-    ]
-
     well-steps : (most : ℕ) (s : Settling) → MaySettle s.volume → EndsWell s.volume → EndsWell (repeated settle_step most s).volume
     well-steps zero s may well = well
     well-steps (suc more) s may well = elim (option_cases (next_ready s.volume)) [
@@ -175,7 +300,7 @@ module _ (who number : ℕ) (fine : Reply → Bool) where
           let stepped : Steps s.volume (taken_up s some.0).volume = Steps-taken_up s some.0 may next in
           let after : EndsWell (taken_up s some.0).volume = record {
             bare = bare-onward {v = s.volume} {w = (taken_up s some.0).volume} (granted-taken_up s some.0 may next) stepped.pending well.bare;
-            ended = fine-taken_up s some.0 may well next;
+            ended = fine-taken_up s some.0 may well next (λ _. success);
           } in
           rw some.1 (well-steps more (taken_up s some.0) stepped.may after))
     ]
@@ -186,83 +311,9 @@ module _ (who number : ℕ) (fine : Reply → Bool) where
       | inr some ↦ rw some well
     ]
 
-    -- ---- the turn's own call
-
-    -- another call becomes pending in its turn
-    bare-pending : (v w : Volume) (call : Call) (blockers : List Blocker) → MayTurn v → IsBareWait who number v → (call.client == who && call.number == number) ≡ false
-        → ((test : ℕ × Pending → Bool) → how_many test w.pending ≤ how_many test v.pending)
-        → ((other : ℕ) → (turn_number v == other) ≡ false → how_many (is_granted_under other) w.oplocks ≤ how_many (is_granted_under other) v.oplocks)
-        → IsBareWait who number (with_pending w (turn_number v) call blockers)
-    bare-pending v w call blockers may bare other fewer granted = record {
-      waits =
-          (let pushed = how_many-append (λ e. is_call who number e.1 && not (is_wait e.1.call.what)) w.pending ((turn_number v, record { call = call; blockers = blockers }) ∷ []) in
-          let all : how_many (λ e. is_call who number e.1 && not (is_wait e.1.call.what)) (w.pending ++ (turn_number v, record { call = call; blockers = blockers }) ∷ []) ≡ how_many (λ e. is_call who number e.1 && not (is_wait e.1.call.what)) w.pending + (0 + 0) = rw other at pushed in
-          let few = fewer (λ e. is_call who number e.1 && not (is_wait e.1.call.what)) in let none = bare.waits in omega arith);
-      none = λ turn some.
-          (let pushed = how_many-append (λ e. is_under turn e && is_call who number e.1) w.pending ((turn_number v, record { call = call; blockers = blockers }) ∷ []) in
-          let gone : (is_under turn (turn_number v, record { call = call; blockers = blockers }) && is_call who number (record { call = call; blockers = blockers })) ≡ false = rw other (never (turn_number v == turn)) in
-          let all : how_many (λ e. is_under turn e && is_call who number e.1) (w.pending ++ (turn_number v, record { call = call; blockers = blockers }) ∷ []) ≡ how_many (λ e. is_under turn e && is_call who number e.1) w.pending + (0 + 0) = rw gone at pushed in
-          let few = fewer (λ e. is_under turn e && is_call who number e.1) in
-          elim (cases_Bool (turn_number v == turn)) [
-            | inr differs ↦ (let many = granted turn differs in let none = bare.none turn (omega arith) in omega arith)
-            | inl its ↦ (let same : turn_number v ≡ turn = eqb-true (turn_number v) turn its in
-                let later = how_many-weaker (λ e. is_under turn e && is_call who number e.1) (λ e. nat_lt (made v) e.0) v.pending
-                (λ e both. (let here : e.0 ≡ turn = eqb-true e.0 turn (and_left (is_under turn e) _ both) in lt-ltb (made v) e.0 (omega arith))) in
-                let none = may.turns in omega arith)
-          ]);
-    }
-
-    bare-answered : (v : Volume) (call : Call) (outcome : Outcome) → MayTurn v → IsBareWait who number v → (call.client == who && call.number == number) ≡ false
-        → TriedTo v (turn_number v) call.what outcome → IsBareWait who number (answered call (turn_number v) outcome)
-    bare-answered v call (Done w reply) may bare other tried =
-        IsBareWait-fewer who number {v = v} {w = with_end w call.client call.number reply} tried.0.keeps.granted
-        (λ test. (let few = how_many-filter_le test (λ entry. not (is_call call.client call.number entry.1)) w.pending in let first = tried.0.keeps.pending test in omega arith)) bare
-    bare-answered v call (Stay w interim) may bare other tried =
-        bare-pending v w call [] may bare other tried.pending
-        (λ turn differs. (let many = tried.granted turn in let few : how_many (is_granted_under turn) w.oplocks ≤ how_many (is_granted_under turn) v.oplocks + 0 = rw differs at many in omega arith))
-    bare-answered v call (Hold w blockers interim) may bare other tried =
-        bare-pending v w call blockers may bare other tried.0.keeps.pending (λ turn differs. tried.0.keeps.granted turn)
-
-    fine-answered : (v : Volume) (call : Call) (outcome : Outcome) → (call.client == who && call.number == number) ≡ false → AreFine (volume_after outcome).ended → AreFine (answered call (turn_number v) outcome).ended
-    fine-answered v call (Done w reply) other all = fine-more w.ended (record { client = call.client; number = call.number; reply = reply }) (λ is. (let impossible : true ≡ false = sym is ∙ other in cc)) all
-    fine-answered v call (Stay w interim) other all = all
-    fine-answered v call (Hold w blockers interim) other all = all
-
     well-settled : (v : Volume) (call : Call) (starved : List CallId) → MaySettle (own_tried v call) → EndsWell (own_tried v call) → EndsWell (settlement v call starved).volume
     well-settled v call starved may own =
         well-stalled (taken_up_all (own_tried v call) starved).volume (well-steps (length (own_tried v call).pending) (record { volume = own_tried v call; starved = starved; taken = [] }) may own)
-
-    -- the client's own cancellation, or its leaving
-    fine-leave : (v : Volume) (client : ℕ) → EndsWell v → fine (record { status = Cancelled; body = Nothing }) ≡ true → AreFine (volume_after (try_leave v client)).ended
-    unfolding try_leave with_client_gone
-    fine-leave v client well cancelled =
-        let calls : List (ℕ × Pending) = pending_by_turn (is_left_behind client) v in
-        let over : Volume = with_calls_ended (λ _. Cancelled) calls v in
-        fine-same over.ended (with_all_closed (handles_of_client v client) over).ended
-        (Spares.ended (all_closed who number (handles_of_client v client) over) (IsBareWait-calls who number (λ _. Cancelled) calls v well.bare))
-        (fine-calls (λ _. Cancelled) (λ what. cancelled) calls v well.ended)
-
-    fine-cancel : (v : Volume) (client other : ℕ) → EndsWell v → fine (record { status = Cancelled; body = Nothing }) ≡ true → AreFine (volume_after (try_cancel v client other)).ended
-    unfolding try_cancel
-    fine-cancel v client other well cancelled = elim (option_cases (number_of (is_call client other) v.pending)) [
-      | inl none ↦ rw none well.ended
-      | inr some ↦ rw some.1 (fine-more v.ended (record { client = client; number = other; reply = record { status = Cancelled; body = Nothing } }) (λ is. cancelled) well.ended)
-    ]
-
-    fine-what : (v : Volume) (turn client call : ℕ) (what : What) → EndsWell v → (is_leave what || is_cancel_of number what) ≡ true → fine (record { status = Cancelled; body = Nothing }) ≡ true
-        → AreFine (volume_after (try_what v turn client call what)).ended
-    fine-what v turn client call Leave well some cancelled = fine-leave v client well cancelled
-    fine-what v turn client call (Ask (Cancel other)) well some cancelled = fine-cancel v client other well cancelled
-    fine-what v turn client call _ well some cancelled = absurd (let impossible : false ≡ true = some in cc)
-
-    fine-any : (v : Volume) (call : Call) (turn : ℕ) → EndsWell v → (cancels who number call ≡ true → fine (record { status = Cancelled; body = Nothing }) ≡ true) → AreFine (volume_after (try v call turn)).ended
-    fine-any v call turn well cancelled = elim (cases_Bool (cancels who number call)) [
-      | inr other ↦ fine-try v call turn well other
-      | inl is ↦ elim (cases_Bool (has_left v call.client)) [
-        | inl gone ↦ rw gone well.ended
-        | inr here ↦ rw here (fine-what v turn call.client call.number call.what well (and_right (call.client == who) _ is) (cancelled is))
-      ]
-    ]
 
     -- a turn of another call
     well-turn : (v : Volume) (call : Call) (starved : List CallId) → MayTurn v → times call.client call.number v ≡ 0 → EndsWell v → (call.client == who && call.number == number) ≡ false
@@ -273,42 +324,6 @@ module _ (who number : ℕ) (fine : Reply → Bool) where
         let adds = Adds-answered v call outcome may none tried in
         well-settled v call starved adds.may.take_up.may
         (record { bare = bare-answered v call outcome may well.bare other tried; ended = fine-answered v call outcome other (fine-any v call (turn_number v) well cancelled) })
-
-    -- ---- the wait's own turn
-
-    -- a call that isn't made yet
-    well-new : (v : Volume) → times who number v ≡ 0 → EndsWell v
-    well-new v none = record {
-      bare = record {
-        waits = (let weaker = how_many-weaker (λ (e : ℕ × Pending). is_call who number e.1 && not (is_wait e.1.call.what)) (λ e. is_call who number e.1) v.pending (λ e both. and_left (is_call who number e.1) _ both) in omega arith);
-        none = λ turn some. (let weaker = how_many-weaker (λ (e : ℕ × Pending). is_under turn e && is_call who number e.1) (λ e. is_call who number e.1) v.pending (λ e both. and_right (is_under turn e) _ both) in omega arith);
-      };
-      ended = (let weaker = how_many-weaker (λ (end : EndOf). is_end who number end && not (fine end.reply)) (is_end who number) v.ended (λ end both. and_left (is_end who number end) _ both) in omega arith);
-    }
-
-    well-done : (v : Volume) (client other : ℕ) (reply : Reply) → EndsWell v → fine reply ≡ true → EndsWell (with_end v client other reply)
-    well-done v client other reply well so = record {
-      bare = IsBareWait-fewer who number {v = v} {w = with_end v client other reply} (λ turn. omega arith) (λ test. how_many-filter_le test (λ entry. not (is_call client other entry.1)) v.pending) well.bare;
-      ended = fine-more v.ended (record { client = client; number = other; reply = reply }) (λ is. so) well.ended;
-    }
-
-    well-stays : (v : Volume) (call : Call) → MayTurn v → times who number v ≡ 0 → is_wait call.what ≡ true → EndsWell (with_pending v (turn_number v) call [])
-    well-stays v call may none waits = record {
-      bare = record {
-        waits =
-            (let pushed = how_many-append (λ e. is_call who number e.1 && not (is_wait e.1.call.what)) v.pending ((turn_number v, record { call = call; blockers = [] }) ∷ []) in
-            let right : (is_call who number (record { call = call; blockers = [] }) && not (is_wait call.what)) ≡ false = rw waits (never (is_call who number (record { call = call; blockers = [] }))) in
-            let all : how_many (λ e. is_call who number e.1 && not (is_wait e.1.call.what)) (v.pending ++ (turn_number v, record { call = call; blockers = [] }) ∷ []) ≡ how_many (λ e. is_call who number e.1 && not (is_wait e.1.call.what)) v.pending + (0 + 0) = rw right at pushed in
-            let before = (well-new v none).bare.waits in omega arith);
-        none = λ turn some. elim (cases_Bool (turn_number v == turn)) [
-          | inl its ↦ (let same : turn_number v ≡ turn = eqb-true (turn_number v) turn its in let no_grant = may.granted turn (omega arith) in absurd (omega arith))
-          | inr differs ↦ (let pushed = how_many-append (λ e. is_under turn e && is_call who number e.1) v.pending ((turn_number v, record { call = call; blockers = [] }) ∷ []) in
-              let all : how_many (λ e. is_under turn e && is_call who number e.1) (v.pending ++ (turn_number v, record { call = call; blockers = [] }) ∷ []) ≡ how_many (λ e. is_under turn e && is_call who number e.1) v.pending + (0 + 0) = rw differs at pushed in
-              let before = (well-new v none).bare.none turn some in omega arith)
-        ];
-      };
-      ended = (well-new v none).ended;
-    }
 
     well-wait : (v : Volume) (call : Call) (earlier : ℕ) → call.what ≡ WaitFor earlier → MayTurn v → times who number v ≡ 0 → (has_left v call.client ≡ true → fine (record { status = InvalidHandle; body = Nothing }) ≡ true)
         → fine (record { status = InvalidParameter; body = Nothing }) ≡ true → EndsWell (answered call (turn_number v) (try v call (turn_number v)))
@@ -325,17 +340,6 @@ module _ (who number : ℕ) (fine : Reply → Bool) where
             ])
           ]))
         ]
-
-    -- ---- the turns behind it
-
-    abbrev Differ : Run → List HistoryEntry → Type 0
-    Differ r history = (client other : ℕ) → times client other r.volume + how_many (is_entry_of client other) history ≤ 1
-
-    new-call : (r : Run) (entry : HistoryEntry) (more : List HistoryEntry) → Differ r (entry ∷ more) → times entry.call.client entry.call.number r.volume ≡ 0
-    new-call r entry more differ =
-        let few = differ entry.call.client entry.call.number in
-        let self : is_entry_of entry.call.client entry.call.number entry ≡ true = is_entry_of-self entry in
-        let one : times entry.call.client entry.call.number r.volume + (1 + how_many (is_entry_of entry.call.client entry.call.number) more) ≤ 1 = rw self at few in omega arith
 
     well-later : (later : List HistoryEntry) (r s : Run) → MayTurn r.volume → Differ r later → times who number r.volume ≡ 1 → (list_any (λ e. cancels who number e.call) later ≡ true → fine (record { status = Cancelled; body = Nothing }) ≡ true)
         → EndsWell r.volume → steps turn_on r later ≡ Some s → EndsWell s.volume
@@ -468,13 +472,13 @@ module _ (who : ℕ) where
 
 module _ (who number : ℕ) (fine : Reply → Bool) (success : fine (record { status = Success; body = Nothing }) ≡ true) (stalled : fine (record { status = Stalled; body = Nothing }) ≡ true) where
   well-run : (front : List HistoryEntry) (entry : HistoryEntry) (later : List HistoryEntry) (earlier : ℕ) (r s : Run) → entry.call.client ≡ who → entry.call.number ≡ number → entry.call.what ≡ WaitFor earlier
-      → MayTurn r.volume → Differ who number fine success stalled r (front ++ entry ∷ later) → (list_any (λ e. leaves who e.call) front ≡ true → fine (record { status = InvalidHandle; body = Nothing }) ≡ true)
+      → MayTurn r.volume → Differ who number fine r (front ++ entry ∷ later) → (list_any (λ e. leaves who e.call) front ≡ true → fine (record { status = InvalidHandle; body = Nothing }) ≡ true)
       → (has_left r.volume who ≡ true → fine (record { status = InvalidHandle; body = Nothing }) ≡ true) → fine (record { status = InvalidParameter; body = Nothing }) ≡ true
       → (list_any (λ e. cancels who number e.call) later ≡ true → fine (record { status = Cancelled; body = Nothing }) ≡ true) → steps turn_on r (front ++ entry ∷ later) ≡ Some s → EndsWell who number fine s.volume
   well-run [] entry later earlier r s client call is may differ left gone parameter cancelled runs = well-from who number fine success stalled entry later earlier r s client call is may differ gone parameter cancelled runs
   well-run (one ∷ front) entry later earlier r s client call is may differ left gone parameter cancelled runs = elim (option_cases (turn r.volume one.call one.starved)) [
     | inl none ↦ (let impossible : None ≡ Some s = rw none at runs in cc)
-    | inr some ↦ (let new = new-call who number fine success stalled r one (front ++ entry ∷ later) differ in
+    | inr some ↦ (let new = new-call who number fine r one (front ++ entry ∷ later) differ in
         let v : Volume = r.volume in
         let adds = Adds-answered v one.call (try v one.call (turn_number v)) may new (try-keeps v one.call (turn_number v) may.take_up.may.oplocks) in
         let turns : Turns v one.call some.0.volume = turn-turns v one.call one.starved some.0 may new some.1 in

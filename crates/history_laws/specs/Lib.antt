@@ -4,3 +4,4 @@ pub mod Named
 pub mod Races
 pub mod WaitEnds
 pub mod GoesOn
+pub mod Releasing

@@ -1,5 +1,5 @@
--- How a wait for a call ends.
-use Rattle.std.specs.Prelude.{◌==◌, ◌&&◌, ◌||◌, not, ℕ, Bool, true, false, List}
+-- How a wait for a call ends, and when it is over.
+use Rattle.std.specs.Prelude.{◌≡◌, ◌==◌, ◌&&◌, ◌||◌, not, ℕ, Bool, true, false, List}
 use Rattle.std.specs.List.{list_any}
 use Rattle.fsa_types.specs.declared.reply.Body.{Body}
 use Rattle.fsa_types.specs.declared.reply.Body.TheVariants.{Nothing}
@@ -14,6 +14,7 @@ use Rattle.fsa_model.specs.Frame.{is_leave}
 use Rattle.fsa_model.specs.History.{HistoryEntry}
 use Rattle.fsa_model.specs.Once.{is_end}
 use Rattle.fsa_model.specs.Volume.{Volume}
+use Rattle.fsa_model.specs.Waiting.{has_ended}
 
 -- a cancellation of the call of this number
 abbrev pub is_cancel_of : ℕ → What → Bool
@@ -55,3 +56,17 @@ is_wait_end left cancelled reply = wait_may_end left cancelled reply.status && g
 -- some end of the client's call of this number is another
 abbrev pub ends_otherwise : (Reply → Bool) → ℕ → ℕ → Volume → Bool
 ends_otherwise fine client number v = list_any (λ end. is_end client number end && not (fine end.reply)) v.ended
+
+abbrev pub is_success : Status → Bool
+is_success Success = true
+is_success _ = false
+
+-- the client's call of this number has ended with SUCCESS
+abbrev pub has_succeeded : Volume → ℕ → ℕ → Bool
+has_succeeded v client number = list_any (λ end. is_end client number end && is_success end.reply.status) v.ended
+
+-- the client's wait of this number, for its call of the last number, is over: the wait has ended and, if with SUCCESS,
+-- that call has ended too, with whatever status
+pub record IsOver (v : Volume) (client wait awaited : ℕ) : Type 0 where
+  pub ended : has_ended v client wait ≡ true
+  pub awaited_ended : has_succeeded v client wait ≡ true → has_ended v client awaited ≡ true

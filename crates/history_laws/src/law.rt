@@ -4,6 +4,7 @@
 ghost use Rattle.std.specs.Prelude.{◌≡◌, ◌<◌, ◌^◌, ◌++◌, ◌∷◌, ℕ, List, [], Ok, Some, false, true, length};
 ghost use Rattle.fsa_types.specs.declared.request.Call.{Call};
 ghost use Rattle.fsa_types.specs.declared.request.CallId.{CallId};
+ghost use Rattle.fsa_types.specs.declared.request.What.TheVariants.{WaitFor};
 ghost use Rattle.fsa_model.specs.History.{HistoryEntry, Run, run};
 ghost use Rattle.fsa_model.specs.Engine.{CallsDiffer};
 ghost use Rattle.fsa_model.specs.Schedule.{AreNumbered, HasAllCalls, Scheduled, plain};
@@ -12,10 +13,11 @@ ghost use Rattle.fsa_model.specs.Setup.{Script, Setup};
 ghost use Rattle.fsa_model.specs.Text.{shows_no_memory, text};
 ghost use Rattle.fsa_model.specs.Turn.{Turned, try, turn};
 ghost use Rattle.fsa_model.specs.Volume.{Volume};
-ghost use Rattle.fsa_model.specs.Waiting.{is_wait};
+ghost use Rattle.fsa_model.specs.Waiting.{has_ended, is_wait, waits};
 ghost use Rattle.history_laws.specs.Named.{IsReadScript};
-ghost use Rattle.history_laws.specs.Races.{Begun, Whole};
-ghost use Rattle.history_laws.specs.WaitEnds.{cancels_in, ends_otherwise, is_wait_end, leaves_in};
+ghost use Rattle.history_laws.specs.Races.{AllComeAfterWaits, Begun, NoneMadeWaiting, Whole};
+ghost use Rattle.history_laws.specs.Releasing.{OthersReleaseNone};
+ghost use Rattle.history_laws.specs.WaitEnds.{IsOver, cancels_in, ends_otherwise, has_succeeded, is_wait_end, leaves_in};
 ghost use Rattle.fsa_model.specs.Starving.{TriesPlain, starved_of};
 
 /// No try ends a call, its own or another, with the status NoMemory: only a settlement does.
@@ -69,4 +71,27 @@ pub fn calls_made_side_by_side_differ()
 pub fn waits_end_in_few_ways()
     ensures ends { (setup : Setup) (front later : List HistoryEntry) (entry : HistoryEntry) (r : Run) → CallsDiffer (front ++ entry ∷ later) → run setup (front ++ entry ∷ later) ≡ Some r → is_wait entry.call.what ≡ true
         → ends_otherwise (is_wait_end (leaves_in entry.call.client front) (cancels_in entry.call.client entry.call.number later)) entry.call.client entry.call.number r.volume ≡ false }
+{}
+
+/// A schedule makes no call twice, and none while its client waits.
+pub fn scheduled_calls_differ()
+    ensures differ { (script : Script) (history : List HistoryEntry) → Scheduled script history → CallsDiffer history }
+    ensures free { (script : Script) (history : List HistoryEntry) → Scheduled script history → NoneMadeWaiting script history }
+{}
+
+/// A wait has ended with SUCCESS only where the call that it was for has ended too, and where its client doesn't wait,
+/// it has ended. So where no client makes a call while it waits, each call stands after the end of every wait that its
+/// client had made and, where that end is SUCCESS, after the end of the call that the wait was for.
+pub fn calls_come_after_waits()
+    ensures success { (setup : Setup) (front later : List HistoryEntry) (entry : HistoryEntry) (awaited : ℕ) (r : Run) → CallsDiffer (front ++ entry ∷ later) → run setup (front ++ entry ∷ later) ≡ Some r
+        → entry.call.what ≡ WaitFor awaited → has_succeeded r.volume entry.call.client entry.call.number ≡ true → has_ended r.volume entry.call.client awaited ≡ true }
+    ensures over { (setup : Setup) (front later : List HistoryEntry) (entry : HistoryEntry) (awaited : ℕ) (r : Run) → CallsDiffer (front ++ entry ∷ later) → run setup (front ++ entry ∷ later) ≡ Some r
+        → entry.call.what ≡ WaitFor awaited → waits r.volume entry.call.client ≡ false → IsOver r.volume entry.call.client entry.call.number awaited }
+    ensures free { (script : Script) (history : List HistoryEntry) → NoneMadeWaiting script history → CallsDiffer history → AllComeAfterWaits script.setup history }
+{}
+
+/// No break and no lock ends in the turn of a call that is no acknowledgement, unlock, close, leaving or cancellation,
+/// and no held call is taken up in it. That a cancellation ends none either is said by no clause.
+pub fn few_calls_release_held_ones()
+    ensures others { (setup : Setup) (history : List HistoryEntry) → CallsDiffer history → OthersReleaseNone setup history }
 {}

@@ -1,12 +1,14 @@
-//! What is proved of histories and their texts: in which order a script's calls are made, that they all are, and
-//! that a text tells its history, and how a wait ends. It has no product code: the laws are said by functions that do nothing.
+//! What is proved of histories and their texts: in which order a script's calls are made, that they all are, that a
+//! text tells its history, how a wait ends, what stands before a call, and which calls release held ones. It has no
+//! product code: the laws are said by functions that do nothing.
 #![tactic(auto)]
 
 mod law;
 mod order;
 
 pub use law::{
-    calls_made_side_by_side_differ, scripts_are_read, starved_calls_end_without_memory,
+    calls_come_after_waits, calls_made_side_by_side_differ, few_calls_release_held_ones,
+    scheduled_calls_differ, scripts_are_read, starved_calls_end_without_memory,
     text_without_no_memory_is_plain, tries_end_for_no_want_of_memory,
     two_histories_with_one_text_are_one, two_whole_histories_with_one_text_are_one,
     waits_end_in_few_ways,
