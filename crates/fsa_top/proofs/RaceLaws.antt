@@ -1,30 +1,39 @@
 -- What holds throughout a history that makes no call twice, and none while its client waits.
-use Rattle.std.proofs.Common.{◌≡◌, Err, OnErr, Result, List, [], ◌∷◌, ◌++◌, append_assoc, subst, sym, ◌∙◌}
+use Rattle.std.proofs.Common.{◌≡◌, Err, OnErr, Result, Some, List, [], ◌∷◌, ◌++◌, append_assoc, subst, sym, ◌∙◌}
 use Rattle.fsa_model.specs.Engine.{CallsDiffer}
-use Rattle.fsa_model.specs.History.{HistoryEntry}
+use Rattle.fsa_model.specs.History.{HistoryEntry, run}
 use Rattle.fsa_model.specs.Schedule.{Scheduled}
 use Rattle.fsa_model.specs.Setup.{Script, Setup}
 use Rattle.fsa_model.specs.Text.{text}
 use Rattle.fsa_model.proofs.CoherenceRuns.{run-coherent}
-use Rattle.fsa_model.proofs.EngineLaws.{run-ends_once, run-released}
+use Rattle.fsa_model.proofs.EngineLaws.{Scheduled-differ, run-ends_once, run-none_ready, run-released}
 use Rattle.fsa_model.proofs.HeldLaws.{run-blocked}
 use Rattle.fsa_model.proofs.NoticeEnds.{run-watches_report}
+use Rattle.fsa_model.proofs.WaitEnds.{run-goes_on}
 use Rattle.history_laws.specs.Races.{NoneMadeWaiting, Whole}
 use Rattle.history_laws.proofs.Releasing.{others-release_none}
-use Rattle.history_laws.proofs.ScheduledCalls.{Scheduled-differ, Scheduled-free}
+use Rattle.history_laws.proofs.ScheduledCalls.{Scheduled-free}
 use Rattle.history_laws.proofs.WaitedFor.{free-over}
+use Rattle.history_laws.proofs.WaitRuns.{waits-end}
 use Rattle.text_out.specs.declared.write.TextFault.{TextFault}
 use Rattle.wire_io.specs.Sink.{AppendsPart, Written}
 use Rattle.client_run.proofs.RunLaws.{differ-front}
-use Rattle.fsa_top.specs.Runs.{EndsEachCallOnce, HoldsThroughout, KeepsHeldBlocked, TakesUpReleased, WritesWholePart}
+use Rattle.fsa_top.specs.Runs.{EndsEachCallOnce, EndsWaitsInFewWays, HoldsThroughout, KeepsHeldBlocked, LeavesNoneReady, TakesUpReleased, WritesWholePart}
 
-pub ends_each_once : (setup : Setup) (history : List HistoryEntry) → CallsDiffer history → EndsEachCallOnce setup history
-ends_each_once setup history differ r runs = run-ends_once setup history r differ runs
+ends_each_once : (setup : Setup) (history : List HistoryEntry) → CallsDiffer history → EndsEachCallOnce setup history
+ends_each_once setup history differ front later r is runs = run-ends_once setup front r (differ-front front later (subst CallsDiffer is differ)) runs
 
-pub keeps_held_blocked : (setup : Setup) (history : List HistoryEntry) → CallsDiffer history → KeepsHeldBlocked setup history
+leaves_none_ready : (setup : Setup) (history : List HistoryEntry) → CallsDiffer history → LeavesNoneReady setup history
+leaves_none_ready setup history differ front later r is runs = run-none_ready setup front r (differ-front front later (subst CallsDiffer is differ)) runs
+
+ends_waits_in_few_ways : (setup : Setup) (history : List HistoryEntry) → CallsDiffer history → EndsWaitsInFewWays setup history
+ends_waits_in_few_ways setup history differ front later wait r is runs waits =
+    waits-end setup front later wait r (subst CallsDiffer is differ) (subst (λ (entries : List HistoryEntry). run setup entries ≡ Some r) is runs) waits
+
+keeps_held_blocked : (setup : Setup) (history : List HistoryEntry) → CallsDiffer history → KeepsHeldBlocked setup history
 keeps_held_blocked setup history differ front later r is runs = run-blocked setup front r (differ-front front later (subst CallsDiffer is differ)) runs
 
-pub takes_up_released : (setup : Setup) (history : List HistoryEntry) → CallsDiffer history → TakesUpReleased setup history
+takes_up_released : (setup : Setup) (history : List HistoryEntry) → CallsDiffer history → TakesUpReleased setup history
 takes_up_released setup history differ front later entry r is runs =
     run-released setup front entry r (differ-front (front ++ entry ∷ []) later (subst CallsDiffer (is ∙ sym (append_assoc front (entry ∷ []) later)) differ)) runs
 
@@ -33,7 +42,10 @@ pub throughout : (script : Script) (history : List HistoryEntry) → NoneMadeWai
 throughout script history free differ = record {
   makes_no_call_twice = differ;
   calls_come_after_waits = free-over script history free differ;
+  waits_end_in_few_ways = ends_waits_in_few_ways script.setup history differ;
   each_call_ends_once = ends_each_once script.setup history differ;
+  no_call_is_left_ready = leaves_none_ready script.setup history differ;
+  some_client_goes_on = λ front later r is runs. run-goes_on script.setup front r runs;
   a_held_call_has_living_blockers = keeps_held_blocked script.setup history differ;
   released_calls_are_tried_once = takes_up_released script.setup history differ;
   few_calls_release_held_ones = others-release_none script.setup history differ;

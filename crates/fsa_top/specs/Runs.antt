@@ -1,26 +1,43 @@
 -- What a run reads and writes: the bytes of a script, and the text of a history that is scheduled for it,
 -- which no other such history has.
-use Rattle.std.specs.Prelude.{◌≡◌, ℕ, false, List, [], ◌∷◌, ◌++◌, Option, Some, None, Ok, Err, codes, decimal}
+use Rattle.std.specs.Prelude.{◌≡◌, ℕ, true, false, List, [], ◌∷◌, ◌++◌, Option, Some, None, Ok, Err, codes, decimal}
 use Rattle.fsa_model.specs.Coherence.{CachingIsCoherent}
-use Rattle.fsa_model.specs.Engine.{CallsDiffer, EndsOnce, HeldAreBlocked, TakesReleased}
+use Rattle.fsa_model.specs.Engine.{CallsDiffer, EndsOnce, HeldAreBlocked, NoneReady, SomeGoesOn, TakesReleased}
 use Rattle.fsa_model.specs.Fault.{Fault}
 use Rattle.fsa_model.specs.Setup.{Script, Setup}
 use Rattle.fsa_model.specs.History.{HistoryEntry, Run, run}
 use Rattle.fsa_model.specs.Schedule.{HasAllCalls, Scheduled, plain}
 use Rattle.fsa_model.specs.Script.{script_of}
 use Rattle.fsa_model.specs.Text.{shows_no_memory, text}
+use Rattle.fsa_model.specs.Waiting.{is_wait}
 use Rattle.fsa_model.specs.Watched.{WatchesReport}
 use Rattle.history_laws.specs.Releasing.{OthersReleaseNone}
 use Rattle.history_laws.specs.Races.{AllComeAfterWaits, Begun, Whole}
+use Rattle.history_laws.specs.WaitEnds.{cancels_in, ends_otherwise, is_wait_end, leaves_in}
 use Rattle.wire_io.specs.Source.{ReadsWhole}
 use Rattle.wire_io.specs.Sink.{Written, Appends, AppendsFront, AppendsPart}
 use Rattle.fsa_top.specs.declared.limits.Limit.{Limit}
 use Rattle.fsa_top.specs.Limits.{PassesLimit, limit_of}
 use Rattle.fsa_top.specs.Words.{Says, limit_line}
 
--- over the whole history no call ends twice, and each has ended or is pending
+-- after each of its turns no call has ended twice, and each that was made has ended or is pending
 abbrev pub EndsEachCallOnce : Setup → List HistoryEntry → Type 0
-EndsEachCallOnce setup history = (r : Run) → run setup history ≡ Some r → EndsOnce history r
+EndsEachCallOnce setup history = (front later : List HistoryEntry) (r : Run) → history ≡ front ++ later → run setup front ≡ Some r → EndsOnce front r
+
+-- after each of its turns no pending call is ready
+abbrev pub LeavesNoneReady : Setup → List HistoryEntry → Type 0
+LeavesNoneReady setup history = (front later : List HistoryEntry) (r : Run) → history ≡ front ++ later → run setup front ≡ Some r → NoneReady r.volume
+
+-- after each of its turns not all clients wait, unless all have left
+abbrev pub KeepsSomeGoing : Setup → List HistoryEntry → Type 0
+KeepsSomeGoing setup history = (front later : List HistoryEntry) (r : Run) → history ≡ front ++ later → run setup front ≡ Some r → SomeGoesOn r.volume
+
+-- each wait that has ended has SUCCESS, STALLED or INVALID_PARAMETER; INVALID_HANDLE only where its client had left
+-- before, and CANCELLED only where its client has cancelled it or left since
+abbrev pub EndsWaitsInFewWays : Setup → List HistoryEntry → Type 0
+EndsWaitsInFewWays setup history =
+    (front later : List HistoryEntry) (wait : HistoryEntry) (r : Run) → history ≡ front ++ wait ∷ later → run setup history ≡ Some r → is_wait wait.call.what ≡ true
+    → ends_otherwise (is_wait_end (leaves_in wait.call.client front) (cancels_in wait.call.client wait.call.number later)) wait.call.client wait.call.number r.volume ≡ false
 
 -- after each of its turns every held call has a blocker that lives
 abbrev pub KeepsHeldBlocked : Setup → List HistoryEntry → Type 0
@@ -31,22 +48,27 @@ abbrev pub TakesUpReleased : Setup → List HistoryEntry → Type 0
 TakesUpReleased setup history =
     (front later : List HistoryEntry) (entry : HistoryEntry) (r : Run) → history ≡ front ++ entry ∷ later → run setup front ≡ Some r → TakesReleased r.volume entry.call entry.starved
 
--- no call is made twice. Each stands after the end of every wait that its client had made and, where that end is SUCCESS,
--- after the end of the call that was waited for. No call ends twice; a held call has a blocker that lives, a turn takes up
--- just those held calls that its own call let go, and only few kinds of calls let any go. Caching by oplocks is coherent,
--- and each watch reports exactly the matching changes since its last report
+-- what holds throughout a history: no call is made twice. Each stands after the end of every wait that its client had
+-- made and, where that end is SUCCESS, after the end of the call that was waited for; a wait ends in few ways. After each
+-- turn each call that was made has ended once or is pending, and none is ready; not all clients wait, unless all have left;
+-- and a held call has a blocker that lives. A turn takes up just those held calls that its own call released, and none where
+-- that is no acknowledgement, unlock, close, leaving or cancellation. Caching by oplocks is coherent, and each watch
+-- reports exactly the matching changes since its last report
 pub record HoldsThroughout (setup : Setup) (history : List HistoryEntry) : Type 0 where
   pub makes_no_call_twice : CallsDiffer history
   pub calls_come_after_waits : AllComeAfterWaits setup history
+  pub waits_end_in_few_ways : EndsWaitsInFewWays setup history
   pub each_call_ends_once : EndsEachCallOnce setup history
+  pub no_call_is_left_ready : LeavesNoneReady setup history
+  pub some_client_goes_on : KeepsSomeGoing setup history
   pub a_held_call_has_living_blockers : KeepsHeldBlocked setup history
   pub released_calls_are_tried_once : TakesUpReleased setup history
   pub few_calls_release_held_ones : OthersReleaseNone setup history
   pub caching_is_coherent : CachingIsCoherent setup history
   pub watches_report_exactly : WatchesReport setup history
 
--- the one history of a script on one thread: each turn's call was the next one, it has all calls, no other such history
--- has its text, this holds throughout it, and where no line of its text shows NO_MEMORY no call found no memory
+-- a history of a script on one thread: each turn's call was the next one, it has all calls, no other such history has its
+-- text, what holds throughout a history holds, and where no line of its text shows NO_MEMORY no call found no memory
 pub record IsHistory (script : Script) (history : List HistoryEntry) : Type 0 where
   pub scheduled : Scheduled script history
   pub whole : HasAllCalls script history
@@ -58,7 +80,8 @@ pub record IsHistory (script : Script) (history : List HistoryEntry) : Type 0 wh
 abbrev pub bad_line : ℕ → List ℕ
 bad_line line = codes "bad line " ++ decimal line ++ 10 ∷ []
 
--- a part of the text of a scheduled history that has all calls of the script was written; this holds throughout it too
+-- a part of the text of a scheduled history that has all calls of the script was written; of it too what holds throughout
+-- a history holds
 abbrev pub WritesPart : Script → Written → Written → Type 0
 WritesPart script written written_now =
     (history : List HistoryEntry) × Scheduled script history × HasAllCalls script history × HoldsThroughout script.setup history × AppendsPart written written_now (text script history)
@@ -68,7 +91,7 @@ abbrev pub WritesText : Script → Written → Written → Type 0
 WritesText script written written_now = (history : List HistoryEntry) × IsHistory script history × Appends written written_now (text script history)
 
 -- a history of the script whose clients ran side by side: it is whole for the script, no other that is has its text, and
--- this holds throughout it
+-- what holds throughout a history holds
 pub record IsRaced (script : Script) (history : List HistoryEntry) : Type 0 where
   pub whole : Whole script history
   pub only : (other : List HistoryEntry) → Whole script other → text script other ≡ text script history → other ≡ history
@@ -78,7 +101,8 @@ pub record IsRaced (script : Script) (history : List HistoryEntry) : Type 0 wher
 abbrev pub WritesWhole : Script → Written → Written → Type 0
 WritesWhole script written written_now = (history : List HistoryEntry) × IsRaced script history × Appends written written_now (text script history)
 
--- a part of the text of a history that is whole for the script was written; this holds throughout it too
+-- a part of the text of a history that is whole for the script was written; of it too what holds throughout a history
+-- holds
 abbrev pub WritesWholePart : Script → Written → Written → Type 0
 WritesWholePart script written written_now =
     (history : List HistoryEntry) × Whole script history × HoldsThroughout script.setup history × AppendsPart written written_now (text script history)

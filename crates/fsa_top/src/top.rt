@@ -163,8 +163,8 @@ fn race_source<R: Threads + Wait + Clock + Sync, S: Source, K: Sink, G: Gate + S
 /// written; 4 where the sink failed at its last put, and a part of such a summary is written, and not
 /// all of it; 5 where there was no memory, and nothing is written. For all other words:
 ///
-/// - 0: the source was read to its end, its bytes are a script, and the text of the script's one
-///   history is written.
+/// - 0: the source was read to its end, its bytes are a script, and the text of a scheduled history that
+///   has all its calls is written, which no other such history has.
 /// - 1: the words are no list that the program takes.
 /// - 2: the bytes are no script; the line that names the first faulty line is written.
 /// - 3: the source failed at its last take; nothing is written.

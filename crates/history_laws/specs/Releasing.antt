@@ -1,4 +1,4 @@
--- Which calls can release held ones: those that can end a break or a lock.
+-- Of which calls it isn't excluded that they end a break or a lock, and so release held calls.
 use Rattle.std.specs.Prelude.{◌≡◌, Bool, true, false, List, [], ◌∷◌, ◌++◌, Some}
 use Rattle.fsa_types.specs.declared.reply.Blocker.{Blocker}
 use Rattle.fsa_types.specs.declared.request.Call.{Call}
@@ -12,8 +12,8 @@ use Rattle.fsa_model.specs.Turn.{settlement}
 use Rattle.fsa_model.specs.Volume.{Volume}
 use Rattle.fsa_model.specs.Waiting.{blocker_lives}
 
--- an acknowledgement, an unlock, a close, a leaving, which closes its client's handles, and a cancellation, of which no
--- clause says that it ends none
+-- an acknowledgement, an unlock, a close, and a leaving, which closes its client's handles; and a cancellation, of which
+-- no clause says that it ends none
 abbrev pub may_release : What → Bool
 may_release (Ask (Ack handle level)) = true
 may_release (Ask (Unlock handle at count)) = true

@@ -73,15 +73,15 @@ pub fn waits_end_in_few_ways()
         → ends_otherwise (is_wait_end (leaves_in entry.call.client front) (cancels_in entry.call.client entry.call.number later)) entry.call.client entry.call.number r.volume ≡ false }
 {}
 
-/// A schedule makes no call twice, and none while its client waits.
-pub fn scheduled_calls_differ()
-    ensures differ { (script : Script) (history : List HistoryEntry) → Scheduled script history → CallsDiffer history }
+/// A schedule makes no call while its client waits.
+pub fn no_scheduled_call_is_made_waiting()
     ensures free { (script : Script) (history : List HistoryEntry) → Scheduled script history → NoneMadeWaiting script history }
 {}
 
-/// A wait has ended with SUCCESS only where the call that it was for has ended too, and where its client doesn't wait,
-/// it has ended. So where no client makes a call while it waits, each call stands after the end of every wait that its
-/// client had made and, where that end is SUCCESS, after the end of the call that the wait was for.
+/// In a history that makes no call twice a wait has ended with SUCCESS only where the call that it was for has ended too,
+/// and where its client doesn't wait, it has ended. So where no client makes a call while it waits, each call stands after
+/// the end of every wait that its client had made and, where that end is SUCCESS, after the end of the call that the wait
+/// was for.
 pub fn calls_come_after_waits()
     ensures success { (setup : Setup) (front later : List HistoryEntry) (entry : HistoryEntry) (awaited : ℕ) (r : Run) → CallsDiffer (front ++ entry ∷ later) → run setup (front ++ entry ∷ later) ≡ Some r
         → entry.call.what ≡ WaitFor awaited → has_succeeded r.volume entry.call.client entry.call.number ≡ true → has_ended r.volume entry.call.client awaited ≡ true }
@@ -90,8 +90,9 @@ pub fn calls_come_after_waits()
     ensures free { (script : Script) (history : List HistoryEntry) → NoneMadeWaiting script history → CallsDiffer history → AllComeAfterWaits script.setup history }
 {}
 
-/// No break and no lock ends in the turn of a call that is no acknowledgement, unlock, close, leaving or cancellation,
-/// and no held call is taken up in it. That a cancellation ends none either is said by no clause.
+/// In a history that makes no call twice no break and no lock ends in the turn of a call that is no acknowledgement,
+/// unlock, close, leaving or cancellation, and no held call is taken up in it. That a cancellation ends none either is
+/// said by no clause.
 pub fn few_calls_release_held_ones()
     ensures others { (setup : Setup) (history : List HistoryEntry) → CallsDiffer history → OthersReleaseNone setup history }
 {}

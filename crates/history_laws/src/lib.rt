@@ -8,7 +8,7 @@ mod order;
 
 pub use law::{
     calls_come_after_waits, calls_made_side_by_side_differ, few_calls_release_held_ones,
-    scheduled_calls_differ, scripts_are_read, starved_calls_end_without_memory,
+    no_scheduled_call_is_made_waiting, scripts_are_read, starved_calls_end_without_memory,
     text_without_no_memory_is_plain, tries_end_for_no_want_of_memory,
     two_histories_with_one_text_are_one, two_whole_histories_with_one_text_are_one,
     waits_end_in_few_ways,
