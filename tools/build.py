@@ -9,7 +9,8 @@ its proofs: from the second such time on only what changed is proved.
 
 What was built is known by a mark, build/done-NAME, which has the kit's name, and sums of the crate's files, of its library
 and of the same below it. The lock that `rt` takes of crates/fsa is held meanwhile, so that the gate waits for this and this for the
-gate. All that it says goes to standard error.
+gate. All that it says goes to standard error. Its words, if there are any, are a command for an unproved answer, which it
+names; with `--help` alone it prints this and builds nothing.
 """
 import contextlib
 import fcntl
@@ -389,6 +390,9 @@ def main():
 
 
 if __name__ == "__main__":
+    if sys.argv[1:] in (["-h"], ["--help"]):
+        print(__doc__.strip())
+        sys.exit(0)
     try:
         main()
     except Stopped:
