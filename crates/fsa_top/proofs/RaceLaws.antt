@@ -1,7 +1,7 @@
 -- What holds throughout a history that makes no call twice, and none while its client waits.
-use Rattle.std.proofs.Common.{◌≡◌, Err, OnErr, Result, Some, List, [], ◌∷◌, ◌++◌, append_assoc, subst, sym, ◌∙◌}
+use Rattle.std.proofs.Common.{◌≡◌, Err, OnErr, Result, List, [], ◌∷◌, ◌++◌, append_assoc, subst, sym, ◌∙◌}
 use Rattle.fsa_model.specs.Engine.{CallsDiffer}
-use Rattle.fsa_model.specs.History.{HistoryEntry, run}
+use Rattle.fsa_model.specs.History.{HistoryEntry}
 use Rattle.fsa_model.specs.Schedule.{Scheduled}
 use Rattle.fsa_model.specs.Setup.{Script, Setup}
 use Rattle.fsa_model.specs.Text.{text}
@@ -27,8 +27,8 @@ leaves_none_ready : (setup : Setup) (history : List HistoryEntry) → CallsDiffe
 leaves_none_ready setup history differ front later r is runs = run-none_ready setup front r (differ-front front later (subst CallsDiffer is differ)) runs
 
 ends_waits_in_few_ways : (setup : Setup) (history : List HistoryEntry) → CallsDiffer history → EndsWaitsInFewWays setup history
-ends_waits_in_few_ways setup history differ front later wait r is runs waits =
-    waits-end setup front later wait r (subst CallsDiffer is differ) (subst (λ (entries : List HistoryEntry). run setup entries ≡ Some r) is runs) waits
+ends_waits_in_few_ways setup history differ front between later wait r is runs waits =
+    waits-end setup front between wait r (differ-front (front ++ wait ∷ between) later (subst CallsDiffer is differ)) runs waits
 
 keeps_held_blocked : (setup : Setup) (history : List HistoryEntry) → CallsDiffer history → KeepsHeldBlocked setup history
 keeps_held_blocked setup history differ front later r is runs = run-blocked setup front r (differ-front front later (subst CallsDiffer is differ)) runs

@@ -20,7 +20,7 @@ use Rattle.fsa_top.specs.declared.limits.Limit.{Limit}
 use Rattle.fsa_top.specs.Limits.{PassesLimit, limit_of}
 use Rattle.fsa_top.specs.Words.{Says, limit_line}
 
--- after each of its turns no call has ended twice, and each that was made has ended or is pending
+-- after each of its turns each call has ended or is pending as often as it was made
 abbrev pub EndsEachCallOnce : Setup → List HistoryEntry → Type 0
 EndsEachCallOnce setup history = (front later : List HistoryEntry) (r : Run) → history ≡ front ++ later → run setup front ≡ Some r → EndsOnce front r
 
@@ -28,16 +28,16 @@ EndsEachCallOnce setup history = (front later : List HistoryEntry) (r : Run) →
 abbrev pub LeavesNoneReady : Setup → List HistoryEntry → Type 0
 LeavesNoneReady setup history = (front later : List HistoryEntry) (r : Run) → history ≡ front ++ later → run setup front ≡ Some r → NoneReady r.volume
 
--- after each of its turns not all clients wait, unless all have left
+-- after each of its turns some client that hasn't left doesn't wait, or all have left
 abbrev pub KeepsSomeGoing : Setup → List HistoryEntry → Type 0
 KeepsSomeGoing setup history = (front later : List HistoryEntry) (r : Run) → history ≡ front ++ later → run setup front ≡ Some r → SomeGoesOn r.volume
 
--- each wait that has ended has SUCCESS, STALLED or INVALID_PARAMETER; INVALID_HANDLE only where its client had left
--- before, and CANCELLED only where its client has cancelled it or left since
+-- after each of its turns a wait that has ended has SUCCESS, STALLED or INVALID_PARAMETER; INVALID_HANDLE only where its
+-- client had left before it, and CANCELLED only where its client has cancelled it, or left, in the turns since; and no body
 abbrev pub EndsWaitsInFewWays : Setup → List HistoryEntry → Type 0
 EndsWaitsInFewWays setup history =
-    (front later : List HistoryEntry) (wait : HistoryEntry) (r : Run) → history ≡ front ++ wait ∷ later → run setup history ≡ Some r → is_wait wait.call.what ≡ true
-    → ends_otherwise (is_wait_end (leaves_in wait.call.client front) (cancels_in wait.call.client wait.call.number later)) wait.call.client wait.call.number r.volume ≡ false
+    (front between later : List HistoryEntry) (wait : HistoryEntry) (r : Run) → history ≡ (front ++ wait ∷ between) ++ later → run setup (front ++ wait ∷ between) ≡ Some r → is_wait wait.call.what ≡ true
+    → ends_otherwise (is_wait_end (leaves_in wait.call.client front) (cancels_in wait.call.client wait.call.number between)) wait.call.client wait.call.number r.volume ≡ false
 
 -- after each of its turns every held call has a blocker that lives
 abbrev pub KeepsHeldBlocked : Setup → List HistoryEntry → Type 0
@@ -50,10 +50,10 @@ TakesUpReleased setup history =
 
 -- what holds throughout a history: no call is made twice. Each stands after the end of every wait that its client had
 -- made and, where that end is SUCCESS, after the end of the call that was waited for; a wait ends in few ways. After each
--- turn each call that was made has ended once or is pending, and none is ready; not all clients wait, unless all have left;
--- and a held call has a blocker that lives. A turn takes up just those held calls that its own call released, and none where
--- that is no acknowledgement, unlock, close, leaving or cancellation. Caching by oplocks is coherent, and each watch
--- reports exactly the matching changes since its last report
+-- turn each call that was made has ended once or is pending, and none is ready; some client that hasn't left doesn't wait,
+-- or all have left; and a held call has a blocker that lives. A turn takes up just those held calls that its own call
+-- released, and none where that is no acknowledgement, unlock, close, leaving or cancellation. Caching by oplocks is
+-- coherent, and each watch reports exactly the matching changes since its last report
 pub record HoldsThroughout (setup : Setup) (history : List HistoryEntry) : Type 0 where
   pub makes_no_call_twice : CallsDiffer history
   pub calls_come_after_waits : AllComeAfterWaits setup history
