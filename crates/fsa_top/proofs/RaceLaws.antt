@@ -7,18 +7,21 @@ use Rattle.fsa_model.specs.Setup.{Script, Setup}
 use Rattle.fsa_model.specs.Text.{text}
 use Rattle.fsa_model.proofs.CoherenceRuns.{run-coherent}
 use Rattle.fsa_model.proofs.EngineLaws.{Scheduled-differ, run-ends_once, run-none_ready, run-released}
-use Rattle.fsa_model.proofs.HeldLaws.{run-blocked}
+use Rattle.fsa_model.proofs.HeldLaws.{run-blocked, run-holds, run-settling_holds}
 use Rattle.fsa_model.proofs.NoticeEnds.{run-watches_report}
 use Rattle.fsa_model.proofs.WaitEnds.{run-goes_on}
 use Rattle.history_laws.specs.Races.{NoneMadeWaiting, Whole}
-use Rattle.history_laws.proofs.Releasing.{others-release_none}
+use Rattle.history_laws.proofs.HeldStay.{held-stay}
+use Rattle.history_laws.proofs.HoldersRelease.{holders-release, others-release_none}
 use Rattle.history_laws.proofs.ScheduledCalls.{Scheduled-free}
 use Rattle.history_laws.proofs.WaitedFor.{free-over}
+use Rattle.history_laws.proofs.Stalling.{waits-stall}
+use Rattle.history_laws.proofs.TurnByTurn.{differ-before}
 use Rattle.history_laws.proofs.WaitRuns.{waits-end}
 use Rattle.text_out.specs.declared.write.TextFault.{TextFault}
 use Rattle.wire_io.specs.Sink.{AppendsPart, Written}
 use Rattle.client_run.proofs.RunLaws.{differ-front}
-use Rattle.fsa_top.specs.Runs.{EndsEachCallOnce, EndsWaitsInFewWays, HoldsThroughout, KeepsHeldBlocked, LeavesNoneReady, TakesUpReleased, WritesWholePart}
+use Rattle.fsa_top.specs.Runs.{EndsEachCallOnce, EndsWaitsInFewWays, HoldsByLivingOnes, HoldsThroughout, KeepsHeldBlocked, LeavesNoneReady, TakesUpReleased, WritesWholePart}
 
 ends_each_once : (setup : Setup) (history : List HistoryEntry) → CallsDiffer history → EndsEachCallOnce setup history
 ends_each_once setup history differ front later r is runs = run-ends_once setup front r (differ-front front later (subst CallsDiffer is differ)) runs
@@ -33,9 +36,13 @@ ends_waits_in_few_ways setup history differ front between later wait r is runs w
 keeps_held_blocked : (setup : Setup) (history : List HistoryEntry) → CallsDiffer history → KeepsHeldBlocked setup history
 keeps_held_blocked setup history differ front later r is runs = run-blocked setup front r (differ-front front later (subst CallsDiffer is differ)) runs
 
+holds_by_living_ones : (setup : Setup) (history : List HistoryEntry) → CallsDiffer history → HoldsByLivingOnes setup history
+holds_by_living_ones setup history differ front later entry r steps is runs =
+    let differ_to : CallsDiffer (front ++ entry ∷ []) = differ-before history front later entry is differ in
+    (run-holds setup front r (differ-front front (entry ∷ []) differ_to) runs, run-settling_holds setup front entry r steps differ_to runs)
+
 takes_up_released : (setup : Setup) (history : List HistoryEntry) → CallsDiffer history → TakesUpReleased setup history
-takes_up_released setup history differ front later entry r is runs =
-    run-released setup front entry r (differ-front (front ++ entry ∷ []) later (subst CallsDiffer (is ∙ sym (append_assoc front (entry ∷ []) later)) differ)) runs
+takes_up_released setup history differ front later entry r is runs = run-released setup front entry r (differ-before history front later entry is differ) runs
 
 -- all that holds
 pub throughout : (script : Script) (history : List HistoryEntry) → NoneMadeWaiting script history → CallsDiffer history → HoldsThroughout script.setup history
@@ -43,12 +50,16 @@ throughout script history free differ = record {
   makes_no_call_twice = differ;
   calls_come_after_waits = free-over script history free differ;
   waits_end_in_few_ways = ends_waits_in_few_ways script.setup history differ;
+  waits_stall_exactly = waits-stall script.setup history differ;
   each_call_ends_once = ends_each_once script.setup history differ;
   no_call_is_left_ready = leaves_none_ready script.setup history differ;
   some_client_goes_on = λ front later r is runs. run-goes_on script.setup front r runs;
-  a_held_call_has_living_blockers = keeps_held_blocked script.setup history differ;
+  calls_are_held_by_living_blockers = holds_by_living_ones script.setup history differ;
+  held_calls_stay = held-stay script.setup history differ;
+  a_held_call_has_a_living_blocker = keeps_held_blocked script.setup history differ;
   released_calls_are_tried_once = takes_up_released script.setup history differ;
-  few_calls_release_held_ones = others-release_none script.setup history differ;
+  only_holders_release_held_calls = holders-release script.setup history differ;
+  other_calls_release_none = others-release_none script.setup history differ;
   caching_is_coherent = run-coherent script.setup history;
   watches_report_exactly = run-watches_report script.setup history;
 }

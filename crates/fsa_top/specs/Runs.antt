@@ -2,18 +2,20 @@
 -- which no other such history has.
 use Rattle.std.specs.Prelude.{◌≡◌, ℕ, true, false, List, [], ◌∷◌, ◌++◌, Option, Some, None, Ok, Err, codes, decimal}
 use Rattle.fsa_model.specs.Coherence.{CachingIsCoherent}
-use Rattle.fsa_model.specs.Engine.{CallsDiffer, EndsOnce, HeldAreBlocked, NoneReady, SomeGoesOn, TakesReleased}
+use Rattle.fsa_model.specs.Engine.{CallsDiffer, EndsOnce, HeldAreBlocked, HoldsByLiving, NoneReady, SomeGoesOn, TakesReleased}
 use Rattle.fsa_model.specs.Fault.{Fault}
 use Rattle.fsa_model.specs.Setup.{Script, Setup}
 use Rattle.fsa_model.specs.History.{HistoryEntry, Run, run}
+use Rattle.fsa_model.specs.Reports.{settling_after}
 use Rattle.fsa_model.specs.Schedule.{HasAllCalls, Scheduled, plain}
 use Rattle.fsa_model.specs.Script.{script_of}
 use Rattle.fsa_model.specs.Text.{shows_no_memory, text}
 use Rattle.fsa_model.specs.Waiting.{is_wait}
 use Rattle.fsa_model.specs.Watched.{WatchesReport}
-use Rattle.history_laws.specs.Releasing.{OthersReleaseNone}
+use Rattle.history_laws.specs.Holding.{HeldStay}
+use Rattle.history_laws.specs.Releasing.{HoldersRelease, OthersReleaseNone}
 use Rattle.history_laws.specs.Races.{AllComeAfterWaits, Begun, Whole}
-use Rattle.history_laws.specs.WaitEnds.{cancels_in, ends_otherwise, is_wait_end, leaves_in}
+use Rattle.history_laws.specs.WaitEnds.{StallsExactly, cancels_in, ends_otherwise, is_wait_end, leaves_in}
 use Rattle.wire_io.specs.Source.{ReadsWhole}
 use Rattle.wire_io.specs.Sink.{Written, Appends, AppendsFront, AppendsPart}
 use Rattle.fsa_top.specs.declared.limits.Limit.{Limit}
@@ -43,27 +45,40 @@ EndsWaitsInFewWays setup history =
 abbrev pub KeepsHeldBlocked : Setup → List HistoryEntry → Type 0
 KeepsHeldBlocked setup history = (front later : List HistoryEntry) (r : Run) → history ≡ front ++ later → run setup front ≡ Some r → HeldAreBlocked r.volume
 
+-- whatever call is tried at the beginning of one of its turns, or at any step of that turn's settlement: where it is held, it
+-- is by some blockers, and all of them live in what the try leaves
+abbrev pub HoldsByLivingOnes : Setup → List HistoryEntry → Type 0
+HoldsByLivingOnes setup history =
+    (front later : List HistoryEntry) (entry : HistoryEntry) (r : Run) (steps : ℕ) → history ≡ front ++ entry ∷ later → run setup front ≡ Some r
+    → HoldsByLiving r.volume × HoldsByLiving (settling_after r.volume entry.call entry.starved steps).volume
+
 -- in each of its turns just the held calls are taken up whose last blocker ended in the try of the turn's own call
 abbrev pub TakesUpReleased : Setup → List HistoryEntry → Type 0
 TakesUpReleased setup history =
     (front later : List HistoryEntry) (entry : HistoryEntry) (r : Run) → history ≡ front ++ entry ∷ later → run setup front ≡ Some r → TakesReleased r.volume entry.call entry.starved
 
 -- what holds throughout a history: no call is made twice. Each stands after the end of every wait that its client had
--- made and, where that end is SUCCESS, after the end of the call that was waited for; a wait ends in few ways. After each
--- turn each call that was made has ended once or is pending, and none is ready; some client that hasn't left doesn't wait,
--- or all have left; and a held call has a blocker that lives. A turn takes up just those held calls that its own call
--- released, and none where that is no acknowledgement, unlock, close, leaving or cancellation. Caching by oplocks is
--- coherent, and each watch reports exactly the matching changes since its last report
+-- made and, where that end is SUCCESS, after the end of the call that was waited for; a wait ends in few ways, and STALLED
+-- exactly where every client that hasn't left waits. After each turn each call that was made has ended once or is pending,
+-- and none is ready; some client that hasn't left doesn't wait, or all have left. A call is held by blockers that all live;
+-- it stays pending until it is taken up, unless its client calls it off, and after each turn one of its blockers lives. A
+-- turn takes up just those held calls that its own call released. A break or a lock ends exactly by its holder's own call,
+-- an acknowledgement, an unlock, a close or a leaving, and in the turn of any other call none ends and no held call is taken
+-- up. Caching by oplocks is coherent, and each watch reports exactly the matching changes since its last report
 pub record HoldsThroughout (setup : Setup) (history : List HistoryEntry) : Type 0 where
   pub makes_no_call_twice : CallsDiffer history
   pub calls_come_after_waits : AllComeAfterWaits setup history
   pub waits_end_in_few_ways : EndsWaitsInFewWays setup history
+  pub waits_stall_exactly : StallsExactly setup history
   pub each_call_ends_once : EndsEachCallOnce setup history
   pub no_call_is_left_ready : LeavesNoneReady setup history
   pub some_client_goes_on : KeepsSomeGoing setup history
-  pub a_held_call_has_living_blockers : KeepsHeldBlocked setup history
+  pub calls_are_held_by_living_blockers : HoldsByLivingOnes setup history
+  pub held_calls_stay : HeldStay setup history
+  pub a_held_call_has_a_living_blocker : KeepsHeldBlocked setup history
   pub released_calls_are_tried_once : TakesUpReleased setup history
-  pub few_calls_release_held_ones : OthersReleaseNone setup history
+  pub only_holders_release_held_calls : HoldersRelease setup history
+  pub other_calls_release_none : OthersReleaseNone setup history
   pub caching_is_coherent : CachingIsCoherent setup history
   pub watches_report_exactly : WatchesReport setup history
 

@@ -142,7 +142,7 @@ entry-at : (history : List HistoryEntry) (entry : HistoryEntry) (rest : List His
 entry-at [] entry rest = refl
 entry-at (first ∷ history) entry rest = entry-at history entry rest
 
-entries-before : (history rest : List HistoryEntry) → take (length history) (history ++ rest) ≡ history
+pub entries-before : (history rest : List HistoryEntry) → take (length history) (history ++ rest) ≡ history
 entries-before [] rest = refl
 entries-before (first ∷ history) rest = ap (λ (entries : List HistoryEntry). first ∷ entries) (entries-before history rest)
 

@@ -1,5 +1,5 @@
 -- A schedule makes no call while its client waits.
-use Rattle.std.proofs.Common.{◌≡◌, ◌+◌, Bool, true, false, not, List, [], ◌∷◌, ◌++◌, length, take, refl, ap, subst, ◌∙◌, arith, Some}
+use Rattle.std.proofs.Common.{◌≡◌, ◌+◌, Bool, true, false, not, List, ◌∷◌, ◌++◌, length, take, refl, ap, subst, ◌∙◌, arith, Some}
 use Rattle.std.specs.Prelude.{◌&&◌, slice_get}
 use Rattle.fsa_types.specs.declared.request.Call.{Call}
 use Rattle.fsa_model.specs.History.{HistoryEntry, Run, run}
@@ -9,11 +9,8 @@ use Rattle.fsa_model.specs.Waiting.{waits}
 use Rattle.fsa_model.proofs.CountLaws.{and_right}
 use Rattle.fsa_model.proofs.WaitLaws.{find-passes}
 use Rattle.history_laws.specs.Races.{NoneMadeWaiting}
+use Rattle.history_laws.proofs.CallsOfRuns.{entries-before}
 use Rattle.history_laws.proofs.NextLaws.{slice_get-behind}
-
-front_of : (front back : List HistoryEntry) → take (length front) (front ++ back) ≡ front
-front_of [] back = refl
-front_of (entry ∷ front) back = ap (λ (entries : List HistoryEntry). entry ∷ entries) (front_of front back)
 
 isnt : (b : Bool) → not b ≡ true → b ≡ false
 isnt true is = absurd (let impossible : false ≡ true = is in cc)
@@ -32,7 +29,7 @@ next-passes script history front back entry r scheduled is runs =
 
     here : next script front ≡ Some entry.call
     here = subst (λ (entries : List HistoryEntry). next script entries ≡ Some entry.call)
-        (ap (λ (entries : List HistoryEntry). take (length front) entries) is ∙ front_of front (entry ∷ back)) (scheduled.in_order (length front) entry at)
+        (ap (λ (entries : List HistoryEntry). take (length front) entries) is ∙ entries-before front (entry ∷ back)) (scheduled.in_order (length front) entry at)
 
 pub Scheduled-free : (script : Script) (history : List HistoryEntry) → Scheduled script history → NoneMadeWaiting script history
 Scheduled-free script history scheduled front later entry is r runs =

@@ -1,36 +1,30 @@
--- What leaves a call that has no oplock as it is: one law for each way in which a definition goes on.
+-- What leaves a call that has no oplock as it is: edits of other things, breaks, and the ends of other calls.
 use Rattle.std.proofs.Common.{◌≡◌, ℕ, ◌+◌, ◌≤◌, Bool, true, false, not, List, [], ◌∷◌, ◌++◌, append-nil, refl, ap, ◌∙◌, arith, inl, inr, Option, Some, None}
 use Rattle.std.specs.List.{filter, find}
-use Rattle.std.specs.Option.{option_map_or}
-use Rattle.std.specs.Prelude.{◌==◌, ◌&&◌, if◌then◌else◌}
+use Rattle.std.specs.Prelude.{◌==◌, ◌&&◌}
 use Rattle.std.proofs.lemmas.Bool.{cases_Bool, eq-eqb}
 use Rattle.std.proofs.lemmas.List.Elements.{filter-append}
 use Rattle.fsa_types.specs.Oplocks.{Effect, Stays, Ends, Begins, Lowers, effect}
 use Rattle.fsa_types.specs.Rows.{row_of}
 use Rattle.fsa_types.specs.declared.oplock.Class.{Class}
 use Rattle.fsa_types.specs.declared.oplock.HandleSet.{HandleSet}
-use Rattle.fsa_types.specs.declared.reply.Blocker.{Blocker}
 use Rattle.fsa_types.specs.declared.reply.EndOf.{EndOf}
-use Rattle.fsa_types.specs.declared.reply.Interim.{Interim}
 use Rattle.fsa_types.specs.declared.reply.Reply.{Reply}
 use Rattle.fsa_types.specs.declared.request.Level.{Level}
 use Rattle.fsa_types.specs.declared.request.Level.TheVariants.{Nil}
 use Rattle.fsa_model.specs.Breaks.{with_told, with_break_begun, with_effect, with_breaks, is_broken_before, is_chosen, chosen}
-use Rattle.fsa_model.specs.Changes.{with_change_noted}
 use Rattle.fsa_model.specs.Edits.{is_call, with_end, without_oplock}
 use Rattle.fsa_model.specs.Lookups.{has_left}
 use Rattle.fsa_model.specs.Once.{how_many, is_end}
-use Rattle.fsa_model.specs.Outcome.{Outcome, Done, Stay, Hold}
 use Rattle.fsa_model.specs.Settling.{is_under}
-use Rattle.fsa_model.specs.Turn.{volume_after}
 use Rattle.fsa_model.specs.Volume.{Oplock, Pending, Volume}
 use Rattle.fsa_model.specs.Waiting.{is_granted_under, is_wait}
-use Rattle.fsa_model.specs.Waits.{waits_for, held_by}
 use Rattle.fsa_model.proofs.BreakLaws.{broken, with_breaks-rest}
 use Rattle.fsa_model.proofs.CountLaws.{how_many-filter_le, how_many-in_order, how_many-some}
 use Rattle.fsa_model.proofs.RowLaws.{find-any, option_cases}
 use Rattle.fsa_model.proofs.TryLaws.{Keeps, Keeps-breaks, Keeps-effect}
 use Rattle.fsa_model.proofs.WaitLaws.{find-passes}
+use Rattle.history_laws.proofs.ByBreaks.{ByBreaks, Still, Locked, Broken, Next}
 
 module _ (who number : ℕ) where
   -- the client's call of this number is a wait, where it is pending, and no oplock is granted to it
@@ -70,21 +64,6 @@ module _ (who number : ℕ) where
     ended = λ un. second.ended (first.kept un) ∙ first.ended un;
     left = second.left ∙ first.left;
   }
-
-  pub Spares-if : {v : Volume} (test : Bool) (one other : Volume) → Spares v one → Spares v other → Spares v (if test then one else other)
-  Spares-if true one other holds fails = holds
-  Spares-if false one other holds fails = fails
-
-  pub Spares-option : {X : Type 0} {v : Volume} (found : Option X) (some : X → Volume) (none : Volume) → ((x : X) → Spares v (some x)) → Spares v none → Spares v (option_map_or some found none)
-  Spares-option None some none with_some with_none = with_none
-  Spares-option (Some x) some none with_some with_none = with_some x
-
-  -- a change noted
-  pub Spares-noted : (v : Volume) (link action bits : ℕ) (stream : Option ℕ) → Spares v (with_change_noted v link action bits stream)
-  Spares-noted v link action bits stream = elim (option_cases (row_of v.links link)) [
-    | inl none ↦ rw none (Spares-same v)
-    | inr some ↦ rw some.1 (Spares-still refl refl refl refl)
-  ]
 
   -- another call ends
   pub filter-other_end : (ended : List EndOf) (client other : ℕ) (reply : Reply) → (client == who && other == number) ≡ false
@@ -149,7 +128,7 @@ module _ (who number : ℕ) where
       rest : (test : Oplock → Bool) → how_many test oplocks ≤ how_many test v.oplocks
       rest test = (let few = among test in omega arith)
 
-  pub Spares-breaks : (v : Volume) (on : HandleSet) (kind : Class) (acting : Option ℕ) (key : ℕ) → Spares v (with_breaks v on kind acting key)
+  Spares-breaks : (v : Volume) (on : HandleSet) (kind : Class) (acting : Option ℕ) (key : ℕ) → Spares v (with_breaks v on kind acting key)
   Spares-breaks v on kind acting key =
       let keeps : Keeps v (with_breaks v on kind acting key) = Keeps-breaks v on kind acting key in
       record {
@@ -160,31 +139,10 @@ module _ (who number : ℕ) where
         left = ap (λ (w : Volume). has_left w who) (with_breaks-rest v on kind acting key);
       }
 
-  -- ---- outcomes
+  -- ---- what changes oplocks, pending calls and ends by breaks alone
 
-  -- a try that comes to this spares such a call
-  pub record TriesSpare (v : Volume) (outcome : Outcome) : Type 0 where
-    pub so : Spares v (volume_after outcome)
-
-  pub spare-done : {v w : Volume} {reply : Reply} → Spares v w → TriesSpare v (Done w reply)
-  spare-done spares = record { so = spares }
-
-  pub spare-held : {v : Volume} {blockers : List Blocker} {interim : Interim} → TriesSpare v (Hold v blockers interim)
-  spare-held {v} = record { so = Spares-same v }
-
-  pub spare-stays : {v w : Volume} {interim : Interim} → Spares v w → TriesSpare v (Stay w interim)
-  spare-stays spares = record { so = spares }
-
-  pub spare-if : {v : Volume} (test : Bool) (one other : Outcome) → TriesSpare v one → TriesSpare v other → TriesSpare v (if test then one else other)
-  spare-if true one other holds fails = holds
-  spare-if false one other holds fails = fails
-
-  pub spare-option : {X : Type 0} {v : Volume} (found : Option X) (some : X → Outcome) (none : Outcome) → ((x : X) → TriesSpare v (some x)) → TriesSpare v none → TriesSpare v (option_map_or some found none)
-  spare-option None some none with_some with_none = with_none
-  spare-option (Some x) some none with_some with_none = with_some x
-
-  -- held by breaks, or on after them
-  pub spare-breaks : (v : Volume) (on : HandleSet) (kind : Class) (acting : Option ℕ) (key : ℕ) (outcome : Outcome) → TriesSpare (with_breaks v on kind acting key) outcome
-      → TriesSpare v (if waits_for v on kind acting key then held_by v on kind acting key else outcome)
-  spare-breaks v on kind acting key outcome goes =
-      spare-if (waits_for v on kind acting key) (held_by v on kind acting key) outcome (record { so = Spares-breaks v on kind acting key }) (record { so = Spares-next (Spares-breaks v on kind acting key) goes.so })
+  pub Spares-by : {v w : Volume} → ByBreaks v w → Spares v w
+  Spares-by (Still v w oplocks locks pending ended left last_break last_lock) = Spares-still oplocks pending ended left
+  Spares-by (Locked v handle at count exclusive) = Spares-still refl refl refl refl
+  Spares-by (Broken v on kind acting key) = Spares-breaks v on kind acting key
+  Spares-by (Next u v w first second) = Spares-next (Spares-by first) (Spares-by second)

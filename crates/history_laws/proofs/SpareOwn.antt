@@ -1,9 +1,9 @@
--- Closes, leavings, unlocks, cancellations, watches, waits, oplocks and the clock leave a bare wait as it is, but for
--- what its own client does to it.
-use Rattle.std.proofs.Common.{◌≡◌, ℕ, ◌+◌, ◌≤◌, Bool, true, false, not, List, [], ◌∷◌, length, refl, sym, ◌∙◌, arith, inl, inr, Option, Some, None}
+-- Every call leaves a bare wait as it is, but for what its own client does to it: closes, leavings, cancellations,
+-- oplocks' requests and acknowledgements, and then all calls.
+use Rattle.std.proofs.Common.{◌≡◌, ℕ, ◌+◌, ◌≤◌, Bool, true, false, not, List, [], ◌∷◌, refl, sym, ◌∙◌, arith, inl, inr, Option, Some, None}
 use Rattle.std.specs.List.{filter, fold}
 use Rattle.std.specs.Option.{option_map_or}
-use Rattle.std.specs.Prelude.{◌==◌, ◌&&◌, ◌||◌, if◌then◌else◌, is_some, nat_lt, slice_index_or, slice_set}
+use Rattle.std.specs.Prelude.{◌==◌, ◌&&◌, ◌||◌, if◌then◌else◌, nat_lt, slice_index_or, slice_set}
 use Rattle.std.proofs.lemmas.Bool.{cases_Bool, eq-eqb, eqb-true}
 use Rattle.std.proofs.lemmas.List.{get_or-set_other}
 use Rattle.fsa_types.specs.Rows.{row_of}
@@ -12,42 +12,31 @@ use Rattle.fsa_types.specs.declared.reply.Interim.TheVariants.{Granted}
 use Rattle.fsa_types.specs.declared.reply.Reply.{Reply}
 use Rattle.fsa_types.specs.declared.request.Call.{Call}
 use Rattle.fsa_types.specs.declared.request.Level.{Level}
-use Rattle.fsa_types.specs.declared.request.Request.{Request}
 use Rattle.fsa_types.specs.declared.request.Request.TheVariants as request
 use Rattle.fsa_types.specs.declared.request.What.{What}
 use Rattle.fsa_types.specs.declared.request.What.TheVariants.{Ask, Tick, WaitFor, Leave}
 use Rattle.fsa_types.specs.declared.status.Status.{Status}
-use Rattle.fsa_types.specs.declared.status.Status.TheVariants.{Cancelled, InvalidHandle, OplockSwitchedToNewHandle}
-use Rattle.fsa_model.specs.Close.{close_at, closed_status, handles_of_client, is_call_on, is_left_behind, is_link_of_parent, is_link_over, is_stream_over, name_bit, named_stream, names, pending_by_turn, try_close, try_leave, with_all_closed, with_calls_ended, with_client_gone, with_closed, with_link_swept, with_mark_on_close, with_stream_swept, with_swept}
-use Rattle.fsa_model.specs.Changes.{with_change_noted}
-use Rattle.fsa_model.specs.Edits.{is_call, with_end, with_link_marked, with_stream_marked, with_ticks, with_watch, without_handle, without_lock, without_oplock, without_stream}
+use Rattle.fsa_types.specs.declared.status.Status.TheVariants.{Cancelled, InvalidHandle, InvalidParameter, OplockSwitchedToNewHandle}
+use Rattle.fsa_model.specs.Close.{close_at, closed_status, handles_of_client, is_call_on, is_left_behind, names, pending_by_turn, try_close, try_leave, with_all_closed, with_calls_ended, with_client_gone, with_closed, with_mark_on_close}
+use Rattle.fsa_model.specs.Edits.{is_call, with_end, without_handle, without_lock, without_oplock}
 use Rattle.fsa_model.specs.Grant.{ack_at, ack_keeping, oplock_at, oplock_by, oplock_on, switched, try_ack, try_oplock, with_call_ended, with_granted, with_level_kept, with_switched}
 use Rattle.fsa_model.specs.Locking.{try_unlock, unlock_at, unlock_by, unlock_range}
 use Rattle.fsa_model.specs.Lookups.{has_left, number_of}
 use Rattle.fsa_model.specs.Once.{how_many, is_end}
 use Rattle.fsa_model.specs.Outcome.{Outcome, Done, Stay, refused}
 use Rattle.fsa_model.specs.Frame.{is_leave}
-use Rattle.fsa_model.specs.Try.{try, try_request, try_what}
+use Rattle.fsa_model.specs.Try.{try, try_what}
 use Rattle.fsa_model.specs.Turn.{volume_after}
 use Rattle.fsa_model.specs.Volume.{Handle, Oplock, Pending, Volume}
-use Rattle.fsa_model.specs.Waiting.{is_granted_under, is_wait, try_cancel, try_wait, with_oplock_given_up}
-use Rattle.fsa_model.specs.Watching.{notify_at, try_notify, with_watch_begun, with_watch_seen, watch_of}
+use Rattle.fsa_model.specs.Waiting.{is_granted_under, is_wait, try_cancel, with_oplock_given_up}
 use Rattle.fsa_model.proofs.CountLaws.{and_left, and_right, how_many-filter, how_many-filter_le, how_many-in_order, how_many-weaker}
 use Rattle.fsa_model.proofs.RowLaws.{option_cases}
-use Rattle.fsa_model.proofs.TryObeys.{has_own_laws}
-use Rattle.history_laws.proofs.SpareLaws.{IsBareWait, IsBareWait-fewer, Spares, Spares-end, Spares-if, Spares-next, Spares-noted, Spares-option, Spares-same, Spares-still, TriesSpare, filter-other_end, other_under, spare-done, spare-if, spare-option, spare-stays}
+use Rattle.history_laws.proofs.ByBreaks.{TriesByBreaks}
+use Rattle.history_laws.proofs.SpareLaws.{IsBareWait, IsBareWait-fewer, Spares, Spares-by, Spares-end, Spares-next, Spares-same, Spares-still, filter-other_end, other_under}
 use Rattle.history_laws.specs.WaitEnds.{cancels, is_cancel_of}
-use Rattle.history_laws.proofs.SpareTries.{request-spares, without}
-
-ruleset going = (spare-if, spare-option, spare-done, spare-stays, Spares-same)
+use Rattle.history_laws.proofs.TriesByBreaks.{changes_otherwise, marked_on_close, swept, what-by_breaks}
 
 module _ (who number : ℕ) where
-  abbrev here : (v : Volume) → Spares who number v v
-  here v = Spares-same who number v
-
-  abbrev edited : (v w : Volume) → w.oplocks ≡ v.oplocks → w.pending ≡ v.pending → w.ended ≡ v.ended → w.left ≡ v.left → Spares who number v w
-  edited v w oplocks pending ended left = Spares-still who number {v = v} {w = w} oplocks pending ended left
-
   -- ---- calls that end, but not this one
 
   pending-calls : (status_of : What → Status) (calls : List (ℕ × Pending)) (v : Volume) (test : ℕ × Pending → Bool) → how_many test (with_calls_ended status_of calls v).pending ≤ how_many test v.pending
@@ -95,25 +84,6 @@ module _ (who number : ℕ) where
 
   -- ---- closes, and clients that leave
 
-  marked_on_close : (v : Volume) (handle : Handle) → Spares who number v (with_mark_on_close v handle)
-  marked_on_close v handle =
-      Spares-if who number (not handle.delete_on_close) v _ (here v)
-      (Spares-option who number (named_stream v handle) (λ stream. with_stream_marked v stream true) _ (λ stream. edited v (with_stream_marked v stream true) refl refl refl refl)
-      (Spares-if who number (is_link_of_parent v handle.link) v (with_link_marked v handle.link true) (here v) (edited v (with_link_marked v handle.link true) refl refl refl refl)))
-
-  stream_swept : (v : Volume) (link stream : ℕ) → Spares who number v (with_stream_swept v link stream)
-  stream_swept v link stream =
-      let noted : Volume = with_change_noted v link 7 0x200 (Some stream) in
-      Spares-if who number (is_stream_over v stream) (without_stream noted stream) v (Spares-next who number (Spares-noted who number v link 7 0x200 (Some stream)) (edited noted (without_stream noted stream) refl refl refl refl)) (here v)
-
-  link_swept : (v : Volume) (link : ℕ) → Spares who number v (with_link_swept v link)
-  link_swept v link = Spares-if who number (is_link_over v link) _ v (Spares-next who number (Spares-noted who number v link 2 (name_bit v link) None) (without who number (with_change_noted v link 2 (name_bit v link) None) link)) (here v)
-
-  swept : (v : Volume) (handle : Handle) → Spares who number v (with_swept v handle)
-  swept v handle =
-      let first : Volume = option_map_or (λ stream. with_stream_swept v handle.link stream) handle.stream v in
-      Spares-next who number (Spares-option who number handle.stream (λ stream. with_stream_swept v handle.link stream) v (λ stream. stream_swept v handle.link stream) (here v)) (link_swept first handle.link)
-
   -- with fewer oplocks
   fewer_oplocks : (v w : Volume) (keep : Oplock → Bool) → w.oplocks ≡ filter keep v.oplocks → w.pending ≡ v.pending → w.ended ≡ v.ended → w.left ≡ v.left → Spares who number v w
   fewer_oplocks v w keep oplocks pending ended left = record {
@@ -135,15 +105,11 @@ module _ (who number : ℕ) where
       let gone : Volume = without_handle over id in
       let marked : Volume = with_mark_on_close gone handle in
       Spares-next who number (Spares-calls closed_status (is_call_on handle) v (λ p on its waits. names-no_wait p.call.what handle.number (and_right (p.call.client == handle.client) (names p.call.what handle.number) on) waits))
-      (Spares-next who number (fewer_oplocks over gone (λ oplock. not (oplock.handle == id)) refl refl refl refl) (Spares-next who number (marked_on_close gone handle) (swept marked handle)))
+      (Spares-next who number (fewer_oplocks over gone (λ oplock. not (oplock.handle == id)) refl refl refl refl) (Spares-next who number (Spares-by who number (marked_on_close gone handle)) (Spares-by who number (swept marked handle))))
 
   pub all_closed : (handles : List (ℕ × Handle)) (v : Volume) → Spares who number v (with_all_closed handles v)
-  all_closed [] v = here v
+  all_closed [] v = Spares-same who number v
   all_closed (entry ∷ handles) v = Spares-next who number (closed v entry.0 entry.1) (all_closed handles (with_closed v entry.0 entry.1))
-
-  closes : (v : Volume) (client handle : ℕ) → TriesSpare who number v (try_close v client handle)
-  unfolding try_close close_at
-  closes v client handle = search (going, closed) depth 20
 
   -- another client leaves
   left_other : (left : List Bool) (client : ℕ) → (client == who) ≡ false → slice_index_or (slice_set left client true) who false ≡ slice_index_or left who false
@@ -152,51 +118,7 @@ module _ (who number : ℕ) where
       ne-self : (a b : ℕ) → (a == b) ≡ false → a ≡ b → ⊥
       ne-self a b differs same = (let is : (a == b) ≡ true = eq-eqb a b same in let impossible : true ≡ false = sym is ∙ differs in cc)
 
-  leave_other : (v : Volume) (client : ℕ) → (client == who) ≡ false → TriesSpare who number v (try_leave v client)
-  unfolding try_leave with_client_gone
-  leave_other v client other =
-      let over : Volume = with_calls_ended (λ _. Cancelled) (pending_by_turn (is_left_behind client) v) v in
-      let gone : Volume = with_all_closed (handles_of_client v client) over in
-      spare-done who number (Spares-next who number (Spares-calls (λ _. Cancelled) (is_left_behind client) v (λ p on its waits. another p on its))
-      (Spares-next who number (all_closed (handles_of_client v client) over) (record { kept = λ bare. record { waits = bare.waits; none = bare.none }; ended = λ bare. refl; left = left_other gone.left client other })))
-    where
-      another : (p : Pending) → is_left_behind client p ≡ true → is_call who number p ≡ true → ⊥
-      another p on its =
-          let first : p.call.client ≡ client = eqb-true p.call.client client (and_left (p.call.client == client) _ on) in
-          let second : p.call.client ≡ who = eqb-true p.call.client who (and_left (p.call.client == who) _ its) in
-          let is : (client == who) ≡ true = eq-eqb client who (sym first ∙ second) in let impossible : true ≡ false = sym is ∙ other in cc
-
-  -- ---- unlocks, cancellations of other calls, watches, waits and the clock
-
-  unlocks : (v : Volume) (client handle at count : ℕ) → TriesSpare who number v (try_unlock v client handle at count)
-  unfolding try_unlock unlock_at unlock_by unlock_range
-  unlocks v client handle at count = search (going, without_range) depth 20
-    where
-      without_range : (v : Volume) (id at count : ℕ) → Spares who number v (without_lock v id at count)
-      without_range v id at count = edited v (without_lock v id at count) refl refl refl refl
-
-  cancels_other : (v : Volume) (client other : ℕ) → (client == who && other == number) ≡ false → TriesSpare who number v (try_cancel v client other)
-  unfolding try_cancel
-  cancels_other v client other differs =
-      spare-option who number (number_of (is_call client other) v.pending) _ _
-      (λ turn. spare-done who number (Spares-next who number (fewer_oplocks v (with_oplock_given_up v turn) (λ oplock. not (is_granted_under turn oplock)) refl refl refl refl)
-      (Spares-end who number (with_oplock_given_up v turn) client other (record { status = Cancelled; body = Nothing }) differs))) (spare-done who number (here v))
-
-  begun_watch : (v : Volume) (id asked : ℕ) (whole : Bool) → Spares who number v (with_watch_begun v id asked whole)
-  begun_watch v id asked whole = Spares-if who number (is_some (watch_of v id)) v _ (here v) (edited v (with_watch v id asked whole (length v.changes)) refl refl refl refl)
-
-  seen_watch : (u v : Volume) (id : ℕ) → Spares who number u v → Spares who number u (with_watch_seen v id)
-  seen_watch u v id first = Spares-next who number first (edited v (with_watch_seen v id) refl refl refl refl)
-
-  notifies : (v : Volume) (client handle asked : ℕ) (whole : Bool) (room : ℕ) → TriesSpare who number v (try_notify v client handle asked whole room)
-  unfolding try_notify notify_at
-  notifies v client handle asked whole room = search (going, begun_watch, seen_watch) depth 40 fits 4000
-
-  waits_by : (v : Volume) (client earlier : ℕ) → TriesSpare who number v (try_wait v client earlier)
-  unfolding try_wait
-  waits_by v client earlier = search going depth 20
-
-  -- ---- oplocks
+  -- ---- outcomes
 
   -- it has ended as it had, and its client has left where it had
   pub record KeepsEnds (v w : Volume) : Type 0 where
@@ -206,8 +128,8 @@ module _ (who number : ℕ) where
   pub record TriesKeep (v : Volume) (outcome : Outcome) : Type 0 where
     pub so : KeepsEnds v (volume_after outcome)
 
-  keep-spares : {v : Volume} {outcome : Outcome} → TriesSpare who number v outcome → TriesKeep v outcome
-  keep-spares spares = record { so = record { ended = spares.so.ended; left = spares.so.left } }
+  keep-spares : {v : Volume} {outcome : Outcome} → Spares who number v (volume_after outcome) → TriesKeep v outcome
+  keep-spares spares = record { so = record { ended = spares.ended; left = spares.left } }
 
   keep-if : {v : Volume} (test : Bool) (one other : Outcome) → TriesKeep v one → TriesKeep v other → TriesKeep v (if test then one else other)
   keep-if true one other holds fails = holds
@@ -218,7 +140,46 @@ module _ (who number : ℕ) where
   keep-option (Some x) some none with_some with_none = with_some x
 
   keep-refused : (v : Volume) (status : Status) → TriesKeep v (refused v status)
-  keep-refused v status = keep-spares (spare-done who number (here v))
+  keep-refused v status = keep-spares (Spares-same who number v)
+
+  keep-closed : (v : Volume) (id : ℕ) (handle : Handle) (reply : Reply) → TriesKeep v (Done (with_closed v id handle) reply)
+  keep-closed v id handle reply = keep-spares (closed v id handle)
+
+  closes : (v : Volume) (client handle : ℕ) → TriesKeep v (try_close v client handle)
+  unfolding try_close close_at
+  closes v client handle = search (keep-option, keep-refused, keep-closed) depth 20
+
+  leave_other : (v : Volume) (client : ℕ) → (client == who) ≡ false → TriesKeep v (try_leave v client)
+  unfolding try_leave with_client_gone
+  leave_other v client other =
+      let over : Volume = with_calls_ended (λ _. Cancelled) (pending_by_turn (is_left_behind client) v) v in
+      let gone : Volume = with_all_closed (handles_of_client v client) over in
+      keep-spares (Spares-next who number (Spares-calls (λ _. Cancelled) (is_left_behind client) v (λ p on its waits. another p on its))
+      (Spares-next who number (all_closed (handles_of_client v client) over) (record { kept = λ bare. record { waits = bare.waits; none = bare.none }; ended = λ bare. refl; left = left_other gone.left client other })))
+    where
+      another : (p : Pending) → is_left_behind client p ≡ true → is_call who number p ≡ true → ⊥
+      another p on its =
+          let first : p.call.client ≡ client = eqb-true p.call.client client (and_left (p.call.client == client) _ on) in
+          let second : p.call.client ≡ who = eqb-true p.call.client who (and_left (p.call.client == who) _ its) in
+          let is : (client == who) ≡ true = eq-eqb client who (sym first ∙ second) in let impossible : true ≡ false = sym is ∙ other in cc
+
+  -- ---- unlocks, and cancellations of other calls
+
+  keep-unlocked : (v : Volume) (id at count : ℕ) (reply : Reply) → TriesKeep v (Done (without_lock v id at count) reply)
+  keep-unlocked v id at count reply = keep-spares (Spares-still who number {v = v} {w = without_lock v id at count} refl refl refl refl)
+
+  unlocks : (v : Volume) (client handle at count : ℕ) → TriesKeep v (try_unlock v client handle at count)
+  unfolding try_unlock unlock_at unlock_by unlock_range
+  unlocks v client handle at count = search (keep-option, keep-refused, keep-unlocked) depth 20
+
+  cancels_other : (v : Volume) (client other : ℕ) → (client == who && other == number) ≡ false → TriesKeep v (try_cancel v client other)
+  unfolding try_cancel
+  cancels_other v client other differs =
+      keep-option (number_of (is_call client other) v.pending) _ _
+      (λ turn. keep-spares (Spares-next who number (fewer_oplocks v (with_oplock_given_up v turn) (λ oplock. not (is_granted_under turn oplock)) refl refl refl refl)
+      (Spares-end who number (with_oplock_given_up v turn) client other (record { status = Cancelled; body = Nothing }) differs))) (keep-refused v InvalidParameter)
+
+  -- ---- oplocks
 
   -- the oplocks that are switched were granted, and are told to other calls
   pending-ended : (v : Volume) (turn : Option ℕ) (status : Status) (test : ℕ × Pending → Bool) → how_many test (with_call_ended v turn status).pending ≤ how_many test v.pending
@@ -282,30 +243,24 @@ module _ (who number : ℕ) where
 
   -- ---- any call but the client's leaving and its cancellation of this call
 
-  own-keeps : (v : Volume) (turn client call : ℕ) (asked : Request) → has_own_laws asked ≡ true → (client == who && is_cancel_of number (Ask asked)) ≡ false → TriesKeep v (try_request v turn client call asked)
-  own-keeps v turn client call (request.Close handle) own other = keep-spares (closes v client handle)
-  own-keeps v turn client call (request.Unlock handle at count) own other = keep-spares (unlocks v client handle at count)
-  own-keeps v turn client call (request.Oplock handle level) own other = oplocks v client handle level turn
-  own-keeps v turn client call (request.Ack handle level) own other = acks v client handle level turn
-  own-keeps v turn client call (request.Notify handle asked whole room) own other = keep-spares (notifies v client handle asked whole room)
-  own-keeps v turn client call (request.Cancel cancelled) own other = keep-spares (cancels_other v client cancelled other)
-  own-keeps v turn client call _ own other = cc
-
-  request-keeps : (v : Volume) (turn client call : ℕ) (asked : Request) → (client == who && is_cancel_of number (Ask asked)) ≡ false → TriesKeep v (try_request v turn client call asked)
-  request-keeps v turn client call asked other = elim (cases_Bool (has_own_laws asked)) [
-    | inl own ↦ own-keeps v turn client call asked own other
-    | inr none ↦ keep-spares (request-spares who number v turn client call asked none)
-  ]
-
   what-keeps : (v : Volume) (turn client call : ℕ) (what : What) → (client == who && (is_leave what || is_cancel_of number what)) ≡ false → TriesKeep v (try_what v turn client call what)
-  what-keeps v turn client call (Ask asked) other = request-keeps v turn client call asked other
-  what-keeps v turn client call (Tick ticks) other = keep-spares (spare-done who number (edited v (with_ticks v ticks) refl refl refl refl))
-  what-keeps v turn client call (WaitFor earlier) other = keep-spares (waits_by v client earlier)
-  what-keeps v turn client call Leave other = keep-spares (leave_other v client (and_true_right (client == who) other))
+  what-keeps v turn client call what other = elim (cases_Bool (changes_otherwise what)) [
+    | inl more ↦ own-keeps v turn client call what more other
+    | inr none ↦ keep-spares (Spares-by who number (TriesByBreaks.so (what-by_breaks v turn client call what none)))
+  ]
     where
       and_true_right : (b : Bool) → (b && true) ≡ false → b ≡ false
       and_true_right true is = is
       and_true_right false is = refl
+
+      own-keeps : (v : Volume) (turn client call : ℕ) (what : What) → changes_otherwise what ≡ true → (client == who && (is_leave what || is_cancel_of number what)) ≡ false → TriesKeep v (try_what v turn client call what)
+      own-keeps v turn client call (Ask (request.Close handle)) more other = closes v client handle
+      own-keeps v turn client call (Ask (request.Unlock handle at count)) more other = unlocks v client handle at count
+      own-keeps v turn client call (Ask (request.Oplock handle level)) more other = oplocks v client handle level turn
+      own-keeps v turn client call (Ask (request.Ack handle level)) more other = acks v client handle level turn
+      own-keeps v turn client call (Ask (request.Cancel cancelled)) more other = cancels_other v client cancelled other
+      own-keeps v turn client call Leave more other = leave_other v client (and_true_right (client == who) other)
+      own-keeps v turn client call _ more other = cc
 
   pub try-keeps_ends : (v : Volume) (call : Call) (turn : ℕ) → cancels who number call ≡ false → TriesKeep v (try v call turn)
   try-keeps_ends v call turn other = keep-if (has_left v call.client) _ _ (keep-refused v InvalidHandle) (what-keeps v turn call.client call.number call.what other)

@@ -1,7 +1,7 @@
 -- A wait ends in few ways, over a whole run.
-use Rattle.std.proofs.Common.{◌≡◌, ℕ, zero, suc, ◌+◌, ◌≤◌, Bool, true, false, not, List, [], ◌∷◌, ◌++◌, length, refl, ap, sym, subst, ◌∙◌, arith, inl, inr, Option, Some, None}
+use Rattle.std.proofs.Common.{◌≡◌, ℕ, zero, suc, ◌+◌, ◌≤◌, Bool, true, false, not, List, [], ◌∷◌, ◌++◌, refl, ap, sym, ◌∙◌, arith, inl, inr, Some}
 use Rattle.std.specs.List.{filter, list_any}
-use Rattle.std.specs.Prelude.{◌==◌, ◌&&◌, ◌||◌, map, nat_le, nat_lt, option_map, slice_index_or}
+use Rattle.std.specs.Prelude.{◌==◌, ◌&&◌, ◌||◌, map, nat_le, nat_lt, slice_index_or}
 use Rattle.std.proofs.lemmas.Bool.{cases_Bool, eqb-true, lt-ltb}
 use Rattle.fsa_types.specs.declared.reply.Blocker.{Blocker}
 use Rattle.fsa_types.specs.declared.reply.Body.TheVariants.{Nothing}
@@ -17,31 +17,34 @@ use Rattle.fsa_types.specs.declared.status.Status.TheVariants.{Cancelled, Invali
 use Rattle.fsa_model.specs.Close.{handles_of_client, is_left_behind, pending_by_turn, try_leave, with_all_closed, with_calls_ended, with_client_gone}
 use Rattle.fsa_model.specs.Edits.{is_call, with_end, with_pending}
 use Rattle.fsa_model.specs.Engine.{CallsDiffer, is_entry_of, own_tried}
-use Rattle.fsa_model.specs.History.{HistoryEntry, Run, begun, run, steps, turn_on, with_turn}
+use Rattle.fsa_model.specs.History.{HistoryEntry, Run, run, steps, turn_on}
 use Rattle.fsa_model.specs.Frame.{is_leave}
 use Rattle.fsa_model.specs.Lookups.{handle_of, has_left, number_of}
 use Rattle.fsa_model.specs.Once.{how_many, is_end, made, times}
 use Rattle.fsa_model.specs.Outcome.{Outcome, Done, Stay, Hold}
-use Rattle.fsa_model.specs.Settle.{Settling, come_over, repeated, settle_step, starves, taken_up, taken_up_all, with_tried}
+use Rattle.fsa_model.specs.Settle.{Settling, come_over, starves, taken_up, taken_up_all, with_tried}
 use Rattle.fsa_model.specs.Settling.{MaySettle, MayTurn, is_under, may_be_held}
 use Rattle.fsa_model.specs.Setup.{Client, Setup}
 use Rattle.fsa_model.specs.Try.{try, try_what}
-use Rattle.fsa_model.specs.Turn.{Turned, answered, settlement, turn, turn_number, volume_after}
+use Rattle.fsa_model.specs.Turn.{answered, settlement, turn, turn_number, volume_after}
 use Rattle.fsa_model.specs.Volume.{Pending, Volume, fresh}
-use Rattle.fsa_model.specs.Waiting.{all_wait, has_ended, is_granted_under, is_held, is_pending, is_wait, next_ready, try_cancel, try_wait, waits_in_order, with_stalled}
+use Rattle.fsa_model.specs.Waiting.{all_wait, has_ended, is_granted_under, is_held, is_pending, is_wait, try_cancel, try_wait, waits_in_order, with_stalled}
 use Rattle.fsa_model.specs.Watching.{due_size, report}
-use Rattle.fsa_model.proofs.CoherenceRuns.{turn_on-settled}
 use Rattle.fsa_model.proofs.CountLaws.{and_left, and_right, how_many-append, how_many-filter, how_many-filter_le, how_many-weaker, none-how_many}
-use Rattle.fsa_model.proofs.OnceHistory.{MayTurn-fresh, is_entry_of-self}
 use Rattle.fsa_model.proofs.OnceLaws.{is_same, is_same-refl}
 use Rattle.fsa_model.proofs.RowLaws.{option_cases}
-use Rattle.fsa_model.proofs.SettleLaws.{IsNext, Steps, Steps-taken_up, next_ready-is, next-may_be_held, some_equal, try-tries}
+use Rattle.fsa_model.proofs.SettleLaws.{IsNext, Steps, Steps-taken_up, next-may_be_held, try-tries}
 use Rattle.fsa_model.proofs.TryLaws.{Tries, TriesTo, Leaves}
-use Rattle.fsa_model.proofs.TurnLaws.{Adds-answered, TriedTo, Turns, try-keeps, turn-turns}
+use Rattle.fsa_model.proofs.TurnLaws.{TriedTo, Turns, try-keeps}
 use Rattle.fsa_model.proofs.WatchLaws.{comes_over}
 use Rattle.history_laws.specs.WaitEnds.{cancels, cancels_in, ends_otherwise, is_cancel_of, is_wait_end, leaves, leaves_in}
 use Rattle.history_laws.proofs.SpareLaws.{IsBareWait, IsBareWait-fewer, Spares}
 use Rattle.history_laws.proofs.SpareOwn.{IsBareWait-calls, all_closed, left-calls, KeepsEnds, TriesKeep, try-keeps_ends}
+use Rattle.history_laws.proofs.TurnByTurn.{Differ, Parts, from-keeps, new-call, own-may, parts, run-keeps, settled-keeps, taken_up-keeps}
+
+or_true : (b : Bool) → (b || true) ≡ true
+or_true true = refl
+or_true false = refl
 
 module _ (who number : ℕ) (fine : Reply → Bool) where
   -- each end of the call is one of these
@@ -278,54 +281,29 @@ module _ (who number : ℕ) (fine : Reply → Bool) where
     ended = (well-new v none).ended;
   }
 
-  -- ---- the turns behind it
+  -- ---- where SUCCESS is fine
 
-  abbrev pub Differ : Run → List HistoryEntry → Type 0
-  Differ r history = (client other : ℕ) → times client other r.volume + how_many (is_entry_of client other) history ≤ 1
+  module _ (success : fine (record { status = Success; body = Nothing }) ≡ true) where
+    well-step : (s : Settling) (entry : ℕ × Pending) → MaySettle s.volume → IsNext s.volume entry → EndsWell s.volume → EndsWell (taken_up s entry).volume
+    well-step s entry may next well = record {
+      bare = bare-onward {v = s.volume} {w = (taken_up s entry).volume} (granted-taken_up s entry may next) (Steps.pending (Steps-taken_up s entry may next)) well.bare;
+      ended = fine-taken_up s entry may well next (λ _. success);
+    }
 
-  pub new-call : (r : Run) (entry : HistoryEntry) (more : List HistoryEntry) → Differ r (entry ∷ more) → times entry.call.client entry.call.number r.volume ≡ 0
-  new-call r entry more differ =
-      let few = differ entry.call.client entry.call.number in
-      let self : is_entry_of entry.call.client entry.call.number entry ≡ true = is_entry_of-self entry in
-      let one : times entry.call.client entry.call.number r.volume + (1 + how_many (is_entry_of entry.call.client entry.call.number) more) ≤ 1 = rw self at few in omega arith
+    -- once all is taken up that is ready
+    pub well-taken_up : (v : Volume) (starved : List CallId) → MaySettle v → EndsWell v → EndsWell (taken_up_all v starved).volume
+    well-taken_up v starved may well = taken_up-keeps EndsWell well-step v starved may well
 
-  -- ---- where SUCCESS and STALLED are fine
-
-  module _ (success : fine (record { status = Success; body = Nothing }) ≡ true) (stalled : fine (record { status = Stalled; body = Nothing }) ≡ true) where
-    well-steps : (most : ℕ) (s : Settling) → MaySettle s.volume → EndsWell s.volume → EndsWell (repeated settle_step most s).volume
-    well-steps zero s may well = well
-    well-steps (suc more) s may well = elim (option_cases (next_ready s.volume)) [
-      | inl none ↦ rw none well
-      | inr some ↦ (let next : IsNext s.volume some.0 = next_ready-is s.volume some.0 some.1 in
-          let stepped : Steps s.volume (taken_up s some.0).volume = Steps-taken_up s some.0 may next in
-          let after : EndsWell (taken_up s some.0).volume = record {
-            bare = bare-onward {v = s.volume} {w = (taken_up s some.0).volume} (granted-taken_up s some.0 may next) stepped.pending well.bare;
-            ended = fine-taken_up s some.0 may well next (λ _. success);
-          } in
-          rw some.1 (well-steps more (taken_up s some.0) stepped.may after))
-    ]
-
-    well-stalled : (v : Volume) → EndsWell v → EndsWell (with_stalled v)
-    well-stalled v well = elim (cases_Bool (all_wait v)) [
-      | inl all ↦ rw all (record { bare = IsBareWait-calls who number (λ _. Stalled) (waits_in_order v) v well.bare; ended = fine-calls (λ _. Stalled) (λ what. stalled) (waits_in_order v) v well.ended })
-      | inr some ↦ rw some well
-    ]
-
-    well-settled : (v : Volume) (call : Call) (starved : List CallId) → MaySettle (own_tried v call) → EndsWell (own_tried v call) → EndsWell (settlement v call starved).volume
-    well-settled v call starved may own =
-        well-stalled (taken_up_all (own_tried v call) starved).volume (well-steps (length (own_tried v call).pending) (record { volume = own_tried v call; starved = starved; taken = [] }) may own)
-
-    -- a turn of another call
-    well-turn : (v : Volume) (call : Call) (starved : List CallId) → MayTurn v → times call.client call.number v ≡ 0 → EndsWell v → (call.client == who && call.number == number) ≡ false
-        → (cancels who number call ≡ true → fine (record { status = Cancelled; body = Nothing }) ≡ true) → EndsWell (settlement v call starved).volume
-    well-turn v call starved may none well other cancelled =
+    -- the try of another call
+    pub well-own : (v : Volume) (call : Call) → MayTurn v → EndsWell v → (call.client == who && call.number == number) ≡ false
+        → (cancels who number call ≡ true → fine (record { status = Cancelled; body = Nothing }) ≡ true) → EndsWell (own_tried v call)
+    well-own v call may well other cancelled =
         let outcome : Outcome = try v call (turn_number v) in
         let tried : TriedTo v (turn_number v) call.what outcome = try-keeps v call (turn_number v) may.take_up.may.oplocks in
-        let adds = Adds-answered v call outcome may none tried in
-        well-settled v call starved adds.may.take_up.may
-        (record { bare = bare-answered v call outcome may well.bare other tried; ended = fine-answered v call outcome other (fine-any v call (turn_number v) well cancelled) })
+        record { bare = bare-answered v call outcome may well.bare other tried; ended = fine-answered v call outcome other (fine-any v call (turn_number v) well cancelled) }
 
-    well-wait : (v : Volume) (call : Call) (earlier : ℕ) → call.what ≡ WaitFor earlier → MayTurn v → times who number v ≡ 0 → (has_left v call.client ≡ true → fine (record { status = InvalidHandle; body = Nothing }) ≡ true)
+    -- and of the wait
+    pub well-wait : (v : Volume) (call : Call) (earlier : ℕ) → call.what ≡ WaitFor earlier → MayTurn v → times who number v ≡ 0 → (has_left v call.client ≡ true → fine (record { status = InvalidHandle; body = Nothing }) ≡ true)
         → fine (record { status = InvalidParameter; body = Nothing }) ≡ true → EndsWell (answered call (turn_number v) (try v call (turn_number v)))
     unfolding try_wait
     well-wait v call earlier is may none left parameter =
@@ -341,51 +319,56 @@ module _ (who number : ℕ) (fine : Reply → Bool) where
           ]))
         ]
 
-    well-later : (later : List HistoryEntry) (r s : Run) → MayTurn r.volume → Differ r later → times who number r.volume ≡ 1 → (list_any (λ e. cancels who number e.call) later ≡ true → fine (record { status = Cancelled; body = Nothing }) ≡ true)
-        → EndsWell r.volume → steps turn_on r later ≡ Some s → EndsWell s.volume
-    well-later [] r s may differ there cancelled well is = subst (λ (s : Run). EndsWell s.volume) (some_equal r s is) well
-    well-later (entry ∷ later) r s may differ there cancelled well is = elim (option_cases (turn r.volume entry.call entry.starved)) [
-      | inl none ↦ (let impossible : None ≡ Some s = rw none at is in cc)
-      | inr some ↦ (let new = new-call r entry later differ in
-          let turns : Turns r.volume entry.call some.0.volume = turn-turns r.volume entry.call entry.starved some.0 may new some.1 in
-          let made_turn : turn_on r entry ≡ Some (with_turn r some.0) = ap (λ (found : Option Turned). option_map (with_turn r) found) some.1 in
-          let same : (settlement r.volume entry.call entry.starved).volume ≡ some.0.volume = sym (turn_on-settled r entry (with_turn r some.0) made_turn) in
-          let after : EndsWell some.0.volume = subst EndsWell same (well-turn r.volume entry.call entry.starved may new well other (λ here. cancelled (rw here refl))) in
-          well-later later (with_turn r some.0) s turns.may (λ client other. (let one = turns.times client other in let few = differ client other in omega arith))
-          (let one = turns.times who number in let same_times : times who number some.0.volume ≡ times who number r.volume + 0 = rw other at one in omega arith)
-          (λ behind. cancelled (rw behind (or_true (cancels who number entry.call)))) after (rw some.1 at is))
-    ]
-      where
-        or_true : (b : Bool) → (b || true) ≡ true
-        or_true true = refl
-        or_true false = refl
+  -- ---- where STALLED is fine too
 
+  module _ (success : fine (record { status = Success; body = Nothing }) ≡ true) (stalled : fine (record { status = Stalled; body = Nothing }) ≡ true) where
+    well-stalled : (v : Volume) → EndsWell v → EndsWell (with_stalled v)
+    well-stalled v well = elim (cases_Bool (all_wait v)) [
+      | inl all ↦ rw all (record { bare = IsBareWait-calls who number (λ _. Stalled) (waits_in_order v) v well.bare; ended = fine-calls (λ _. Stalled) (λ what. stalled) (waits_in_order v) v well.ended })
+      | inr some ↦ rw some well
+    ]
+
+    well-settled : (v : Volume) (call : Call) (starved : List CallId) → MaySettle (own_tried v call) → EndsWell (own_tried v call) → EndsWell (settlement v call starved).volume
+    well-settled v call starved may own = settled-keeps EndsWell (well-step success) v call starved may (well-stalled (taken_up_all (own_tried v call) starved).volume) own
+
+    -- the wait is made, and what is still to come
+    record WellOn (v : Volume) (later : List HistoryEntry) : Type 0 where
+      there : times who number v ≡ 1
+      cancelled : list_any (λ e. cancels who number e.call) later ≡ true → fine (record { status = Cancelled; body = Nothing }) ≡ true
+      well : EndsWell v
+
+    well-on : (v : Volume) (entry : HistoryEntry) (later : List HistoryEntry) → MayTurn v → Differ v (entry ∷ later) → Turns v entry.call (settlement v entry.call entry.starved).volume → WellOn v (entry ∷ later)
+        → WellOn (settlement v entry.call entry.starved).volume later
+    well-on v entry later may differ turns on = record {
+      there = (let one = turns.times who number in let same_times : times who number (settlement v entry.call entry.starved).volume ≡ times who number v + 0 = rw other at one in let there = on.there in omega arith);
+      cancelled = λ behind. on.cancelled (rw behind (or_true (cancels who number entry.call)));
+      well = well-settled v entry.call entry.starved (own-may v entry.call may (new-call v entry later differ)) (well-own success v entry.call may on.well other (λ here. on.cancelled (rw here refl)));
+    }
+      where
         other : (entry.call.client == who && entry.call.number == number) ≡ false
         other = elim (cases_Bool (is_entry_of who number entry)) [
           | inr isnt ↦ isnt
-          | inl its ↦ (let few = differ who number in let two : times who number r.volume + (1 + how_many (is_entry_of who number) later) ≤ 1 = rw its at few in absurd (omega arith))
+          | inl its ↦ (let few = differ who number in let two : times who number v + (1 + how_many (is_entry_of who number) later) ≤ 1 = rw its at few in let there = on.there in absurd (omega arith))
         ]
 
     -- the wait's turn, and those behind it
-    well-from : (entry : HistoryEntry) (later : List HistoryEntry) (earlier : ℕ) (r s : Run) → entry.call.client ≡ who → entry.call.number ≡ number → entry.call.what ≡ WaitFor earlier
-        → MayTurn r.volume → Differ r (entry ∷ later) → (has_left r.volume who ≡ true → fine (record { status = InvalidHandle; body = Nothing }) ≡ true) → fine (record { status = InvalidParameter; body = Nothing }) ≡ true
+    pub well-from : (entry : HistoryEntry) (later : List HistoryEntry) (earlier : ℕ) (r s : Run) → entry.call.client ≡ who → entry.call.number ≡ number → entry.call.what ≡ WaitFor earlier
+        → MayTurn r.volume → Differ r.volume (entry ∷ later) → (has_left r.volume who ≡ true → fine (record { status = InvalidHandle; body = Nothing }) ≡ true) → fine (record { status = InvalidParameter; body = Nothing }) ≡ true
         → (list_any (λ e. cancels who number e.call) later ≡ true → fine (record { status = Cancelled; body = Nothing }) ≡ true) → steps turn_on r (entry ∷ later) ≡ Some s → EndsWell s.volume
-    well-from entry later earlier r s client call is may differ left parameter cancelled runs = elim (option_cases (turn r.volume entry.call entry.starved)) [
-      | inl none ↦ (let impossible : None ≡ Some s = rw none at runs in cc)
-      | inr some ↦ (let new : times entry.call.client entry.call.number r.volume ≡ 0 = new-call r entry later differ in
-          let none : times who number r.volume ≡ 0 = rw (client, call) at new in
-          let v : Volume = r.volume in
-          let tried : TriedTo v (turn_number v) entry.call.what (try v entry.call (turn_number v)) = try-keeps v entry.call (turn_number v) may.take_up.may.oplocks in
-          let adds = Adds-answered v entry.call (try v entry.call (turn_number v)) may new tried in
-          let own : EndsWell (own_tried v entry.call) = well-wait v entry.call earlier is may none (λ gone. left (rw client at gone)) parameter in
-          let turns : Turns v entry.call some.0.volume = turn-turns v entry.call entry.starved some.0 may new some.1 in
-          let made_turn : turn_on r entry ≡ Some (with_turn r some.0) = ap (λ (found : Option Turned). option_map (with_turn r) found) some.1 in
-          let same : (settlement v entry.call entry.starved).volume ≡ some.0.volume = sym (turn_on-settled r entry (with_turn r some.0) made_turn) in
-          well-later later (with_turn r some.0) s turns.may (λ client other. (let one = turns.times client other in let few = differ client other in omega arith))
-          (let one = turns.times who number in let its : is_same entry.call.client entry.call.number who number ≡ true = rw (client, call) (is_same-refl who number) in
-          let there : times who number some.0.volume ≡ times who number v + 1 = rw its at one in omega arith)
-          cancelled (subst EndsWell same (well-settled v entry.call entry.starved adds.may.take_up.may own)) (rw some.1 at runs))
-    ]
+    well-from entry later earlier r s client call is may differ left parameter cancelled runs =
+        WellOn.well (from-keeps WellOn well-on entry later r s may differ made runs)
+      where
+        made : Turns r.volume entry.call (settlement r.volume entry.call entry.starved).volume → WellOn (settlement r.volume entry.call entry.starved).volume later
+        made turns = record {
+          there = (let one = turns.times who number in let its : is_same entry.call.client entry.call.number who number ≡ true = rw (client, call) (is_same-refl who number) in
+              let there : times who number (settlement r.volume entry.call entry.starved).volume ≡ times who number r.volume + 1 = rw its at one in let none = new in omega arith);
+          cancelled = cancelled;
+          well = well-settled r.volume entry.call entry.starved (own-may r.volume entry.call may (new-call r.volume entry later differ))
+              (well-wait success r.volume entry.call earlier is may new (λ gone. left (rw client at gone)) parameter);
+        }
+          where
+            new : times who number r.volume ≡ 0
+            new = (let none : times entry.call.client entry.call.number r.volume ≡ 0 = new-call r.volume entry later differ in rw (client, call) at none)
 
 -- ---- who has left
 
@@ -441,15 +424,6 @@ module _ (who : ℕ) where
       never true = refl
       never false = refl
 
-  left-steps : (most : ℕ) (s : Settling) → MaySettle s.volume → has_left (repeated settle_step most s).volume who ≡ has_left s.volume who
-  left-steps zero s may = refl
-  left-steps (suc more) s may = elim (option_cases (next_ready s.volume)) [
-    | inl none ↦ rw none refl
-    | inr some ↦ (let next : IsNext s.volume some.0 = next_ready-is s.volume some.0 some.1 in
-        let stepped : Steps s.volume (taken_up s some.0).volume = Steps-taken_up s some.0 may next in
-        rw some.1 (left-steps more (taken_up s some.0) stepped.may ∙ left-taken_up s some.0 may next))
-  ]
-
   left-stalled : (v : Volume) → (with_stalled v).left ≡ v.left
   left-stalled v = elim (cases_Bool (all_wait v)) [
     | inl all ↦ rw all (left-calls who 0 (λ _. Stalled) (waits_in_order v) v)
@@ -463,38 +437,9 @@ module _ (who : ℕ) where
 
   left-turn : (v : Volume) (call : Call) (starved : List CallId) → MaySettle (own_tried v call) → leaves who call ≡ false → has_left (settlement v call starved).volume who ≡ has_left v who
   left-turn v call starved may stays =
-      ap (λ (left : List Bool). slice_index_or left who false) (left-stalled (taken_up_all (own_tried v call) starved).volume)
-      ∙ left-steps (length (own_tried v call).pending) (record { volume = own_tried v call; starved = starved; taken = [] }) may
-      ∙ ap (λ (left : List Bool). slice_index_or left who false) (left-answered call (turn_number v) (try v call (turn_number v)))
-      ∙ left-try v call (turn_number v) stays
-
--- ---- a whole run
-
-module _ (who number : ℕ) (fine : Reply → Bool) (success : fine (record { status = Success; body = Nothing }) ≡ true) (stalled : fine (record { status = Stalled; body = Nothing }) ≡ true) where
-  well-run : (front : List HistoryEntry) (entry : HistoryEntry) (later : List HistoryEntry) (earlier : ℕ) (r s : Run) → entry.call.client ≡ who → entry.call.number ≡ number → entry.call.what ≡ WaitFor earlier
-      → MayTurn r.volume → Differ who number fine r (front ++ entry ∷ later) → (list_any (λ e. leaves who e.call) front ≡ true → fine (record { status = InvalidHandle; body = Nothing }) ≡ true)
-      → (has_left r.volume who ≡ true → fine (record { status = InvalidHandle; body = Nothing }) ≡ true) → fine (record { status = InvalidParameter; body = Nothing }) ≡ true
-      → (list_any (λ e. cancels who number e.call) later ≡ true → fine (record { status = Cancelled; body = Nothing }) ≡ true) → steps turn_on r (front ++ entry ∷ later) ≡ Some s → EndsWell who number fine s.volume
-  well-run [] entry later earlier r s client call is may differ left gone parameter cancelled runs = well-from who number fine success stalled entry later earlier r s client call is may differ gone parameter cancelled runs
-  well-run (one ∷ front) entry later earlier r s client call is may differ left gone parameter cancelled runs = elim (option_cases (turn r.volume one.call one.starved)) [
-    | inl none ↦ (let impossible : None ≡ Some s = rw none at runs in cc)
-    | inr some ↦ (let new = new-call who number fine r one (front ++ entry ∷ later) differ in
-        let v : Volume = r.volume in
-        let adds = Adds-answered v one.call (try v one.call (turn_number v)) may new (try-keeps v one.call (turn_number v) may.take_up.may.oplocks) in
-        let turns : Turns v one.call some.0.volume = turn-turns v one.call one.starved some.0 may new some.1 in
-        let made_turn : turn_on r one ≡ Some (with_turn r some.0) = ap (λ (found : Option Turned). option_map (with_turn r) found) some.1 in
-        let same : (settlement v one.call one.starved).volume ≡ some.0.volume = sym (turn_on-settled r one (with_turn r some.0) made_turn) in
-        well-run front entry later earlier (with_turn r some.0) s client call is turns.may (λ c n. (let first = turns.times c n in let few = differ c n in omega arith))
-        (λ behind. left (rw behind (or_true (leaves who one.call))))
-        (λ after. elim (cases_Bool (leaves who one.call)) [
-          | inl leaves_now ↦ left (rw leaves_now refl)
-          | inr stays ↦ gone (sym (left-turn who v one.call one.starved adds.may.take_up.may stays) ∙ (rw (← same) at after))
-        ]) parameter cancelled (rw some.1 at runs))
-  ]
-    where
-      or_true : (b : Bool) → (b || true) ≡ true
-      or_true true = refl
-      or_true false = refl
+      settled-keeps (λ w. has_left w who ≡ has_left v who) (λ s entry may next same. left-taken_up s entry may next ∙ same) v call starved may
+      (λ same. ap (λ (left : List Bool). slice_index_or left who false) (left-stalled (taken_up_all (own_tried v call) starved).volume) ∙ same)
+      (ap (λ (left : List Bool). slice_index_or left who false) (left-answered call (turn_number v) (try v call (turn_number v))) ∙ left-try v call (turn_number v) stays)
 
 -- none has left at first
 fresh-left : (setup : Setup) (who : ℕ) → has_left (fresh setup) who ≡ false
@@ -505,19 +450,60 @@ fresh-left setup who = none setup.clients who
     none (client ∷ clients) zero = refl
     none (client ∷ clients) (suc who) = none clients who
 
+-- where it has left, and where it leaves later, it leaves in these turns
+record LeavesIn (who : ℕ) (entries : List HistoryEntry) (v : Volume) (later : List HistoryEntry) : Type 0 where
+  gone : has_left v who ≡ true → leaves_in who entries ≡ true
+  goes : leaves_in who later ≡ true → leaves_in who entries ≡ true
+
+leaves-on : (who : ℕ) (entries : List HistoryEntry) (v : Volume) (entry : HistoryEntry) (later : List HistoryEntry) → MayTurn v → Differ v (entry ∷ later) → LeavesIn who entries v (entry ∷ later)
+    → LeavesIn who entries (settlement v entry.call entry.starved).volume later
+leaves-on who entries v entry later may differ on = record {
+  gone = λ gone. elim (cases_Bool (leaves who entry.call)) [
+    | inl now ↦ on.goes (rw now refl)
+    | inr stays ↦ on.gone (sym (left-turn who v entry.call entry.starved (own-may v entry.call may (new-call v entry later differ)) stays) ∙ gone)
+  ];
+  goes = λ behind. on.goes (rw behind (or_true (leaves who entry.call)));
+}
+
+left-run : (setup : Setup) (who : ℕ) (front : List HistoryEntry) (r : Run) → CallsDiffer front → run setup front ≡ Some r → has_left r.volume who ≡ true → leaves_in who front ≡ true
+left-run setup who front r differ is =
+    LeavesIn.gone (run-keeps (LeavesIn who front) (λ v entry later may differ turns on. leaves-on who front v entry later may differ on) setup front r differ
+    (record { gone = λ gone. absurd (let never = fresh-left setup who in let impossible : true ≡ false = sym gone ∙ never in cc); goes = λ behind. behind }) is)
+
+-- ---- a whole run
+
+-- in which ways a wait may end, by what else happens in the run
+pub record MayEnd (setup : Setup) (front later : List HistoryEntry) (entry : HistoryEntry) (fine : Reply → Bool) : Type 0 where
+  pub success : fine (record { status = Success; body = Nothing }) ≡ true
+  pub parameter : fine (record { status = InvalidParameter; body = Nothing }) ≡ true
+  pub left : leaves_in entry.call.client front ≡ true → fine (record { status = InvalidHandle; body = Nothing }) ≡ true
+  pub cancelled : cancels_in entry.call.client entry.call.number later ≡ true → fine (record { status = Cancelled; body = Nothing }) ≡ true
+  pub stalled : fine (record { status = Stalled; body = Nothing }) ≡ true
+
+pub well-run : (setup : Setup) (front later : List HistoryEntry) (entry : HistoryEntry) (r : Run) (fine : Reply → Bool) → CallsDiffer (front ++ entry ∷ later) → run setup (front ++ entry ∷ later) ≡ Some r → is_wait entry.call.what ≡ true
+    → MayEnd setup front later entry fine → EndsWell entry.call.client entry.call.number fine r.volume
+well-run setup front later entry r fine differ runs is may = by entry.call.what refl is
+  where
+    at : Parts setup front (entry ∷ later) r
+    at = parts setup front (entry ∷ later) r differ runs
+
+    differ_front : CallsDiffer front
+    differ_front client number = (let few = differ client number in let split = how_many-append (is_entry_of client number) front (entry ∷ later) in omega arith)
+
+    so : (earlier : ℕ) → entry.call.what ≡ WaitFor earlier → EndsWell entry.call.client entry.call.number fine r.volume
+    so earlier waits = well-from entry.call.client entry.call.number fine may.success may.stalled entry later earlier at.at r refl refl waits at.may at.differ
+        (λ gone. may.left (left-run setup entry.call.client front at.at differ_front at.runs gone)) may.parameter may.cancelled at.goes
+
+    by : (what : What) → entry.call.what ≡ what → is_wait what ≡ true → EndsWell entry.call.client entry.call.number fine r.volume
+    by (WaitFor earlier) asks waits = so earlier asks
+    by _ asks waits = absurd (let impossible : false ≡ true = waits in cc)
+
 -- a wait ends in few ways, and with no body
 pub waits-end : (setup : Setup) (front later : List HistoryEntry) (entry : HistoryEntry) (r : Run) → CallsDiffer (front ++ entry ∷ later) → run setup (front ++ entry ∷ later) ≡ Some r → is_wait entry.call.what ≡ true
     → ends_otherwise (is_wait_end (leaves_in entry.call.client front) (cancels_in entry.call.client entry.call.number later)) entry.call.client entry.call.number r.volume ≡ false
-waits-end setup front later entry r differ runs is = by entry.call.what refl is
+waits-end setup front later entry r differ runs is =
+    none-how_many (λ end. is_end entry.call.client entry.call.number end && not (ways end.reply)) r.volume.ended
+    (EndsWell.ended (well-run setup front later entry r ways differ runs is (record { success = refl; parameter = refl; left = λ left. rw left refl; cancelled = λ cancelled. rw cancelled refl; stalled = refl })))
   where
     ways : Reply → Bool
     ways reply = is_wait_end (leaves_in entry.call.client front) (cancels_in entry.call.client entry.call.number later) reply
-
-    so : (earlier : ℕ) → entry.call.what ≡ WaitFor earlier → ends_otherwise ways entry.call.client entry.call.number r.volume ≡ false
-    so earlier waits = none-how_many (λ end. is_end entry.call.client entry.call.number end && not (ways end.reply)) r.volume.ended
-        (EndsWell.ended (well-run entry.call.client entry.call.number ways refl refl front entry later earlier (begun setup) r refl refl waits (MayTurn-fresh setup) (λ c n. (let few = differ c n in omega arith))
-        (λ left. rw left refl) (λ gone. (let impossible : false ≡ true = sym (fresh-left setup entry.call.client) ∙ gone in cc)) refl (λ cancelled. rw cancelled refl) runs))
-
-    by : (what : What) → entry.call.what ≡ what → is_wait what ≡ true → ends_otherwise ways entry.call.client entry.call.number r.volume ≡ false
-    by (WaitFor earlier) asks waits = so earlier asks
-    by _ asks waits = absurd (let impossible : false ≡ true = waits in cc)

@@ -1,6 +1,6 @@
 -- A wait has ended with SUCCESS only where the call that it was for has ended, over a whole run.
-use Rattle.std.proofs.Common.{◌≡◌, ℕ, zero, suc, ◌+◌, ◌≤◌, Bool, true, false, not, List, [], ◌∷◌, ◌++◌, refl, ap, sym, subst, ◌∙◌, arith, eq-eqb, inl, inr, ◌⊎◌, Option, Some, None, length}
-use Rattle.std.specs.Prelude.{◌==◌, ◌&&◌, option_map}
+use Rattle.std.proofs.Common.{◌≡◌, ℕ, ◌+◌, ◌≤◌, Bool, true, false, not, List, [], ◌∷◌, ◌++◌, refl, ap, sym, ◌∙◌, arith, eq-eqb, inl, inr, ◌⊎◌, Some}
+use Rattle.std.specs.Prelude.{◌==◌, ◌&&◌}
 use Rattle.std.proofs.lemmas.Bool.{cases_Bool, eqb-true}
 use Rattle.fsa_types.specs.declared.reply.Body.TheVariants.{Nothing}
 use Rattle.fsa_types.specs.declared.reply.EndOf.{EndOf}
@@ -14,32 +14,32 @@ use Rattle.fsa_types.specs.declared.status.Status.TheVariants.{InvalidHandle, In
 use Rattle.fsa_model.specs.Close.{with_calls_ended}
 use Rattle.fsa_model.specs.Edits.{is_call, with_end, with_pending}
 use Rattle.fsa_model.specs.Engine.{CallsDiffer, is_entry_of, own_tried}
-use Rattle.fsa_model.specs.History.{HistoryEntry, Run, begun, run, steps, turn_on, with_turn}
+use Rattle.fsa_model.specs.History.{HistoryEntry, Run, run, steps, turn_on}
 use Rattle.fsa_model.specs.Lookups.{handle_of, has_left}
 use Rattle.fsa_model.specs.Once.{how_many, is_end, times}
 use Rattle.fsa_model.specs.Outcome.{Outcome, Done, Stay, Hold}
-use Rattle.fsa_model.specs.Settle.{Settling, come_over, repeated, settle_step, starves, taken_up, taken_up_all, with_tried}
+use Rattle.fsa_model.specs.Settle.{Settling, come_over, starves, taken_up, taken_up_all, with_tried}
 use Rattle.fsa_model.specs.Settling.{AddsEnds, MaySettle, MayTurn}
 use Rattle.fsa_model.specs.Setup.{Script, Setup}
 use Rattle.fsa_model.specs.Try.{try}
-use Rattle.fsa_model.specs.Turn.{Turned, answered, settlement, turn, turn_number, volume_after}
+use Rattle.fsa_model.specs.Turn.{answered, settlement, turn, turn_number, volume_after}
 use Rattle.fsa_model.specs.Volume.{Pending, Volume}
-use Rattle.fsa_model.specs.Waiting.{all_wait, has_come, has_ended, is_held, is_pending, is_ready, is_wait, next_ready, try_wait, waits, waits_in_order, with_stalled}
+use Rattle.fsa_model.specs.Waiting.{all_wait, has_come, has_ended, is_held, is_pending, is_ready, is_wait, try_wait, waits, waits_in_order, with_stalled}
 use Rattle.fsa_model.specs.Watching.{due_size, report}
 use Rattle.std.specs.Prelude.{nat_le}
-use Rattle.fsa_model.proofs.CoherenceRuns.{turn_on-settled}
 use Rattle.fsa_model.proofs.CountLaws.{and_left, and_right, how_many-append, how_many-filter_le, how_many-none, how_many-some, how_many-split, how_many-weaker, some-how_many}
-use Rattle.fsa_model.proofs.OnceHistory.{MayTurn-fresh, is_entry_of-self, run-runs}
+use Rattle.fsa_model.proofs.OnceHistory.{is_entry_of-self, run-runs}
 use Rattle.fsa_model.proofs.OnceLaws.{AddsEnds-next, AddsEnds-same, ended-calls_ended, fewer-calls_ended, is_same, is_same-refl}
 use Rattle.fsa_model.proofs.RowLaws.{option_cases}
-use Rattle.fsa_model.proofs.SettleLaws.{IsNext, Steps, Steps-taken_up, next_ready-is, some_equal}
-use Rattle.fsa_model.proofs.TurnLaws.{Adds-answered, TriedTo, Turns, answered-ended, own_end, tried-begins, try-keeps, turn-turns}
+use Rattle.fsa_model.proofs.SettleLaws.{IsNext, Steps, Steps-taken_up}
+use Rattle.fsa_model.proofs.TurnLaws.{TriedTo, Turns, answered-ended, own_end, tried-begins, try-keeps}
 use Rattle.history_laws.specs.Races.{AllComeAfterWaits, NoneMadeWaiting}
 use Rattle.history_laws.specs.WaitEnds.{IsOver, has_succeeded, is_success}
 use Rattle.history_laws.proofs.LeavingLaws.{own_fewer}
 use Rattle.history_laws.proofs.SpareLaws.{IsBareWait, IsBareWait-fewer}
 use Rattle.history_laws.proofs.SpareOwn.{IsBareWait-calls}
-use Rattle.history_laws.proofs.WaitRuns.{AreFine, Differ, bare-answered, bare-onward, fine-answered, fine-any, fine-calls, fine-more, fine-taken_up, granted-taken_up, held_other, new-call, well-new, well-stays}
+use Rattle.history_laws.proofs.WaitRuns.{AreFine, bare-answered, bare-onward, fine-answered, fine-any, fine-calls, fine-more, fine-taken_up, granted-taken_up, held_other, well-new, well-stays}
+use Rattle.history_laws.proofs.TurnByTurn.{Differ, Parts, from-keeps, new-call, own-may, parts, settled-keeps}
 
 -- ---- ends are only added
 
@@ -61,7 +61,7 @@ extends-tried v turn pending (Done w reply) extends = AddsEnds-next extends (one
 extends-tried v turn pending (Stay w interim) extends = extends
 extends-tried v turn pending (Hold w blockers interim) extends = extends
 
-extends-taken_up : (s : Settling) (entry : ℕ × Pending) → MaySettle s.volume → AddsEnds s.volume.ended (taken_up s entry).volume.ended
+pub extends-taken_up : (s : Settling) (entry : ℕ × Pending) → MaySettle s.volume → AddsEnds s.volume.ended (taken_up s entry).volume.ended
 extends-taken_up s entry may = elim (cases_Bool (is_held entry.1)) [
   | inr waits ↦ rw waits (extends-come s entry.1 entry.1.call.what)
   | inl held ↦ rw held (elim (cases_Bool (starves s.starved entry.1)) [
@@ -71,7 +71,7 @@ extends-taken_up s entry may = elim (cases_Bool (is_held entry.1)) [
   ])
 ]
 
-extends-answered : (v : Volume) (call : Call) (turn : ℕ) (outcome : Outcome) → TriedTo v turn call.what outcome → AddsEnds v.ended (answered call turn outcome).ended
+pub extends-answered : (v : Volume) (call : Call) (turn : ℕ) (outcome : Outcome) → TriedTo v turn call.what outcome → AddsEnds v.ended (answered call turn outcome).ended
 extends-answered v call turn outcome tried =
     AddsEnds-next (tried-begins v turn call.what outcome tried) (record { more = own_end call outcome; is = answered-ended call turn outcome })
 
@@ -143,15 +143,6 @@ module _ (who number awaited : ℕ) where
         ];
       }
 
-  waited-steps : (most : ℕ) (s : Settling) → MaySettle s.volume → IsAwaited s.volume → IsAwaited (repeated settle_step most s).volume
-  waited-steps zero s may waited = waited
-  waited-steps (suc more) s may waited = elim (option_cases (next_ready s.volume)) [
-    | inl none ↦ rw none waited
-    | inr some ↦ (let next : IsNext s.volume some.0 = next_ready-is s.volume some.0 some.1 in
-        let stepped : Steps s.volume (taken_up s some.0).volume = Steps-taken_up s some.0 may next in
-        rw some.1 (waited-steps more (taken_up s some.0) stepped.may (waited-taken_up s some.0 may waited next)))
-  ]
-
   waited-stalled : (v : Volume) → IsAwaited v → IsAwaited (with_stalled v)
   waited-stalled v waited = elim (cases_Bool (all_wait v)) [
     | inl all ↦ rw all (record {
@@ -166,8 +157,7 @@ module _ (who number awaited : ℕ) where
   ]
 
   waited-settled : (v : Volume) (call : Call) (starved : List CallId) → MaySettle (own_tried v call) → IsAwaited (own_tried v call) → IsAwaited (settlement v call starved).volume
-  waited-settled v call starved may own =
-      waited-stalled (taken_up_all (own_tried v call) starved).volume (waited-steps (length (own_tried v call).pending) (record { volume = own_tried v call; starved = starved; taken = [] }) may own)
+  waited-settled v call starved may own = settled-keeps IsAwaited (λ s entry may next waited. waited-taken_up s entry may waited next) v call starved may (waited-stalled (taken_up_all (own_tried v call) starved).volume) own
 
   -- ---- a turn of another call
 
@@ -176,8 +166,7 @@ module _ (who number awaited : ℕ) where
   waited-turn v call starved may none waited other =
       let outcome : Outcome = try v call (turn_number v) in
       let tried : TriedTo v (turn_number v) call.what outcome = try-keeps v call (turn_number v) may.take_up.may.oplocks in
-      let adds = Adds-answered v call outcome may none tried in
-      waited-settled v call starved adds.may.take_up.may (record {
+      waited-settled v call starved (own-may v call may none) (record {
         bare = bare-answered who number unsuccessful v call outcome may waited.bare other tried;
         only = (let fewer = own_fewer v call (turn_number v) (λ c. (c.client == who && c.number == number) && not (is_wait_for awaited c.what)) may.take_up.may.oplocks (rw other refl) in let none = waited.only in omega arith);
         so = elim waited.so [
@@ -241,62 +230,45 @@ module _ (who number awaited : ℕ) where
         ]))
       ]
 
-  -- ---- a whole run
+  -- ---- the turns behind it
 
-  waited-later : (later : List HistoryEntry) (r s : Run) → MayTurn r.volume → Differ who number unsuccessful r later → times who number r.volume ≡ 1 → IsAwaited r.volume → steps turn_on r later ≡ Some s → IsAwaited s.volume
-  waited-later [] r s may differ there waited is = subst (λ (s : Run). IsAwaited s.volume) (some_equal r s is) waited
-  waited-later (entry ∷ later) r s may differ there waited is = elim (option_cases (turn r.volume entry.call entry.starved)) [
-    | inl none ↦ (let impossible : None ≡ Some s = rw none at is in cc)
-    | inr some ↦ (let new = new-call who number unsuccessful r entry later differ in
-        let turns : Turns r.volume entry.call some.0.volume = turn-turns r.volume entry.call entry.starved some.0 may new some.1 in
-        let made_turn : turn_on r entry ≡ Some (with_turn r some.0) = ap (λ (found : Option Turned). option_map (with_turn r) found) some.1 in
-        let same : (settlement r.volume entry.call entry.starved).volume ≡ some.0.volume = sym (turn_on-settled r entry (with_turn r some.0) made_turn) in
-        let after : IsAwaited some.0.volume = subst IsAwaited same (waited-turn r.volume entry.call entry.starved may new waited other) in
-        waited-later later (with_turn r some.0) s turns.may (λ client other. (let one = turns.times client other in let few = differ client other in omega arith))
-        (let one = turns.times who number in let same_times : times who number some.0.volume ≡ times who number r.volume + 0 = rw other at one in omega arith)
-        after (rw some.1 at is))
-  ]
+  record AwaitedOn (v : Volume) (later : List HistoryEntry) : Type 0 where
+    there : times who number v ≡ 1
+    waited : IsAwaited v
+
+  waited-on : (v : Volume) (entry : HistoryEntry) (later : List HistoryEntry) → MayTurn v → Differ v (entry ∷ later) → Turns v entry.call (settlement v entry.call entry.starved).volume → AwaitedOn v (entry ∷ later)
+      → AwaitedOn (settlement v entry.call entry.starved).volume later
+  waited-on v entry later may differ turns on = record {
+    there = (let one = turns.times who number in let same_times : times who number (settlement v entry.call entry.starved).volume ≡ times who number v + 0 = rw other at one in let there = on.there in omega arith);
+    waited = waited-turn v entry.call entry.starved may (new-call v entry later differ) on.waited other;
+  }
     where
       other : (entry.call.client == who && entry.call.number == number) ≡ false
       other = elim (cases_Bool (is_entry_of who number entry)) [
         | inr isnt ↦ isnt
-        | inl its ↦ (let few = differ who number in let two : times who number r.volume + (1 + how_many (is_entry_of who number) later) ≤ 1 = rw its at few in absurd (omega arith))
+        | inl its ↦ (let few = differ who number in let two : times who number v + (1 + how_many (is_entry_of who number) later) ≤ 1 = rw its at few in let there = on.there in absurd (omega arith))
       ]
 
   waited-from : (entry : HistoryEntry) (later : List HistoryEntry) (r s : Run) → entry.call.client ≡ who → entry.call.number ≡ number → entry.call.what ≡ WaitFor awaited
-      → MayTurn r.volume → Differ who number unsuccessful r (entry ∷ later) → steps turn_on r (entry ∷ later) ≡ Some s → IsAwaited s.volume
-  waited-from entry later r s client call is may differ runs = elim (option_cases (turn r.volume entry.call entry.starved)) [
-    | inl none ↦ (let impossible : None ≡ Some s = rw none at runs in cc)
-    | inr some ↦ (let new : times entry.call.client entry.call.number r.volume ≡ 0 = new-call who number unsuccessful r entry later differ in
-        let none : times who number r.volume ≡ 0 = rw (client, call) at new in
-        let v : Volume = r.volume in
-        let tried : TriedTo v (turn_number v) entry.call.what (try v entry.call (turn_number v)) = try-keeps v entry.call (turn_number v) may.take_up.may.oplocks in
-        let adds = Adds-answered v entry.call (try v entry.call (turn_number v)) may new tried in
-        let own : IsAwaited (own_tried v entry.call) = waited-wait v entry.call is client may none in
-        let turns : Turns v entry.call some.0.volume = turn-turns v entry.call entry.starved some.0 may new some.1 in
-        let made_turn : turn_on r entry ≡ Some (with_turn r some.0) = ap (λ (found : Option Turned). option_map (with_turn r) found) some.1 in
-        let same : (settlement v entry.call entry.starved).volume ≡ some.0.volume = sym (turn_on-settled r entry (with_turn r some.0) made_turn) in
-        waited-later later (with_turn r some.0) s turns.may (λ client other. (let one = turns.times client other in let few = differ client other in omega arith))
-        (let one = turns.times who number in let its : is_same entry.call.client entry.call.number who number ≡ true = rw (client, call) (is_same-refl who number) in
-        let there : times who number some.0.volume ≡ times who number v + 1 = rw its at one in omega arith)
-        (subst IsAwaited same (waited-settled v entry.call entry.starved adds.may.take_up.may own)) (rw some.1 at runs))
-  ]
+      → MayTurn r.volume → Differ r.volume (entry ∷ later) → steps turn_on r (entry ∷ later) ≡ Some s → IsAwaited s.volume
+  waited-from entry later r s client call is may differ runs = AwaitedOn.waited (from-keeps AwaitedOn waited-on entry later r s may differ made runs)
+    where
+      new : times who number r.volume ≡ 0
+      new = (let none : times entry.call.client entry.call.number r.volume ≡ 0 = new-call r.volume entry later differ in rw (client, call) at none)
 
-  waited-run : (front : List HistoryEntry) (entry : HistoryEntry) (later : List HistoryEntry) (r s : Run) → entry.call.client ≡ who → entry.call.number ≡ number → entry.call.what ≡ WaitFor awaited
-      → MayTurn r.volume → Differ who number unsuccessful r (front ++ entry ∷ later) → steps turn_on r (front ++ entry ∷ later) ≡ Some s → IsAwaited s.volume
-  waited-run [] entry later r s client call is may differ runs = waited-from entry later r s client call is may differ runs
-  waited-run (one ∷ front) entry later r s client call is may differ runs = elim (option_cases (turn r.volume one.call one.starved)) [
-    | inl none ↦ (let impossible : None ≡ Some s = rw none at runs in cc)
-    | inr some ↦ (let new = new-call who number unsuccessful r one (front ++ entry ∷ later) differ in
-        let turns : Turns r.volume one.call some.0.volume = turn-turns r.volume one.call one.starved some.0 may new some.1 in
-        waited-run front entry later (with_turn r some.0) s client call is turns.may (λ c n. (let first = turns.times c n in let few = differ c n in omega arith)) (rw some.1 at runs))
-  ]
+      made : Turns r.volume entry.call (settlement r.volume entry.call entry.starved).volume → AwaitedOn (settlement r.volume entry.call entry.starved).volume later
+      made turns = record {
+        there = (let one = turns.times who number in let its : is_same entry.call.client entry.call.number who number ≡ true = rw (client, call) (is_same-refl who number) in
+            let there : times who number (settlement r.volume entry.call entry.starved).volume ≡ times who number r.volume + 1 = rw its at one in let none = new in omega arith);
+        waited = waited-settled r.volume entry.call entry.starved (own-may r.volume entry.call may (new-call r.volume entry later differ)) (waited-wait r.volume entry.call is client may new);
+      }
 
 -- what a wait has kept once its turn was made
 waited-run_to : (setup : Setup) (front later : List HistoryEntry) (entry : HistoryEntry) (awaited : ℕ) (r : Run) → CallsDiffer (front ++ entry ∷ later) → run setup (front ++ entry ∷ later) ≡ Some r
     → entry.call.what ≡ WaitFor awaited → IsAwaited entry.call.client entry.call.number awaited r.volume
 waited-run_to setup front later entry awaited r differ runs is =
-    waited-run entry.call.client entry.call.number awaited front entry later (begun setup) r refl refl is (MayTurn-fresh setup) (λ c n. (let few = differ c n in omega arith)) runs
+    let at : Parts setup front (entry ∷ later) r = parts setup front (entry ∷ later) r differ runs in
+    waited-from entry.call.client entry.call.number awaited entry later at.at r refl refl is at.may at.differ at.goes
 
 -- a wait that has ended with SUCCESS has its call ended
 pub succeeded-ended : (setup : Setup) (front later : List HistoryEntry) (entry : HistoryEntry) (awaited : ℕ) (r : Run) → CallsDiffer (front ++ entry ∷ later) → run setup (front ++ entry ∷ later) ≡ Some r

@@ -5,3 +5,4 @@ pub mod Races
 pub mod WaitEnds
 pub mod GoesOn
 pub mod Releasing
+pub mod Holding

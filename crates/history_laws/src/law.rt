@@ -14,10 +14,11 @@ ghost use Rattle.fsa_model.specs.Text.{shows_no_memory, text};
 ghost use Rattle.fsa_model.specs.Turn.{Turned, try, turn};
 ghost use Rattle.fsa_model.specs.Volume.{Volume};
 ghost use Rattle.fsa_model.specs.Waiting.{has_ended, is_wait, waits};
+ghost use Rattle.history_laws.specs.Holding.{HeldStay};
 ghost use Rattle.history_laws.specs.Named.{IsReadScript};
 ghost use Rattle.history_laws.specs.Races.{AllComeAfterWaits, Begun, NoneMadeWaiting, Whole};
-ghost use Rattle.history_laws.specs.Releasing.{OthersReleaseNone};
-ghost use Rattle.history_laws.specs.WaitEnds.{IsOver, cancels_in, ends_otherwise, has_succeeded, is_wait_end, leaves_in};
+ghost use Rattle.history_laws.specs.Releasing.{HoldersRelease, OthersReleaseNone};
+ghost use Rattle.history_laws.specs.WaitEnds.{IsOver, StallsExactly, cancels_in, ends_otherwise, has_succeeded, is_wait_end, leaves_in};
 ghost use Rattle.fsa_model.specs.Starving.{TriesPlain, starved_of};
 
 /// No try ends a call, its own or another, with the status NoMemory: only a settlement does.
@@ -65,12 +66,14 @@ pub fn calls_made_side_by_side_differ()
     ensures whole { (script : Script) (history : List HistoryEntry) → Whole script history → Begun script history }
 {}
 
-/// A wait for a call ends SUCCESS, STALLED or INVALID_PARAMETER; INVALID_HANDLE only where its client had left
-/// before, and CANCELLED only where its client has cancelled it or left since. It never ends NO_MEMORY, and its
-/// reply has no body.
+/// In a history that makes no call twice a wait for a call ends SUCCESS, STALLED or INVALID_PARAMETER; INVALID_HANDLE only
+/// where its client had left before, and CANCELLED only where its client has cancelled it or left since. It never ends
+/// NO_MEMORY, and its reply has no body. Once all that is ready has been taken up in a turn, all pending waits end STALLED
+/// where every client that hasn't left waits; no wait ends so otherwise.
 pub fn waits_end_in_few_ways()
     ensures ends { (setup : Setup) (front later : List HistoryEntry) (entry : HistoryEntry) (r : Run) → CallsDiffer (front ++ entry ∷ later) → run setup (front ++ entry ∷ later) ≡ Some r → is_wait entry.call.what ≡ true
         → ends_otherwise (is_wait_end (leaves_in entry.call.client front) (cancels_in entry.call.client entry.call.number later)) entry.call.client entry.call.number r.volume ≡ false }
+    ensures stalled { (setup : Setup) (history : List HistoryEntry) → CallsDiffer history → StallsExactly setup history }
 {}
 
 /// A schedule makes no call while its client waits.
@@ -90,9 +93,18 @@ pub fn calls_come_after_waits()
     ensures free { (script : Script) (history : List HistoryEntry) → NoneMadeWaiting script history → CallsDiffer history → AllComeAfterWaits script.setup history }
 {}
 
-/// In a history that makes no call twice no break and no lock ends in the turn of a call that is no acknowledgement,
-/// unlock, close, leaving or cancellation, and no held call is taken up in it. That a cancellation ends none either is
-/// said by no clause.
-pub fn few_calls_release_held_ones()
+/// In a history that makes no call twice the break of a handle's oplock ends exactly where that handle acknowledges it or is
+/// closed, and a lock exactly where its handle unlocks just its range (of several locks of the handle on that range the one
+/// granted first goes) or is closed; a client that leaves closes all its handles. A held call is taken up only in the turn of
+/// such a call, by which something that it waited for has ended. So no call of another kind, a cancellation for one, ends a
+/// break or a lock, or releases a held call.
+pub fn only_holders_release_held_calls()
+    ensures holders { (setup : Setup) (history : List HistoryEntry) → CallsDiffer history → HoldersRelease setup history }
     ensures others { (setup : Setup) (history : List HistoryEntry) → CallsDiffer history → OthersReleaseNone setup history }
+{}
+
+/// In a history that makes no call twice a held call stays pending, as it is, until it is taken up, unless its client calls it
+/// off: it cancels the call, closes the handle that the call names, or leaves.
+pub fn held_calls_stay()
+    ensures stay { (setup : Setup) (history : List HistoryEntry) → CallsDiffer history → HeldStay setup history }
 {}

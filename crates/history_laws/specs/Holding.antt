@@ -1,0 +1,48 @@
+-- How long a held call stays pending.
+use Rattle.std.specs.List.{list_any}
+use Rattle.std.specs.Option.{option_map_or}
+use Rattle.std.specs.Prelude.{◌≡◌, ◌==◌, ◌&&◌, not, ℕ, Bool, true, false, List, ◌∷◌, ◌++◌, Some}
+use Rattle.fsa_types.specs.Rows.{row_of}
+use Rattle.fsa_types.specs.declared.request.Call.{Call}
+use Rattle.fsa_types.specs.declared.request.CallId.{CallId}
+use Rattle.fsa_types.specs.declared.request.Request.TheVariants.{Cancel, Close}
+use Rattle.fsa_types.specs.declared.request.What.{What}
+use Rattle.fsa_types.specs.declared.request.What.TheVariants.{Ask, Leave}
+use Rattle.fsa_model.specs.Close.{is_call_on}
+use Rattle.fsa_model.specs.Edits.{is_call}
+use Rattle.fsa_model.specs.Engine.{own_tried}
+use Rattle.fsa_model.specs.History.{HistoryEntry, Run, run}
+use Rattle.fsa_model.specs.Lookups.{handle_of}
+use Rattle.fsa_model.specs.Reports.{settling_after}
+use Rattle.fsa_model.specs.Setup.{Setup}
+use Rattle.fsa_model.specs.Turn.{settlement}
+use Rattle.fsa_model.specs.Volume.{Pending, Volume}
+use Rattle.fsa_model.specs.Waiting.{blocker_lives, is_blocked, is_held}
+
+-- what the client asks calls off the pending call, which is its own: it is a cancellation of that call, a close of the handle
+-- that the call names, or the client's leaving
+abbrev pub asks_off : Volume → ℕ → What → Pending → Bool
+asks_off v client (Ask (Cancel number)) pending = is_call client number pending
+asks_off v client (Ask (Close handle)) pending =
+    option_map_or (λ id. option_map_or (λ row. is_call_on row pending) (row_of v.handles id) false) (handle_of v client handle) false
+asks_off v client Leave pending = pending.call.client == client
+asks_off v client _ pending = false
+
+-- the call calls it off
+abbrev pub calls_off : Volume → Call → Pending → Bool
+calls_off v call pending = asks_off v call.client call.what pending
+
+-- each held call stays pending in the try of the turn's call, with the same turn and blockers, unless that calls it off; and
+-- one that waits, after any step of the settlement, for a break or a lock that lives then, stays so to the turn's end. It's
+-- said by tests: where some such entry passes a test, an entry that passes it is there afterwards
+pub record KeepsHeld (v : Volume) (call : Call) (starved : List CallId) : Type 0 where
+  pub tried : (test : ℕ × Pending → Bool) → list_any (λ entry. (is_held entry.1 && not (calls_off v call entry.1)) && test entry) v.pending ≡ true
+      → list_any (λ entry. is_held entry.1 && test entry) (own_tried v call).pending ≡ true
+  pub settled : (steps : ℕ) (test : ℕ × Pending → Bool)
+      → list_any (λ entry. (is_held entry.1 && is_blocked (blocker_lives (settling_after v call starved steps).volume) entry.1) && test entry) (settling_after v call starved steps).volume.pending ≡ true
+      → list_any (λ entry. is_held entry.1 && test entry) (settlement v call starved).volume.pending ≡ true
+
+-- so it is in each turn of a history
+abbrev pub HeldStay : Setup → List HistoryEntry → Type 0
+HeldStay setup history = (front later : List HistoryEntry) (entry : HistoryEntry) (r : Run) → history ≡ front ++ entry ∷ later → run setup front ≡ Some r
+    → KeepsHeld r.volume entry.call entry.starved
