@@ -1,5 +1,5 @@
 -- What holds throughout a history that makes no call twice, and none while its client waits.
-use Rattle.std.proofs.Common.{◌≡◌, Err, OnErr, Result, List, [], ◌∷◌, ◌++◌, append_assoc, subst, sym, ◌∙◌}
+use Rattle.std.proofs.Common.{◌≡◌, Err, OnErr, Result, List, [], ◌∷◌, ◌++◌, subst}
 use Rattle.fsa_model.specs.Engine.{CallsDiffer}
 use Rattle.fsa_model.specs.History.{HistoryEntry}
 use Rattle.fsa_model.specs.Schedule.{Scheduled}

@@ -1,5 +1,5 @@
 -- What a pass knows while it makes no call.
-use Rattle.std.proofs.Common.{◌≡◌, ℕ, ◌+◌, ◌≤◌, List, ◌++◌, refl, ap, sym, ◌∙◌, arith, append_assoc, append-nil, []}
+use Rattle.std.proofs.Common.{◌≡◌, ℕ, ◌+◌, List, ◌++◌, refl, ap, sym, ◌∙◌, arith, append_assoc, append-nil, []}
 use Rattle.fsa_model.specs.History.{HistoryEntry}
 use Rattle.history_lock.specs.History.{Begins}
 use Rattle.history_lock.specs.Passes.{OnlyLoaded, Refreshed}

@@ -1,27 +1,24 @@
 -- How the wait ends that is the last call of its client.
-use Rattle.std.proofs.Common.{◌≡◌, ℕ, ◌+◌, ◌≤◌, Bool, true, false, not, List, [], ◌∷◌, ◌++◌, length, refl, ap, sym, subst, ◌∙◌, arith, inl, inr, Option, Some, None, IsSome}
+use Rattle.std.proofs.Common.{◌≡◌, ℕ, ◌+◌, Bool, true, false, not, List, [], ◌∷◌, ◌++◌, refl, ap, sym, subst, ◌∙◌, inl, inr, Option, Some, None, IsSome}
 use Rattle.std.specs.List.{list_any}
-use Rattle.std.specs.Prelude.{◌==◌, ◌&&◌, ◌||◌, cond, find, nat_le, nat_lt, option_map}
-use Rattle.std.proofs.lemmas.Bool.{cases_Bool, eq-eqb}
+use Rattle.std.specs.Prelude.{◌==◌, ◌&&◌, ◌||◌, find}
+use Rattle.std.proofs.lemmas.Bool.{cases_Bool}
 use Rattle.fsa_types.specs.declared.reply.EndOf.{EndOf}
 use Rattle.fsa_types.specs.declared.reply.Body.{Body}
 use Rattle.fsa_types.specs.declared.reply.Body.TheVariants.{Got, Packed, Stopped}
 use Rattle.fsa_types.specs.declared.reply.Reply.{Reply}
 use Rattle.fsa_types.specs.declared.request.Call.{Call}
-use Rattle.fsa_types.specs.declared.request.What.{What}
 use Rattle.fsa_types.specs.declared.request.What.TheVariants.{WaitFor}
-use Rattle.fsa_model.specs.Engine.{CallsDiffer, is_entry_of}
+use Rattle.fsa_model.specs.Engine.{CallsDiffer}
 use Rattle.fsa_model.specs.Frame.{is_leave}
 use Rattle.fsa_model.specs.History.{HistoryEntry, Run, run}
-use Rattle.fsa_model.specs.Once.{how_many, is_end}
-use Rattle.fsa_model.specs.Schedule.{calls_of}
+use Rattle.fsa_model.specs.Once.{is_end}
 use Rattle.fsa_model.specs.Setup.{Setup}
 use Rattle.fsa_model.specs.Waiting.{is_wait}
 use Rattle.fsa_model.proofs.CountLaws.{and_left, and_right}
 use Rattle.fsa_model.proofs.RowLaws.{any-weaker, find-any, option_cases}
 use Rattle.fsa_model.proofs.WaitLaws.{find-passes}
-use Rattle.fsa_machine.specs.MachineView.{CallsNumbered, calls_of_entries}
-use Rattle.fsa_model.specs.Ended.{ended_with_list, holds_list, reply_in}
+use Rattle.fsa_model.specs.Ended.{holds_list, reply_in}
 use Rattle.history_laws.specs.CallAnswers.{EndedWithList, HasEnded}
 use Rattle.history_laws.specs.WaitEnds.{cancels_in, ends_otherwise, gives_nothing, is_wait_end, leaves_in, wait_may_end}
 use Rattle.history_laws.proofs.WaitRuns.{waits-end}
