@@ -132,7 +132,7 @@ NoneLapsed-calls_ended v status_of test before once excludes none =
 
 -- ---- a handle closes
 
-find-filtered : {X : Type 0} (p keep : X → Bool) (xs : List X) (x : X) → find p xs ≡ Some x → keep x ≡ true → find p (filter keep xs) ≡ Some x
+pub find-filtered : {X : Type 0} (p keep : X → Bool) (xs : List X) (x : X) → find p xs ≡ Some x → keep x ≡ true → find p (filter keep xs) ≡ Some x
 find-filtered p keep [] x is stays = cc
 find-filtered p keep (y ∷ xs) x is stays = elim (cases_Bool (p y)) [
   | inl passes ↦ (let found : Some y ≡ Some x = rw passes at is in let same : y ≡ x = cc in let kept : keep y ≡ true = rw same stays in rw (kept, passes) found)
@@ -185,7 +185,7 @@ closed-oplocks v id handle =
     Untouched.oplocks (Untouched-next (Untouched-mark_on_close gone handle) (Untouched-swept (with_mark_on_close gone handle) handle))
     ∙ ap (λ (oplocks : List Oplock). filter (λ (o : Oplock). not (o.handle == id)) oplocks) (SameBlockers.oplocks (blockers-calls_ended closed_status (pending_by_turn (is_call_on handle) v) v))
 
-closed-handles : (v : Volume) (id : ℕ) (handle : Handle) → (with_closed v id handle).handles ≡ without_row v.handles id
+pub closed-handles : (v : Volume) (id : ℕ) (handle : Handle) → (with_closed v id handle).handles ≡ without_row v.handles id
 unfolding with_closed
 closed-handles v id handle =
     let ended : Volume = with_calls_ended closed_status (pending_by_turn (is_call_on handle) v) v in
@@ -599,7 +599,7 @@ handles-call_ended : (v : Volume) (turn : Option ℕ) (status : Status) → (wit
 handles-call_ended v None status = refl
 handles-call_ended v (Some turn) status = elim (option_cases (row_of v.pending turn)) [ inl none ↦ rw none refl | inr some ↦ rw some.1 refl ]
 
-handles-switched : (oplocks : List Oplock) (v : Volume) → (all_switched v oplocks).handles ≡ v.handles
+pub handles-switched : (oplocks : List Oplock) (v : Volume) → (all_switched v oplocks).handles ≡ v.handles
 handles-switched [] v = refl
 handles-switched (o ∷ oplocks) v = handles-switched oplocks (with_switched v o) ∙ handles-call_ended (without_oplock v o.handle) o.call OplockSwitchedToNewHandle
 

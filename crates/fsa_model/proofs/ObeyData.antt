@@ -31,7 +31,7 @@ use Rattle.fsa_model.specs.Lookups.{handle_of, bytes_of, largest_end, file_of_st
 use Rattle.fsa_model.specs.Outcome.{refused}
 use Rattle.fsa_model.specs.Read.{read_bytes, read_unlocked, read_range, read_stream, read_by, read_at, try_read}
 use Rattle.fsa_model.specs.SetEnd.{with_end_set, with_resized, set_end_grown, set_end_to, set_end_stream, set_end_by, set_end_at, try_set_end}
-use Rattle.fsa_model.specs.Starving.{is_no_memory}
+use Rattle.fsa_model.specs.Starving.{only_settlements_give}
 use Rattle.fsa_model.specs.Volume.{Handle, Lock, Volume}
 use Rattle.fsa_model.specs.Waiting.{blocker_lives}
 use Rattle.fsa_model.specs.Write.{with_file_write_noted, with_stream_write_noted, with_write_noted, lengthens, with_written, write_bytes, write_grown, write_unlocked, write_range, write_at_place, can_write, write_stream, write_by, write_at, try_write}
@@ -44,13 +44,13 @@ use Rattle.fsa_model.proofs.TryLaws.{Leaves, Watches-equal, is_given}
 
 -- ---- growth
 
-fault-plain : (test passes full : Bool) (why : Status) → (if test then None else if passes then Some QuotaExceeded else if full then Some DiskFull else None) ≡ Some why → is_no_memory why ≡ false
+fault-plain : (test passes full : Bool) (why : Status) → (if test then None else if passes then Some QuotaExceeded else if full then Some DiskFull else None) ≡ Some why → only_settlements_give why ≡ false
 fault-plain true passes full why is = cc
 fault-plain false true full why is = (let same : QuotaExceeded ≡ why = cc in rw (sym same) refl)
 fault-plain false false true why is = (let same : DiskFull ≡ why = cc in rw (sym same) refl)
 fault-plain false false false why is = cc
 
-growth_fault-plain : (v : Volume) (stream bytes : ℕ) (why : Status) → growth_fault v stream bytes ≡ Some why → is_no_memory why ≡ false
+growth_fault-plain : (v : Volume) (stream bytes : ℕ) (why : Status) → growth_fault v stream bytes ≡ Some why → only_settlements_give why ≡ false
 growth_fault-plain v stream bytes why is = fault-plain _ _ _ why is
 
 -- ---- reads

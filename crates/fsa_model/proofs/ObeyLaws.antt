@@ -12,13 +12,13 @@ use Rattle.fsa_types.specs.declared.reply.Reply.{Reply}
 use Rattle.fsa_types.specs.declared.request.Call.{Call}
 use Rattle.fsa_types.specs.declared.request.What.{What}
 use Rattle.fsa_types.specs.declared.status.Status.{Status}
-use Rattle.fsa_types.specs.declared.status.Status.TheVariants.{NoMemory}
+use Rattle.fsa_types.specs.declared.status.Status.TheVariants.{NoMemory, Stalled}
 use Rattle.fsa_model.specs.Breaks.{with_breaks}
 use Rattle.fsa_model.specs.Changes.{with_change_noted}
 use Rattle.fsa_model.specs.Edits.{with_basic}
 use Rattle.fsa_model.specs.Frame.{is_failure, FitsReply, KeepsFrame, InFrame, PointsFit}
 use Rattle.fsa_model.specs.Outcome.{Outcome, Done, Stay, Hold, ends_with, refused}
-use Rattle.fsa_model.specs.Starving.{is_no_memory, TriesPlain}
+use Rattle.fsa_model.specs.Starving.{only_settlements_give, TriesPlain}
 use Rattle.fsa_model.specs.Turn.{volume_after}
 use Rattle.fsa_model.specs.Volume.{File, Volume}
 use Rattle.fsa_model.specs.Waits.{waits_for, held_by}
@@ -125,7 +125,7 @@ SparesTo what v (Stay w interim) = ⊥
 SparesTo what v (Hold w blockers interim) = may_be_held what ≡ true
 
 -- a try of this call, from this volume, that comes to this outcome keeps what every such try has to keep: of what
--- is waited for, of numbers, of its frame, of calls that find no memory, and of watches
+-- is waited for, of numbers, of its frame, of calls that find no memory or are stalled, and of watches
 pub record Obeys (call : Call) (v : Volume) (outcome : Outcome) : Type 0 where
   pub tries : HasOneOplockEach v → Tries Leaves v outcome
   pub spares : SparesTo call.what v outcome
@@ -138,12 +138,13 @@ pub record CanBeHeld (call : Call) : Type 0 where
   pub never : NeverStays call
   pub held : may_be_held call.what ≡ true
 
--- what is no failure found memory
-plain_success : (status : Status) → is_failure status ≡ false → is_no_memory status ≡ false
+-- what is no failure found memory, and isn't stalled
+plain_success : (status : Status) → is_failure status ≡ false → only_settlements_give status ≡ false
 plain_success NoMemory success = success
+plain_success Stalled success = success
 plain_success _ success = refl
 
-pub Obeys-refused : (call : Call) (v : Volume) (status : Status) → is_no_memory status ≡ false → Obeys call v (refused v status)
+pub Obeys-refused : (call : Call) (v : Volume) (status : Status) → only_settlements_give status ≡ false → Obeys call v (refused v status)
 Obeys-refused call v status plain = record {
   tries = λ one. Tries-refused v status;
   spares = λ never. SameNumbers-same v;
@@ -153,7 +154,7 @@ Obeys-refused call v status plain = record {
 }
 
 -- it changes nothing and replies
-pub Obeys-replies : (call : Call) (v : Volume) (reply : Reply) → FitsReply call.what reply → is_no_memory reply.status ≡ false → Obeys call v (Done v reply)
+pub Obeys-replies : (call : Call) (v : Volume) (reply : Reply) → FitsReply call.what reply → only_settlements_give reply.status ≡ false → Obeys call v (Done v reply)
 Obeys-replies call v reply fits plain = record {
   tries = λ one. Tries-done v reply (Leaves-same v) (FewNumbers-same (SameNumbers-same v));
   spares = λ never. SameNumbers-same v;
@@ -163,7 +164,7 @@ Obeys-replies call v reply fits plain = record {
 }
 
 -- where the reply depends on the files
-pub Obeys-replies_fit : (call : Call) (v : Volume) (reply : Reply) → (PointsFit v → FitsReply call.what reply) → is_no_memory reply.status ≡ false → Obeys call v (Done v reply)
+pub Obeys-replies_fit : (call : Call) (v : Volume) (reply : Reply) → (PointsFit v → FitsReply call.what reply) → only_settlements_give reply.status ≡ false → Obeys call v (Done v reply)
 Obeys-replies_fit call v reply fits plain = record {
   tries = λ one. Tries-done v reply (Leaves-same v) (FewNumbers-same (SameNumbers-same v));
   spares = λ never. SameNumbers-same v;

@@ -20,7 +20,7 @@ use Rattle.fsa_model.specs.Edits.{with_cursor}
 use Rattle.fsa_model.specs.Lookups.{file_of_link, handle_of, is_opened_by}
 use Rattle.fsa_model.specs.Outcome.{ends_with}
 use Rattle.fsa_model.specs.QueryDir.{DirectoryEntry, begun_enumeration, entry_rows, how_many_fit, is_start, left_to_list, list_entries, none_left_status, place_after, query_dir_at, query_dir_by, query_dir_in, try_query_dir}
-use Rattle.fsa_model.specs.Starving.{is_no_memory}
+use Rattle.fsa_model.specs.Starving.{only_settlements_give}
 use Rattle.fsa_model.specs.Volume.{Cursor, Handle, Volume}
 use Rattle.fsa_model.proofs.FrameLaws.{FailsTo-cursor, KeepsFrame-cursor}
 use Rattle.fsa_model.proofs.ObeyLaws.{Obeys, Obeys-if, Obeys-option, Obeys-refused}
@@ -87,7 +87,7 @@ fits-any kind rows room none_there = elim (fits-longest kind rows room (length r
   | inr fits ↦ fits
 ]
 
-none_left-plain : (cursor : Cursor) → is_no_memory (none_left_status cursor) ≡ false
+none_left-plain : (cursor : Cursor) → only_settlements_give (none_left_status cursor) ≡ false
 none_left-plain cursor = elim (cases_Bool (is_start cursor)) [ inl is ↦ rw is refl | inr isnt ↦ rw isnt refl ]
 
 list_entries-obeys : (v : Volume) (client number handle : ℕ) (kind asked_kind : DirKind) (asked : List ℕ) (restart : Bool) (id : ℕ) (expression : List ℕ) (cursor : Cursor) (entries : List DirectoryEntry) (room : ℕ)
@@ -115,7 +115,7 @@ list_entries-obeys v client number handle kind asked_kind asked restart id expre
     after : ℕ → Cursor
     after most = place_after cursor entries (how_many_fit v kind entries most)
 
-    fails : (why : Status) → is_no_memory why ≡ false → Obeys call v (ends_with (with_cursor v id expression cursor) why)
+    fails : (why : Status) → only_settlements_give why ≡ false → Obeys call v (ends_with (with_cursor v id expression cursor) why)
     fails why plain = record {
       tries = λ one. Tries-done _ _ (Leaves-cursor v id expression cursor) (FewNumbers-same (SameNumbers-cursor v id expression cursor));
       spares = λ never. SameNumbers-cursor v id expression cursor;

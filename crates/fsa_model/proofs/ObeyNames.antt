@@ -23,7 +23,7 @@ use Rattle.fsa_model.specs.Outcome.{ends_with, refused}
 use Rattle.fsa_model.specs.Rename.{is_elsewhere, keeps_name, lacks_entry_right, naming_by, rename_at, rename_below_closed, rename_by, rename_directory, rename_done, rename_free, rename_into, rename_link, rename_named, rename_over, rename_over_broken, rename_over_closed, rename_walked, replaced_link, try_rename, with_link_renamed, with_move_noted, with_renamed}
 use Rattle.fsa_model.specs.Replacement.{Naming, is_any_open, is_no_name, new_name, replace_fault, with_link_replaced, with_name_breaks, with_replaced}
 use Rattle.fsa_model.specs.SetDisposition.{delete_by, delete_marked, marked_handles, set_disposition_at, set_disposition_by, try_set_disposition, with_mark}
-use Rattle.fsa_model.specs.Starving.{is_no_memory}
+use Rattle.fsa_model.specs.Starving.{only_settlements_give}
 use Rattle.fsa_model.specs.Volume.{Handle, Link, Volume}
 use Rattle.fsa_model.specs.Walk.{Walked, Reached, Barred, Diverted, walk}
 use Rattle.fsa_model.proofs.FrameLaws.{AddsNothing-without_file, EndsPending-equal}
@@ -45,11 +45,11 @@ Calm-replaced : (v : Volume) (replaced : Option ℕ) → Calm v (with_replaced v
 Calm-replaced v replaced =
     Calm-option replaced (λ link. with_link_replaced v link) v (λ link. Calm-next (Calm-noted v link _ _ None) (Calm-without_link _ link)) (Calm-same v)
 
--- why a link isn't replaced is never want of memory
+-- why a link isn't replaced is never want of memory, nor that all clients wait
 fault-plain : (marked keeps directory moved readonly denied : Bool) (why : Status)
     → (if marked then Some DeletePending else if keeps then Some ObjectNameCollision else if directory then Some AccessDenied
     else if moved then Some AccessDenied else if readonly then Some AccessDenied else if denied then Some AccessDenied else None) ≡ Some why
-    → is_no_memory why ≡ false
+    → only_settlements_give why ≡ false
 fault-plain true keeps directory moved readonly denied why is = (let same : DeletePending ≡ why = cc in rw (sym same) refl)
 fault-plain false true directory moved readonly denied why is = (let same : ObjectNameCollision ≡ why = cc in rw (sym same) refl)
 fault-plain false false true moved readonly denied why is = (let same : AccessDenied ≡ why = cc in rw (sym same) refl)
@@ -58,7 +58,7 @@ fault-plain false false false false true denied why is = (let same : AccessDenie
 fault-plain false false false false false true why is = (let same : AccessDenied ≡ why = cc in rw (sym same) refl)
 fault-plain false false false false false false why is = cc
 
-replace_fault-plain : (v : Volume) (naming : Naming) (replaced : ℕ) (why : Status) → replace_fault v naming replaced ≡ Some why → is_no_memory why ≡ false
+replace_fault-plain : (v : Volume) (naming : Naming) (replaced : ℕ) (why : Status) → replace_fault v naming replaced ≡ Some why → only_settlements_give why ≡ false
 replace_fault-plain v naming replaced why is =
     fault-plain (is_link_marked v replaced) (not naming.replace) (is_directory v.files (linked_file v replaced)) (is_directory v.files naming.file) (is_readonly v (linked_file v replaced))
     (not (grants v (linked_file v replaced) naming.client DELETE)) why is

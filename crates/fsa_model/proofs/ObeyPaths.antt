@@ -14,7 +14,7 @@ use Rattle.fsa_model.specs.Frame.{most_reply_bytes, most_reply_units, PointsFit}
 use Rattle.fsa_model.specs.Lookups.{child_of, is_directory}
 use Rattle.fsa_model.specs.Open.{stop_status, stopped}
 use Rattle.fsa_model.specs.Sound.{PointFits}
-use Rattle.fsa_model.specs.Starving.{is_no_memory}
+use Rattle.fsa_model.specs.Starving.{only_settlements_give}
 use Rattle.fsa_model.specs.Volume.{File, Volume}
 use Rattle.fsa_model.specs.Walk.{Walked, Reached, Barred, Diverted, point_of, through, by_link, into, then_walk, walk_from}
 use Rattle.fsa_model.proofs.ObeyLaws.{Obeys, Obeys-option, Obeys-refused, Obeys-replies_fit}
@@ -44,10 +44,10 @@ length-rest_of path next =
 
 -- ---- the walk of a path
 
--- a walk that is barred isn't so for want of memory
+-- a walk that is barred isn't so for want of memory, nor since all clients wait
 abbrev pub BarsPlainly : Walked → Type 0
 BarsPlainly (Reached dir) = Unit {0}
-BarsPlainly (Barred why) = is_no_memory why ≡ false
+BarsPlainly (Barred why) = only_settlements_give why ≡ false
 BarsPlainly (Diverted file next) = Unit {0}
 
 then_walk-plain : (go_on : ℕ → Walked) (walked : Walked) → ((dir : ℕ) → BarsPlainly (go_on dir)) → BarsPlainly walked → BarsPlainly (then_walk go_on walked)
@@ -79,7 +79,7 @@ walk_from-plain v dir place (name ∷ more) = elim (cases_Bool (length more == 0
 
 -- ---- a reparse point
 
-stop_status-plain : (tag : ℕ) → is_no_memory (stop_status tag) ≡ false
+stop_status-plain : (tag : ℕ) → only_settlements_give (stop_status tag) ≡ false
 stop_status-plain tag = elim (cases_Bool (tag == 0xA000000C)) [ inl is ↦ rw is refl | inr isnt ↦ rw isnt refl ]
 
 -- what is there to be said of a point fits a reply

@@ -1,7 +1,9 @@
 -- Which ends a try adds: one law for each way in which a definition goes on, and one for each edit.
 use Rattle.std.proofs.Common.{◌≡◌, ℕ, Bool, true, false, List, [], ◌∷◌, ◌++◌, append-nil, append_assoc, refl, ap, sym, ◌∙◌, inl, inr, Option, Some, None}
+use Rattle.std.specs.List.{list_any}
 use Rattle.std.specs.Option.{option_map_or}
-use Rattle.std.specs.Prelude.{if◌then◌else◌}
+use Rattle.std.specs.Prelude.{◌||◌, if◌then◌else◌}
+use Rattle.std.proofs.lemmas.List.Folds.{list_any-append}
 use Rattle.fsa_types.specs.Oplocks.{Effect, Stays, Ends, Begins, Lowers, effect}
 use Rattle.fsa_types.specs.Rows.{row_of}
 use Rattle.fsa_types.specs.declared.oplock.Class.{Class}
@@ -20,7 +22,8 @@ use Rattle.fsa_model.specs.Volume.{Oplock, Volume}
 use Rattle.fsa_model.specs.Waits.{waits_for, held_by}
 use Rattle.fsa_model.proofs.BreakLaws.{broken}
 use Rattle.fsa_model.proofs.RowLaws.{option_cases}
-use Rattle.fsa_model.specs.Starving.{is_no_memory, starved_of, EndsPlain, EndsPlainly, TriesPlain}
+use Rattle.fsa_model.proofs.WaitLaws.{or_none}
+use Rattle.fsa_model.specs.Starving.{is_no_memory, is_stalled, only_settlements_give, starved_of, EndsPlain, EndsPlainly, TriesPlain}
 
 -- ---- lists of ends
 
@@ -33,6 +36,13 @@ starved_of-append (end ∷ front) back =
       | false ↦ starved_of-append front back
     ]
 
+-- where none ended with a status that only settlements give none found no memory
+pub starved_of-plain : (ends : List EndOf) → list_any (λ end. only_settlements_give end.reply.status) ends ≡ false → starved_of ends ≡ []
+starved_of-plain [] plain = refl
+starved_of-plain (end ∷ ends) plain =
+    let parts = or_none (only_settlements_give end.reply.status) (list_any (λ end. only_settlements_give end.reply.status) ends) plain in
+    rw ((or_none (is_no_memory end.reply.status) (is_stalled end.reply.status) parts.0).0) (starved_of-plain ends parts.1)
+
 -- ---- what is added
 
 -- nothing
@@ -43,11 +53,11 @@ pub EndsPlain-next : {u v w : Volume} → EndsPlain u v → EndsPlain v w → En
 EndsPlain-next {u} first second = record {
   more = first.more ++ second.more;
   is = second.is ∙ ap (λ (ended : List EndOf). ended ++ second.more) first.is ∙ append_assoc u.ended first.more second.more;
-  plain = starved_of-append first.more second.more ∙ ap (λ (ids : List CallId). ids ++ starved_of second.more) first.plain ∙ second.plain;
+  plain = list_any-append (λ (end : EndOf). only_settlements_give end.reply.status) first.more second.more ∙ ap (λ b. b || list_any (λ (end : EndOf). only_settlements_give end.reply.status) second.more) first.plain ∙ second.plain;
 }
 
 -- one end
-pub EndsPlain-end : {v w : Volume} (client number : ℕ) (reply : Reply) → EndsPlain v w → is_no_memory reply.status ≡ false → EndsPlain v (with_end w client number reply)
+pub EndsPlain-end : {v w : Volume} (client number : ℕ) (reply : Reply) → EndsPlain v w → only_settlements_give reply.status ≡ false → EndsPlain v (with_end w client number reply)
 EndsPlain-end {v} {w} client number reply before plain =
     EndsPlain-next before (record { more = record { client = client; number = number; reply = reply } ∷ []; is = refl; plain = rw plain refl })
 
@@ -94,16 +104,16 @@ EndsPlain-breaks v on kind acting key = EndsPlain-broken kind v (chosen v on act
 -- ---- how a try goes on
 
 -- it changes nothing and replies
-pub TriesPlain-replies : (v : Volume) (reply : Reply) → is_no_memory reply.status ≡ false → TriesPlain v (Done v reply)
+pub TriesPlain-replies : (v : Volume) (reply : Reply) → only_settlements_give reply.status ≡ false → TriesPlain v (Done v reply)
 TriesPlain-replies v reply plain = record { so = (EndsPlain-same refl, plain) }
 
-pub TriesPlain-refused : (v : Volume) (status : Status) → is_no_memory status ≡ false → TriesPlain v (refused v status)
+pub TriesPlain-refused : (v : Volume) (status : Status) → only_settlements_give status ≡ false → TriesPlain v (refused v status)
 TriesPlain-refused v status plain = record { so = (EndsPlain-same refl, plain) }
 
-pub TriesPlain-done : (v w : Volume) (reply : Reply) → EndsPlain v w → is_no_memory reply.status ≡ false → TriesPlain v (Done w reply)
+pub TriesPlain-done : (v w : Volume) (reply : Reply) → EndsPlain v w → only_settlements_give reply.status ≡ false → TriesPlain v (Done w reply)
 TriesPlain-done v w reply ends plain = record { so = (ends, plain) }
 
-pub TriesPlain-ends : (v w : Volume) (status : Status) → EndsPlain v w → is_no_memory status ≡ false → TriesPlain v (ends_with w status)
+pub TriesPlain-ends : (v w : Volume) (status : Status) → EndsPlain v w → only_settlements_give status ≡ false → TriesPlain v (ends_with w status)
 TriesPlain-ends v w status ends plain = record { so = (ends, plain) }
 
 pub TriesPlain-if : {v : Volume} (test : Bool) (one other : Outcome) → (test ≡ true → TriesPlain v one) → (test ≡ false → TriesPlain v other) → TriesPlain v (if test then one else other)

@@ -11,6 +11,7 @@ use Rattle.fsa_model.proofs.HeldLaws.{run-blocked, run-holds, run-settling_holds
 use Rattle.fsa_model.proofs.NoticeEnds.{run-watches_report}
 use Rattle.fsa_model.proofs.WaitEnds.{run-goes_on}
 use Rattle.history_laws.specs.Races.{NoneMadeWaiting, Whole}
+use Rattle.history_laws.proofs.CalledOff.{called_off-end}
 use Rattle.history_laws.proofs.HeldStay.{held-stay}
 use Rattle.history_laws.proofs.HoldersRelease.{holders-release, others-release_none}
 use Rattle.history_laws.proofs.ScheduledCalls.{Scheduled-free}
@@ -50,12 +51,13 @@ throughout script history free differ = record {
   makes_no_call_twice = differ;
   calls_come_after_waits = free-over script history free differ;
   waits_end_in_few_ways = ends_waits_in_few_ways script.setup history differ;
-  waits_stall_exactly = waits-stall script.setup history differ;
+  waits_stall_exactly = waits-stall script.setup history;
   each_call_ends_once = ends_each_once script.setup history differ;
   no_call_is_left_ready = leaves_none_ready script.setup history differ;
   some_client_goes_on = λ front later r is runs. run-goes_on script.setup front r runs;
   calls_are_held_by_living_blockers = holds_by_living_ones script.setup history differ;
   held_calls_stay = held-stay script.setup history differ;
+  called_off_calls_end = called_off-end script.setup history differ;
   a_held_call_has_a_living_blocker = keeps_held_blocked script.setup history differ;
   released_calls_are_tried_once = takes_up_released script.setup history differ;
   only_holders_release_held_calls = holders-release script.setup history differ;

@@ -12,7 +12,7 @@ use Rattle.fsa_model.specs.Script.{script_of}
 use Rattle.fsa_model.specs.Text.{shows_no_memory, text}
 use Rattle.fsa_model.specs.Waiting.{is_wait}
 use Rattle.fsa_model.specs.Watched.{WatchesReport}
-use Rattle.history_laws.specs.Holding.{HeldStay}
+use Rattle.history_laws.specs.Holding.{CalledOffEnd, HeldStay}
 use Rattle.history_laws.specs.Releasing.{HoldersRelease, OthersReleaseNone}
 use Rattle.history_laws.specs.Races.{AllComeAfterWaits, Begun, Whole}
 use Rattle.history_laws.specs.WaitEnds.{StallsExactly, cancels_in, ends_otherwise, is_wait_end, leaves_in}
@@ -58,13 +58,14 @@ TakesUpReleased setup history =
     (front later : List HistoryEntry) (entry : HistoryEntry) (r : Run) → history ≡ front ++ entry ∷ later → run setup front ≡ Some r → TakesReleased r.volume entry.call entry.starved
 
 -- what holds throughout a history: no call is made twice. Each stands after the end of every wait that its client had
--- made and, where that end is SUCCESS, after the end of the call that was waited for; a wait ends in few ways, and STALLED
--- exactly where every client that hasn't left waits. After each turn each call that was made has ended once or is pending,
--- and none is ready; some client that hasn't left doesn't wait, or all have left. A call is held by blockers that all live;
--- it stays pending until it is taken up, unless its client calls it off, and after each turn one of its blockers lives. A
--- turn takes up just those held calls that its own call released. A break or a lock ends exactly by its holder's own call,
--- an acknowledgement, an unlock, a close or a leaving, and in the turn of any other call none ends and no held call is taken
--- up. Caching by oplocks is coherent, and each watch reports exactly the matching changes since its last report
+-- made and, where that end is SUCCESS, after the end of the call that was waited for; a wait ends in few ways, and just
+-- waits end STALLED, exactly where every client that hasn't left waits. After each turn each call that was made has ended
+-- once or is pending, and none is ready; some client that hasn't left doesn't wait, or all have left. A call is held by
+-- blockers that all live; it stays pending until it is taken up, unless its client calls it off, and after each turn one of
+-- its blockers lives. A pending call, held or not, that a turn's call calls off has ended once the turn's call has been
+-- tried. A turn takes up just those held calls that its own call released. A break or a lock ends exactly by its holder's
+-- own call, an acknowledgement, an unlock, a close or a leaving, and in the turn of any other call none ends and no held
+-- call is taken up. Caching by oplocks is coherent, and each watch reports exactly the matching changes since its last report
 pub record HoldsThroughout (setup : Setup) (history : List HistoryEntry) : Type 0 where
   pub makes_no_call_twice : CallsDiffer history
   pub calls_come_after_waits : AllComeAfterWaits setup history
@@ -75,6 +76,7 @@ pub record HoldsThroughout (setup : Setup) (history : List HistoryEntry) : Type 
   pub some_client_goes_on : KeepsSomeGoing setup history
   pub calls_are_held_by_living_blockers : HoldsByLivingOnes setup history
   pub held_calls_stay : HeldStay setup history
+  pub called_off_calls_end : CalledOffEnd setup history
   pub a_held_call_has_a_living_blocker : KeepsHeldBlocked setup history
   pub released_calls_are_tried_once : TakesUpReleased setup history
   pub only_holders_release_held_calls : HoldersRelease setup history

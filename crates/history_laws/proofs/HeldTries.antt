@@ -156,15 +156,15 @@ held-unlock v client handle at count = search (held-option, held-refused, held-u
 
 -- ---- closes, leavings and cancellations: of what they don't call off
 
+pub closed-pending : (v : Volume) (id : ℕ) (handle : Handle) → (with_closed v id handle).pending ≡ (with_calls_ended closed_status (pending_by_turn (is_call_on handle) v) v).pending
+unfolding with_closed
+closed-pending v id handle =
+    let gone : Volume = without_handle (with_calls_ended closed_status (pending_by_turn (is_call_on handle) v) v) id in
+    Untouched.pending (Untouched-next (Untouched-mark_on_close gone handle) (Untouched-swept (with_mark_on_close gone handle) handle))
+
 module _ (T : ℕ × Pending → Bool) where
   abbrev Keep : Volume → Volume → Type 0
   Keep v w = list_any T v.pending ≡ true → list_any T w.pending ≡ true
-
-  closed-pending : (v : Volume) (id : ℕ) (handle : Handle) → (with_closed v id handle).pending ≡ (with_calls_ended closed_status (pending_by_turn (is_call_on handle) v) v).pending
-  unfolding with_closed
-  closed-pending v id handle =
-      let gone : Volume = without_handle (with_calls_ended closed_status (pending_by_turn (is_call_on handle) v) v) id in
-      Untouched.pending (Untouched-next (Untouched-mark_on_close gone handle) (Untouched-swept (with_mark_on_close gone handle) handle))
 
   keep-closed : (v : Volume) (id : ℕ) (handle : Handle) → IsOnce v → ((e : ℕ × Pending) → T e ≡ true → is_call_on handle e.1 ≡ false) → Keep v (with_closed v id handle)
   keep-closed v id handle once excludes some =

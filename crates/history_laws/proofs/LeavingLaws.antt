@@ -179,6 +179,32 @@ Serves-settled v starved may points fit =
     go = repeated-ends settle_step Goes (λ s. how_many_free s.volume) step (length v.pending) (record { volume = v; starved = starved; taken = [] })
         (GoesOn-begins v starved may, Serves-same v points) (how_many-length (is_free v) v.pending)
 
+-- ---- calls that end by a test
+
+-- none of them is pending then
+pub ended-gone : (status_of : What → Status) (test : Pending → Bool) (v : Volume) → how_many (λ e. test e.1) (with_calls_ended status_of (pending_by_turn test v) v).pending ≡ 0
+ended-gone status_of test v = elim (cases_Bool (list_any (λ e. test e.1) after.pending)) [
+  | inr none ↦ how_many-none (λ e. test e.1) after.pending none
+  | inl some ↦ absurd (impossible (some_item (λ e. test e.1) after.pending some))
+]
+  where
+    after : Volume
+    after = with_calls_ended status_of (pending_by_turn test v) v
+
+    impossible : Found (λ e. test e.1) after.pending → ⊥
+    impossible some =
+        let client : ℕ = some.item.1.call.client in
+        let number : ℕ = some.item.1.call.number in
+        let here : list_any (λ e. test e.1 && is_call_of client number e) after.pending ≡ true
+        = some.is_there (λ e. test e.1 && is_call_of client number e) (rw (some.passes, is_same-refl client number) refl) in
+        let still = how_many-some (λ e. test e.1 && is_call_of client number e) after.pending here in
+        let before = fewer-calls_ended status_of (pending_by_turn test v) v (λ e. test e.1 && is_call_of client number e) in
+        let kept = how_many-filter (is_call_of client number) (λ e. test e.1) v.pending in
+        let ordered = how_many-in_order (is_call_of client number) (λ a b. nat_lt a.0 b.0) (filter (λ e. test e.1) v.pending) in
+        let gone = gone-calls_ended status_of (pending_by_turn test v) v client number (omega arith) in
+        let weaker = how_many-weaker (λ e. test e.1 && is_call_of client number e) (is_call_of client number) after.pending (λ e both. and_right (test e.1) (is_call_of client number e) both) in
+        omega arith
+
 -- ---- who leaves waits no more
 
 waits_are_ended : (what : What) → is_wait what ≡ true → is_open_or_wait what ≡ true
@@ -188,39 +214,15 @@ waits_are_ended _ is = cc
 gone_waits : (v : Volume) (client : ℕ) → how_many (is_wait_by client) (with_client_gone v client).pending ≡ 0
 unfolding with_client_gone
 gone_waits v client =
+    let ended : Volume = with_calls_ended (λ _. Cancelled) (pending_by_turn (is_left_behind client) v) v in
     let fewer = (Keeps-all_closed (handles_of_client v client) ended).kept.keeps.pending (is_wait_by client) in
-    let none = none_ended (cases_Bool (list_any (is_wait_by client) ended.pending)) in omega arith
-  where
-    ended : Volume
-    ended = with_calls_ended (λ _. Cancelled) (pending_by_turn (is_left_behind client) v) v
-
-    impossible : Found (is_wait_by client) ended.pending → ⊥
-    impossible some =
-        let of : ℕ = some.item.1.call.client in
-        let number : ℕ = some.item.1.call.number in
-        let here : list_any (λ e. is_wait_by client e && is_call_of of number e) ended.pending ≡ true
-        = some.is_there (λ e. is_wait_by client e && is_call_of of number e) (rw (some.passes, is_same-refl of number) refl) in
-        let still = how_many-some (λ e. is_wait_by client e && is_call_of of number e) ended.pending here in
-        let before = fewer-calls_ended (λ _. Cancelled) (pending_by_turn (is_left_behind client) v) v (λ e. is_wait_by client e && is_call_of of number e) in
-        let left = how_many-weaker (λ e. is_wait_by client e && is_call_of of number e) (λ e. is_left_behind client e.1 && is_call_of of number e) v.pending
-        (λ e both. left_behind e (and_left (is_wait_by client e) (is_call_of of number e) both) (and_right (is_wait_by client e) (is_call_of of number e) both)) in
-        let kept = how_many-filter (is_call_of of number) (λ e. is_left_behind client e.1) v.pending in
-        let ordered = how_many-in_order (is_call_of of number) (λ a b. nat_lt a.0 b.0) (filter (λ e. is_left_behind client e.1) v.pending) in
-        let gone = gone-calls_ended (λ _. Cancelled) (pending_by_turn (is_left_behind client) v) v of number (omega arith) in
-        let weaker = how_many-weaker (λ e. is_wait_by client e && is_call_of of number e) (is_call_of of number) ended.pending (λ e both. and_right (is_wait_by client e) (is_call_of of number e) both) in
-        omega arith
-      where
-        left_behind : (e : ℕ × Pending) → is_wait_by client e ≡ true → is_call_of some.item.1.call.client some.item.1.call.number e ≡ true
-            → (is_left_behind client e.1 && is_call_of some.item.1.call.client some.item.1.call.number e) ≡ true
-        left_behind e wait own = rw (own, and_left (e.1.call.client == client) (is_wait e.1.call.what) wait, waits_are_ended e.1.call.what (and_right (e.1.call.client == client) (is_wait e.1.call.what) wait)) refl
-
-    none_ended : (list_any (is_wait_by client) ended.pending ≡ true) ⊎ (list_any (is_wait_by client) ended.pending ≡ false) → how_many (is_wait_by client) ended.pending ≡ 0
-    none_ended (inr none) = how_many-none (is_wait_by client) ended.pending none
-    none_ended (inl some) = absurd (impossible (some_item (is_wait_by client) ended.pending some))
+    let none = ended-gone (λ _. Cancelled) (is_left_behind client) v in
+    let weaker = how_many-weaker (is_wait_by client) (λ e. is_left_behind client e.1) ended.pending (λ e waits. rw (and_left (e.1.call.client == client) (is_wait e.1.call.what) waits, waits_are_ended e.1.call.what (and_right (e.1.call.client == client) (is_wait e.1.call.what) waits)) refl) in
+    omega arith
 
 -- ---- the try of a turn's own call
 
-tried_fewer : (v : Volume) (turn : ℕ) (what : What) (outcome : Outcome) → TriedTo v turn what outcome → (test : ℕ × Pending → Bool) → how_many test (volume_after outcome).pending ≤ how_many test v.pending
+pub tried_fewer : (v : Volume) (turn : ℕ) (what : What) (outcome : Outcome) → TriedTo v turn what outcome → (test : ℕ × Pending → Bool) → how_many test (volume_after outcome).pending ≤ how_many test v.pending
 tried_fewer v turn what (Done w reply) tried test = tried.0.keeps.pending test
 tried_fewer v turn what (Stay w interim) tried test = tried.pending test
 tried_fewer v turn what (Hold w blockers interim) tried test = tried.0.keeps.pending test

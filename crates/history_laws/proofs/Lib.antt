@@ -1,6 +1,7 @@
 pub mod AnyLaws
 pub mod BrokenGrants
 pub mod ByBreaks
+pub mod CalledOff
 pub mod CallsApart
 pub mod CallsOfRuns
 pub mod CursorLaws
@@ -11,8 +12,10 @@ pub mod HoldersRelease
 pub mod HoldersStay
 pub mod LeavingLaws
 pub mod NextLaws
+pub mod OpensStay
 pub mod OrderLaws
 pub mod OthersRelease
+pub mod PendingNames
 pub mod PlaceLaws
 pub mod PlainOplocks
 pub mod PlainText

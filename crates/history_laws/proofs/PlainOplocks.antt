@@ -1,4 +1,4 @@
--- No request of an oplock and no acknowledgement ends a call for want of memory.
+-- No request of an oplock and no acknowledgement ends a call for want of memory, or since all clients wait.
 use Rattle.std.proofs.Common.{◌≡◌, ℕ, false, List, [], ◌∷◌, refl, inl, inr, Option, Some, None}
 use Rattle.std.specs.Prelude.{fold}
 use Rattle.fsa_types.specs.Oplocks.{has_read, in_both}
@@ -10,13 +10,13 @@ use Rattle.fsa_model.specs.Edits.{without_oplock}
 use Rattle.fsa_model.specs.Grant.{target_of, is_not_granted, with_call_ended, with_switched, switched, with_granted, oplock_on, oplock_by, oplock_at, try_oplock, ack_keeping, ack_at, try_ack}
 use Rattle.fsa_model.specs.Lookups.{handle_of}
 use Rattle.fsa_model.specs.Volume.{Handle, Oplock, Volume}
-use Rattle.fsa_model.specs.Starving.{EndsPlain, TriesPlain, is_no_memory}
+use Rattle.fsa_model.specs.Starving.{EndsPlain, TriesPlain, only_settlements_give}
 use Rattle.fsa_model.proofs.PlainLaws.{EndsPlain-same, EndsPlain-next, EndsPlain-end, TriesPlain-refused, TriesPlain-done, TriesPlain-if, TriesPlain-option}
 use Rattle.fsa_model.proofs.RowLaws.{option_cases}
 
 -- ---- a call that ends, and an oplock that goes
 
-EndsPlain-call_ended : (v : Volume) (turn : Option ℕ) (status : Status) → is_no_memory status ≡ false → EndsPlain v (with_call_ended v turn status)
+EndsPlain-call_ended : (v : Volume) (turn : Option ℕ) (status : Status) → only_settlements_give status ≡ false → EndsPlain v (with_call_ended v turn status)
 EndsPlain-call_ended v None status plain = EndsPlain-same refl
 EndsPlain-call_ended v (Some turn) status plain = elim (option_cases (row_of v.pending turn)) [
   | inl none ↦ rw none (EndsPlain-same refl)

@@ -1,5 +1,5 @@
--- No try ends a call for want of memory: closes, leavings, unlocks, notifications, cancellations,
--- waits and the clock, and then all calls.
+-- No try ends a call for want of memory, or since all clients wait: closes, leavings, unlocks, notifications,
+-- cancellations, waits and the clock, and then all calls.
 use Rattle.std.proofs.Common.{◌≡◌, ℕ, Bool, true, false, not, List, [], ◌∷◌, refl, inl, inr, Some, None}
 use Rattle.std.specs.List.{filter}
 use Rattle.std.specs.Prelude.{◌==◌}
@@ -25,7 +25,7 @@ use Rattle.fsa_types.specs.Access.{has_any}
 use Rattle.fsa_types.specs.declared.status.Status.TheVariants.{DeletePending}
 use Rattle.fsa_model.specs.Watching.{due_size, is_notify_filter, is_something_due, notify_at, notify_by, notify_due, report, try_notify, watch_of, with_watch_begun, with_watch_seen}
 use Rattle.std.specs.Prelude.{nat_le}
-use Rattle.fsa_model.specs.Starving.{EndsPlain, TriesPlain, is_no_memory}
+use Rattle.fsa_model.specs.Starving.{EndsPlain, TriesPlain, only_settlements_give}
 use Rattle.fsa_model.proofs.PlainLaws.{EndsPlain-same, EndsPlain-next, EndsPlain-end, EndsPlain-if, EndsPlain-option, EndsPlain-noted, TriesPlain-refused, TriesPlain-done, TriesPlain-ends, TriesPlain-if, TriesPlain-option}
 use Rattle.history_laws.proofs.PlainOplocks.{try_oplock-plain, try_ack-plain}
 use Rattle.fsa_model.proofs.ObeyLaws.{Obeys}
@@ -34,15 +34,15 @@ use Rattle.fsa_model.specs.Locking.{unlock_range, unlock_by, unlock_at, try_unlo
 
 -- ---- closes, and clients that leave
 
--- these calls end, by a status that isn't for want of memory
-pub EndsPlain-calls_ended : (status_of : What → Status) → ((what : What) → is_no_memory (status_of what) ≡ false) → (calls : List (ℕ × Pending)) (v : Volume) → EndsPlain v (with_calls_ended status_of calls v)
+-- these calls end, by a status that isn't a settlement's alone
+EndsPlain-calls_ended : (status_of : What → Status) → ((what : What) → only_settlements_give (status_of what) ≡ false) → (calls : List (ℕ × Pending)) (v : Volume) → EndsPlain v (with_calls_ended status_of calls v)
 EndsPlain-calls_ended status_of plain [] v = EndsPlain-same refl
 EndsPlain-calls_ended status_of plain (entry ∷ calls) v =
     let ended : Volume = with_end v entry.1.call.client entry.1.call.number (record { status = status_of entry.1.call.what; body = Nothing }) in
     EndsPlain-next (EndsPlain-end {v = v} {w = v} entry.1.call.client entry.1.call.number (record { status = status_of entry.1.call.what; body = Nothing }) (EndsPlain-same refl) (plain entry.1.call.what))
     (EndsPlain-calls_ended status_of plain calls ended)
 
-closed_status-plain : (what : What) → is_no_memory (closed_status what) ≡ false
+closed_status-plain : (what : What) → only_settlements_give (closed_status what) ≡ false
 closed_status-plain (Ask (Notify handle filter whole room)) = refl
 closed_status-plain (Ask (OplockOf handle level)) = refl
 closed_status-plain (Ask (Ack handle level)) = refl
@@ -147,7 +147,7 @@ try_cancel-plain v client number =
 EndsPlain-begun : (v : Volume) (id filter : ℕ) (whole : Bool) → EndsPlain v (with_watch_begun v id filter whole)
 EndsPlain-begun v id filter whole = elim (cases_Bool (is_some (watch_of v id))) [ inl there ↦ rw there (EndsPlain-same refl) | inr new ↦ rw new (EndsPlain-same refl) ]
 
-pub report-plain : (v : Volume) (id room : ℕ) → is_no_memory (report v id room).status ≡ false
+pub report-plain : (v : Volume) (id room : ℕ) → only_settlements_give (report v id room).status ≡ false
 report-plain v id room = elim (cases_Bool (nat_le (due_size v id) room)) [ inl within ↦ rw within refl | inr more ↦ rw more refl ]
 
 notify_due-plain : (v u : Volume) (id room : ℕ) → EndsPlain v u → TriesPlain v (notify_due u id room)
@@ -197,7 +197,7 @@ try_what-plain v turn client number (Tick ticks) = TriesPlain-ends v (with_ticks
 try_what-plain v turn client number (WaitFor earlier) = try_wait-plain v client earlier
 try_what-plain v turn client number Leave = try_leave-plain v client
 
--- no try ends a call for want of memory
+-- no try ends a call for want of memory, or since all clients wait
 pub try-plain : (v : Volume) (call : Call) (turn : ℕ) → TriesPlain v (try v call turn)
 try-plain v call turn =
     TriesPlain-if (has_left v call.client) _ _ (λ is. TriesPlain-refused v InvalidHandle refl) (λ no. try_what-plain v turn call.client call.number call.what)

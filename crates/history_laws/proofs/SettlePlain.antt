@@ -1,6 +1,9 @@
--- Which calls that end in a turn found no memory: just those that its settlement lets starve, in that order.
+-- Which calls that end in a turn found no memory: just those that its settlement lets starve, in that order. And none is
+-- stalled before the settlement's end.
 use Rattle.std.proofs.Common.{◌≡◌, ◌≤◌, ℕ, zero, suc, Bool, true, false, arith, List, [], ◌∷◌, ◌++◌, length, drop, append_assoc, refl, ap, sym, subst, ◌∙◌, inl, inr, Some, None}
-use Rattle.std.specs.Prelude.{◌==◌, ◌&&◌, nat_le, if◌then◌else◌}
+use Rattle.std.specs.List.{list_any}
+use Rattle.std.specs.Prelude.{◌==◌, ◌&&◌, ◌||◌, nat_le, if◌then◌else◌}
+use Rattle.std.proofs.lemmas.List.Folds.{list_any-append}
 use Rattle.std.proofs.Math.Seq.{drop-append_seam}
 use Rattle.std.proofs.lemmas.Bool.{cases_Bool, eqb-true}
 use Rattle.fsa_types.specs.declared.reply.Body.TheVariants.{Nothing}
@@ -11,7 +14,9 @@ use Rattle.fsa_types.specs.declared.request.Request.TheVariants.{Notify}
 use Rattle.fsa_types.specs.declared.request.What.{What}
 use Rattle.fsa_types.specs.declared.request.What.TheVariants.{Ask}
 use Rattle.fsa_types.specs.declared.status.Status.TheVariants.{Success, NoMemory, Stalled}
-use Rattle.fsa_model.specs.Edits.{with_blockers}
+use Rattle.fsa_model.specs.Close.{with_calls_ended}
+use Rattle.fsa_model.specs.Edits.{with_blockers, with_end, with_pending}
+use Rattle.fsa_model.specs.Engine.{own_tried}
 use Rattle.fsa_model.specs.Lookups.{handle_of}
 use Rattle.fsa_model.specs.Outcome.{Outcome, Done, Stay, Hold}
 use Rattle.fsa_model.specs.Settle.{Settling, come_over, held_taken_up, rest_of_starved, reported, repeated, settle_step, settled, starves, taken_up, taken_up_all, with_ended, with_reported, with_starved, with_tried}
@@ -22,11 +27,11 @@ use Rattle.fsa_model.specs.Waiting.{all_wait, is_held, next_ready, waits_in_orde
 use Rattle.fsa_model.specs.Watching.{due_size, report, with_watch_seen}
 use Rattle.fsa_model.proofs.CountLaws.{and_left, and_right, how_many-append}
 use Rattle.fsa_model.specs.Once.{how_many}
-use Rattle.fsa_model.proofs.RowLaws.{option_cases}
+use Rattle.fsa_model.proofs.RowLaws.{any-weaker, option_cases, or_right}
 use Rattle.fsa_model.proofs.SettleLaws.{some_equal}
-use Rattle.fsa_model.specs.Starving.{EndsPlain, EndsPlainly, TriesPlain, starved_of}
-use Rattle.fsa_model.proofs.PlainLaws.{EndsPlain-end, EndsPlain-next, EndsPlain-same, starved_of-append}
-use Rattle.history_laws.proofs.PlainTries.{EndsPlain-calls_ended, report-plain, try-plain}
+use Rattle.fsa_model.specs.Starving.{EndsPlain, EndsPlainly, TriesPlain, is_no_memory, is_stalled, only_settlements_give, starved_of}
+use Rattle.fsa_model.proofs.PlainLaws.{EndsPlain-end, EndsPlain-next, EndsPlain-same, starved_of-append, starved_of-plain}
+use Rattle.history_laws.proofs.PlainTries.{report-plain, try-plain}
 
 -- ---- one step
 
@@ -37,7 +42,7 @@ pub record EndsStarved (v w : Volume) (starved : List CallId) : Type 0 where
   pub names : starved_of more ≡ starved
 
 pub EndsStarved-plain : {v w : Volume} → EndsPlain v w → EndsStarved v w []
-EndsStarved-plain plain = record { more = plain.more; is = plain.is; names = plain.plain }
+EndsStarved-plain plain = record { more = plain.more; is = plain.is; names = starved_of-plain plain.more plain.plain }
 
 pub EndsStarved-next : {u v w : Volume} {first second : List CallId} → EndsStarved u v first → EndsStarved v w second → EndsStarved u w (first ++ second)
 EndsStarved-next {u} {first = ids} one two = record {
@@ -46,19 +51,34 @@ EndsStarved-next {u} {first = ids} one two = record {
   names = starved_of-append one.more two.more ∙ ap (λ (front : List CallId). front ++ starved_of two.more) one.names ∙ ap (λ (back : List CallId). ids ++ back) two.names;
 }
 
--- some of those that are to starve have, in order
+-- none of these ends is STALLED
+abbrev pub is_stalled_end : EndOf → Bool
+is_stalled_end end = is_stalled end.reply.status
+
+unstalled-plain : (ends : List EndOf) → list_any (λ end. only_settlements_give end.reply.status) ends ≡ false → list_any is_stalled_end ends ≡ false
+unstalled-plain ends plain = elim (cases_Bool (list_any is_stalled_end ends)) [
+  | inr none ↦ none
+  | inl some ↦ absurd (let any : list_any (λ (end : EndOf). only_settlements_give end.reply.status) ends ≡ true
+      = any-weaker is_stalled_end (λ (end : EndOf). only_settlements_give end.reply.status) ends (λ end is. or_right (is_no_memory end.reply.status) (is_stalled end.reply.status) is) some in cc)
+]
+
+-- some of those that are to starve have, in order, and no call was stalled
 record Lets (s t : Settling) : Type 0 where
   gone : List CallId
   ends : EndsStarved s.volume t.volume gone
+  unstalled : list_any is_stalled_end ends.more ≡ false
   left : s.starved ≡ gone ++ t.starved
 
 Lets-plain : (s t : Settling) → EndsPlain s.volume t.volume → s.starved ≡ t.starved → Lets s t
-Lets-plain s t plain same = record { gone = []; ends = EndsStarved-plain plain; left = same }
+unfolding EndsStarved-plain
+Lets-plain s t plain same = record { gone = []; ends = EndsStarved-plain plain; unstalled = unstalled-plain plain.more plain.plain; left = same }
 
 Lets-next : (r s t : Settling) → Lets r s → Lets s t → Lets r t
+unfolding EndsStarved-next
 Lets-next r s t one two = record {
   gone = one.gone ++ two.gone;
   ends = EndsStarved-next one.ends two.ends;
+  unstalled = list_any-append is_stalled_end one.ends.more two.ends.more ∙ ap (λ b. b || list_any is_stalled_end two.ends.more) one.unstalled ∙ two.unstalled;
   left = one.left ∙ ap (λ (left : List CallId). one.gone ++ left) two.left ∙ sym (append_assoc one.gone two.gone t.starved);
 }
 
@@ -75,6 +95,7 @@ Lets-starved : (s : Settling) (pending : Pending) (taken : List ℕ) → starves
 Lets-starved s pending taken is = record {
   gone = record { client = pending.call.client; number = pending.call.number } ∷ [];
   ends = record { more = record { client = pending.call.client; number = pending.call.number; reply = record { status = NoMemory; body = Nothing } } ∷ []; is = refl; names = refl };
+  unstalled = refl;
   left = next-starves s.starved pending is;
 }
 
@@ -134,10 +155,18 @@ Lets-repeated (suc most) s = elim (option_cases (settle_step s)) [
   | inr some ↦ rw some.1 (Lets-next s some.0 (repeated settle_step most some.0) (Lets-step s some.0 some.1) (Lets-repeated most some.0))
 ]
 
-EndsPlain-stalled : (v : Volume) → EndsPlain v (with_stalled v)
-EndsPlain-stalled v = elim (cases_Bool (all_wait v)) [
-  | inl all ↦ rw all (EndsPlain-calls_ended (λ _. Stalled) (λ what. refl) (waits_in_order v) v)
-  | inr some ↦ rw some (EndsPlain-same refl)
+-- no call that is stalled found no memory
+none_starved-stalled : (calls : List (ℕ × Pending)) (v : Volume) → EndsStarved v (with_calls_ended (λ _. Stalled) calls v) []
+none_starved-stalled [] v = EndsStarved-plain (EndsPlain-same refl)
+none_starved-stalled (entry ∷ calls) v =
+    let end : EndOf = record { client = entry.1.call.client; number = entry.1.call.number; reply = record { status = Stalled; body = Nothing } } in
+    EndsStarved-next {v = with_end v entry.1.call.client entry.1.call.number (record { status = Stalled; body = Nothing })} (record { more = end ∷ []; is = refl; names = refl })
+    (none_starved-stalled calls (with_end v entry.1.call.client entry.1.call.number (record { status = Stalled; body = Nothing })))
+
+EndsStarved-stalled : (v : Volume) → EndsStarved v (with_stalled v) []
+EndsStarved-stalled v = elim (cases_Bool (all_wait v)) [
+  | inl all ↦ rw all (none_starved-stalled (waits_in_order v) v)
+  | inr some ↦ rw some (EndsStarved-plain (EndsPlain-same refl))
 ]
 
 none_left : (left : List CallId) → (length left == 0) ≡ true → left ≡ []
@@ -148,9 +177,32 @@ none_left (id ∷ left) none = absurd (let short : length (id ∷ left) ≡ 0 = 
 settled-starved : (v : Volume) (starved : List CallId) → (length (settled v starved).starved == 0) ≡ true → EndsStarved v (settled v starved).volume starved
 settled-starved v starved all =
     let lets : Lets (record { volume = v; starved = starved; taken = [] }) (taken_up_all v starved) = Lets-repeated (length v.pending) (record { volume = v; starved = starved; taken = [] }) in
-    let ends : EndsStarved v (settled v starved).volume (lets.gone ++ []) = EndsStarved-next lets.ends (EndsStarved-plain (EndsPlain-stalled (taken_up_all v starved).volume)) in
+    let ends : EndsStarved v (settled v starved).volume (lets.gone ++ []) = EndsStarved-next lets.ends (EndsStarved-stalled (taken_up_all v starved).volume) in
     let names : lets.gone ++ [] ≡ starved = ap (λ (left : List CallId). lets.gone ++ left) (sym (none_left (taken_up_all v starved).starved all)) ∙ sym lets.left in
     subst (EndsStarved v (settled v starved).volume) names ends
+
+-- further calls have ended, and none of them is STALLED
+pub record EndsUnstalled (v w : Volume) : Type 0 where
+  pub more : List EndOf
+  pub is : w.ended ≡ v.ended ++ more
+  pub none : list_any is_stalled_end more ≡ false
+
+-- until all that is ready has been taken up
+pub taken_up-unstalled : (v : Volume) (starved : List CallId) → EndsUnstalled v (taken_up_all v starved).volume
+taken_up-unstalled v starved =
+    let lets : Lets (record { volume = v; starved = starved; taken = [] }) (taken_up_all v starved) = Lets-repeated (length v.pending) (record { volume = v; starved = starved; taken = [] }) in
+    record { more = lets.ends.more; is = lets.ends.is; none = lets.unstalled }
+
+-- nor by the try of the turn's own call
+answered-plain : (v : Volume) (call : Call) (turn : ℕ) (outcome : Outcome) → EndsPlainly v outcome → EndsPlain v (answered call turn outcome)
+answered-plain v call turn (Done w reply) so = EndsPlain-end call.client call.number reply so.0 so.1
+answered-plain v call turn (Stay w interim) so = EndsPlain-next so (EndsPlain-same {v = w} {w = with_pending w turn call []} refl)
+answered-plain v call turn (Hold w blockers interim) so = EndsPlain-next so (EndsPlain-same {v = w} {w = with_pending w turn call blockers} refl)
+
+pub own-unstalled : (v : Volume) (call : Call) → EndsUnstalled v (own_tried v call)
+own-unstalled v call =
+    let plain : EndsPlain v (own_tried v call) = answered-plain v call (turn_number v) (try v call (turn_number v)) (TriesPlain.so (try-plain v call (turn_number v))) in
+    record { more = plain.more; is = plain.is; none = unstalled-plain plain.more plain.plain }
 
 -- ---- a turn
 
@@ -184,7 +236,7 @@ turned-starved v call starved outcome after so settles =
     let both : ends_between v (volume_after outcome) ++ ends_between own after ≡ plain.more ++ settles.more
     = ap (λ (ends : List EndOf). ends ++ ends_between own after) first ∙ ap (λ (ends : List EndOf). plain.more ++ ends) second in
     record {
-      names = ap starved_of both ∙ starved_of-append plain.more settles.more ∙ ap (λ (ids : List CallId). ids ++ starved_of settles.more) plain.plain ∙ settles.names;
+      names = ap starved_of both ∙ starved_of-append plain.more settles.more ∙ ap (λ (ids : List CallId). ids ++ starved_of settles.more) (starved_of-plain plain.more plain.plain) ∙ settles.names;
       kept = λ test.
           let counts : how_many test (ends_between v (volume_after outcome) ++ ends_between own after) ≡ how_many test (plain.more ++ settles.more) = ap (how_many test) both in
           let split = how_many-append test plain.more settles.more in

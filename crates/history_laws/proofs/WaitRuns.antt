@@ -291,11 +291,11 @@ module _ (who number : ℕ) (fine : Reply → Bool) where
     }
 
     -- once all is taken up that is ready
-    pub well-taken_up : (v : Volume) (starved : List CallId) → MaySettle v → EndsWell v → EndsWell (taken_up_all v starved).volume
+    well-taken_up : (v : Volume) (starved : List CallId) → MaySettle v → EndsWell v → EndsWell (taken_up_all v starved).volume
     well-taken_up v starved may well = taken_up-keeps EndsWell well-step v starved may well
 
     -- the try of another call
-    pub well-own : (v : Volume) (call : Call) → MayTurn v → EndsWell v → (call.client == who && call.number == number) ≡ false
+    well-own : (v : Volume) (call : Call) → MayTurn v → EndsWell v → (call.client == who && call.number == number) ≡ false
         → (cancels who number call ≡ true → fine (record { status = Cancelled; body = Nothing }) ≡ true) → EndsWell (own_tried v call)
     well-own v call may well other cancelled =
         let outcome : Outcome = try v call (turn_number v) in
@@ -303,7 +303,7 @@ module _ (who number : ℕ) (fine : Reply → Bool) where
         record { bare = bare-answered v call outcome may well.bare other tried; ended = fine-answered v call outcome other (fine-any v call (turn_number v) well cancelled) }
 
     -- and of the wait
-    pub well-wait : (v : Volume) (call : Call) (earlier : ℕ) → call.what ≡ WaitFor earlier → MayTurn v → times who number v ≡ 0 → (has_left v call.client ≡ true → fine (record { status = InvalidHandle; body = Nothing }) ≡ true)
+    well-wait : (v : Volume) (call : Call) (earlier : ℕ) → call.what ≡ WaitFor earlier → MayTurn v → times who number v ≡ 0 → (has_left v call.client ≡ true → fine (record { status = InvalidHandle; body = Nothing }) ≡ true)
         → fine (record { status = InvalidParameter; body = Nothing }) ≡ true → EndsWell (answered call (turn_number v) (try v call (turn_number v)))
     unfolding try_wait
     well-wait v call earlier is may none left parameter =
@@ -386,7 +386,7 @@ module _ (who : ℕ) where
   no_cancel (Ask _) = refl
   no_cancel _ = refl
 
-  left-try : (v : Volume) (call : Call) (turn : ℕ) → leaves who call ≡ false → has_left (volume_after (try v call turn)) who ≡ has_left v who
+  pub left-try : (v : Volume) (call : Call) (turn : ℕ) → leaves who call ≡ false → has_left (volume_after (try v call turn)) who ≡ has_left v who
   left-try v call turn stays = KeepsEnds.left (TriesKeep.so (try-keeps_ends who (spared_number call.what) v call turn (rw (no_cancel call.what) (or_false (call.client == who) (is_leave call.what) stays))))
     where
       or_false : (a b : Bool) → (a && b) ≡ false → (a && (b || false)) ≡ false
@@ -410,7 +410,7 @@ module _ (who : ℕ) where
   held-stays Leave held = (let impossible : false ≡ true = held in cc)
   held-stays _ held = refl
 
-  left-taken_up : (s : Settling) (entry : ℕ × Pending) → MaySettle s.volume → IsNext s.volume entry → has_left (taken_up s entry).volume who ≡ has_left s.volume who
+  pub left-taken_up : (s : Settling) (entry : ℕ × Pending) → MaySettle s.volume → IsNext s.volume entry → has_left (taken_up s entry).volume who ≡ has_left s.volume who
   left-taken_up s entry may next = elim (cases_Bool (is_held entry.1)) [
     | inr waits ↦ rw waits (rw (left-come s entry.1 entry.1.call.what) refl)
     | inl held ↦ rw held (elim (cases_Bool (starves s.starved entry.1)) [
@@ -424,7 +424,7 @@ module _ (who : ℕ) where
       never true = refl
       never false = refl
 
-  left-stalled : (v : Volume) → (with_stalled v).left ≡ v.left
+  pub left-stalled : (v : Volume) → (with_stalled v).left ≡ v.left
   left-stalled v = elim (cases_Bool (all_wait v)) [
     | inl all ↦ rw all (left-calls who 0 (λ _. Stalled) (waits_in_order v) v)
     | inr some ↦ rw some refl
@@ -480,7 +480,7 @@ pub record MayEnd (setup : Setup) (front later : List HistoryEntry) (entry : His
   pub cancelled : cancels_in entry.call.client entry.call.number later ≡ true → fine (record { status = Cancelled; body = Nothing }) ≡ true
   pub stalled : fine (record { status = Stalled; body = Nothing }) ≡ true
 
-pub well-run : (setup : Setup) (front later : List HistoryEntry) (entry : HistoryEntry) (r : Run) (fine : Reply → Bool) → CallsDiffer (front ++ entry ∷ later) → run setup (front ++ entry ∷ later) ≡ Some r → is_wait entry.call.what ≡ true
+well-run : (setup : Setup) (front later : List HistoryEntry) (entry : HistoryEntry) (r : Run) (fine : Reply → Bool) → CallsDiffer (front ++ entry ∷ later) → run setup (front ++ entry ∷ later) ≡ Some r → is_wait entry.call.what ≡ true
     → MayEnd setup front later entry fine → EndsWell entry.call.client entry.call.number fine r.volume
 well-run setup front later entry r fine differ runs is may = by entry.call.what refl is
   where

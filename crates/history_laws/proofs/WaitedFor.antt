@@ -61,7 +61,7 @@ extends-tried v turn pending (Done w reply) extends = AddsEnds-next extends (one
 extends-tried v turn pending (Stay w interim) extends = extends
 extends-tried v turn pending (Hold w blockers interim) extends = extends
 
-pub extends-taken_up : (s : Settling) (entry : ℕ × Pending) → MaySettle s.volume → AddsEnds s.volume.ended (taken_up s entry).volume.ended
+extends-taken_up : (s : Settling) (entry : ℕ × Pending) → MaySettle s.volume → AddsEnds s.volume.ended (taken_up s entry).volume.ended
 extends-taken_up s entry may = elim (cases_Bool (is_held entry.1)) [
   | inr waits ↦ rw waits (extends-come s entry.1 entry.1.call.what)
   | inl held ↦ rw held (elim (cases_Bool (starves s.starved entry.1)) [
@@ -71,7 +71,7 @@ extends-taken_up s entry may = elim (cases_Bool (is_held entry.1)) [
   ])
 ]
 
-pub extends-answered : (v : Volume) (call : Call) (turn : ℕ) (outcome : Outcome) → TriedTo v turn call.what outcome → AddsEnds v.ended (answered call turn outcome).ended
+extends-answered : (v : Volume) (call : Call) (turn : ℕ) (outcome : Outcome) → TriedTo v turn call.what outcome → AddsEnds v.ended (answered call turn outcome).ended
 extends-answered v call turn outcome tried =
     AddsEnds-next (tried-begins v turn call.what outcome tried) (record { more = own_end call outcome; is = answered-ended call turn outcome })
 

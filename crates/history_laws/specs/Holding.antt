@@ -1,4 +1,4 @@
--- How long a held call stays pending.
+-- How long a held call stays pending, and that what is called off ends.
 use Rattle.std.specs.List.{list_any}
 use Rattle.std.specs.Option.{option_map_or}
 use Rattle.std.specs.Prelude.{◌≡◌, ◌==◌, ◌&&◌, not, ℕ, Bool, true, false, List, ◌∷◌, ◌++◌, Some}
@@ -17,7 +17,7 @@ use Rattle.fsa_model.specs.Reports.{settling_after}
 use Rattle.fsa_model.specs.Setup.{Setup}
 use Rattle.fsa_model.specs.Turn.{settlement}
 use Rattle.fsa_model.specs.Volume.{Pending, Volume}
-use Rattle.fsa_model.specs.Waiting.{blocker_lives, is_blocked, is_held}
+use Rattle.fsa_model.specs.Waiting.{blocker_lives, has_ended, is_blocked, is_held}
 
 -- what the client asks calls off the pending call, which is its own: it is a cancellation of that call, a close of the handle
 -- that the call names, or the client's leaving
@@ -46,3 +46,15 @@ pub record KeepsHeld (v : Volume) (call : Call) (starved : List CallId) : Type 0
 abbrev pub HeldStay : Setup → List HistoryEntry → Type 0
 HeldStay setup history = (front later : List HistoryEntry) (entry : HistoryEntry) (r : Run) → history ≡ front ++ entry ∷ later → run setup front ≡ Some r
     → KeepsHeld r.volume entry.call entry.starved
+
+-- each pending call that the turn's call calls off, held or not, has ended once the turn's call has been tried; and none is
+-- pending then, nor at the turn's end
+pub record EndsWhatItCallsOff (v : Volume) (call : Call) (starved : List CallId) : Type 0 where
+  pub ended : list_any (λ entry. calls_off v call entry.1 && not (has_ended (own_tried v call) entry.1.call.client entry.1.call.number)) v.pending ≡ false
+  pub tried : list_any (λ entry. calls_off v call entry.1) (own_tried v call).pending ≡ false
+  pub settled : list_any (λ entry. calls_off v call entry.1) (settlement v call starved).volume.pending ≡ false
+
+-- so it is in each turn of a history
+abbrev pub CalledOffEnd : Setup → List HistoryEntry → Type 0
+CalledOffEnd setup history = (front later : List HistoryEntry) (entry : HistoryEntry) (r : Run) → history ≡ front ++ entry ∷ later → run setup front ≡ Some r
+    → EndsWhatItCallsOff r.volume entry.call entry.starved

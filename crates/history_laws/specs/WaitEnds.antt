@@ -1,4 +1,4 @@
--- How a wait for a call ends, and when it is over.
+-- How a wait for a call ends, which calls end STALLED, and when a wait is over.
 use Rattle.std.specs.Prelude.{◌≡◌, ◌==◌, ◌&&◌, ◌||◌, not, ℕ, Bool, true, false, List, ◌∷◌, ◌++◌, Some}
 use Rattle.std.specs.List.{list_any}
 use Rattle.fsa_types.specs.declared.reply.Body.{Body}
@@ -18,6 +18,7 @@ use Rattle.fsa_model.specs.Lookups.{has_row}
 use Rattle.fsa_model.specs.Once.{is_end}
 use Rattle.fsa_model.specs.Settle.{taken_up_all}
 use Rattle.fsa_model.specs.Setup.{Setup}
+use Rattle.fsa_model.specs.Starving.{is_stalled}
 use Rattle.fsa_model.specs.Turn.{settlement}
 use Rattle.fsa_model.specs.Volume.{Volume}
 use Rattle.fsa_model.specs.Waiting.{all_wait, has_ended, is_wait}
@@ -71,35 +72,27 @@ is_success _ = false
 abbrev pub has_succeeded : Volume → ℕ → ℕ → Bool
 has_succeeded v client number = list_any (λ end. is_end client number end && is_success end.reply.status) v.ended
 
-abbrev pub is_stalled : Status → Bool
-is_stalled Stalled = true
-is_stalled _ = false
-
 -- the client's call of this number has ended with STALLED
 abbrev pub has_stalled : Volume → ℕ → ℕ → Bool
 has_stalled v client number = list_any (λ end. is_end client number end && is_stalled end.reply.status) v.ended
 
 -- the client's call of this number is a wait, and pending
-abbrev pub is_waiting : Volume → ℕ → ℕ → Bool
-is_waiting v client number = has_row (λ pending. is_call client number pending && is_wait pending.call.what) v.pending
+abbrev pub is_pending_wait : Volume → ℕ → ℕ → Bool
+is_pending_wait v client number = has_row (λ pending. is_call client number pending && is_wait pending.call.what) v.pending
 
 -- the volume in the entry's turn once all that is ready has been taken up, and before waits stall
-abbrev pub once_taken_up : Volume → HistoryEntry → Volume
-once_taken_up v entry = (taken_up_all (own_tried v entry.call) entry.starved).volume
+abbrev pub all_taken_up : Volume → HistoryEntry → Volume
+all_taken_up v entry = (taken_up_all (own_tried v entry.call) entry.starved).volume
 
 -- every client that hasn't left waits then, and one of these waits is the client's call of this number
 abbrev pub stalls_in : Volume → HistoryEntry → ℕ → ℕ → Bool
-stalls_in v entry client number = all_wait (once_taken_up v entry) && is_waiting (once_taken_up v entry) client number
+stalls_in v entry client number = all_wait (all_taken_up v entry) && is_pending_wait (all_taken_up v entry) client number
 
--- after a wait's own turn, and after each later one, it has ended with STALLED exactly where it had before, or was pending
--- once all that was ready had been taken up and every client that hadn't left waited
-pub record StallsExactly (setup : Setup) (history : List HistoryEntry) : Type 0 where
-  pub own : (front later : List HistoryEntry) (wait : HistoryEntry) (r : Run) → history ≡ front ++ wait ∷ later → run setup front ≡ Some r → is_wait wait.call.what ≡ true
-      → has_stalled (settlement r.volume wait.call wait.starved).volume wait.call.client wait.call.number ≡ stalls_in r.volume wait wait.call.client wait.call.number
-  pub after : (front between later : List HistoryEntry) (wait entry : HistoryEntry) (r : Run)
-      → history ≡ (front ++ wait ∷ between) ++ entry ∷ later → run setup (front ++ wait ∷ between) ≡ Some r → is_wait wait.call.what ≡ true
-      → has_stalled (settlement r.volume entry.call entry.starved).volume wait.call.client wait.call.number
-      ≡ (has_stalled r.volume wait.call.client wait.call.number || stalls_in r.volume entry wait.call.client wait.call.number)
+-- after each turn a call has ended with STALLED exactly where it had before, or where it was a wait, and pending once all
+-- that was ready had been taken up and every client that hadn't left waited
+abbrev pub StallsExactly : Setup → List HistoryEntry → Type 0
+StallsExactly setup history = (front later : List HistoryEntry) (entry : HistoryEntry) (r : Run) (client number : ℕ) → history ≡ front ++ entry ∷ later → run setup front ≡ Some r
+    → has_stalled (settlement r.volume entry.call entry.starved).volume client number ≡ (has_stalled r.volume client number || stalls_in r.volume entry client number)
 
 -- the client's wait of this number, for its call of the last number, is over: the wait has ended and, if with SUCCESS,
 -- that call has ended too, with whatever status

@@ -14,15 +14,15 @@ ghost use Rattle.fsa_model.specs.Text.{shows_no_memory, text};
 ghost use Rattle.fsa_model.specs.Turn.{Turned, try, turn};
 ghost use Rattle.fsa_model.specs.Volume.{Volume};
 ghost use Rattle.fsa_model.specs.Waiting.{has_ended, is_wait, waits};
-ghost use Rattle.history_laws.specs.Holding.{HeldStay};
+ghost use Rattle.history_laws.specs.Holding.{CalledOffEnd, HeldStay};
 ghost use Rattle.history_laws.specs.Named.{IsReadScript};
 ghost use Rattle.history_laws.specs.Races.{AllComeAfterWaits, Begun, NoneMadeWaiting, Whole};
 ghost use Rattle.history_laws.specs.Releasing.{HoldersRelease, OthersReleaseNone};
 ghost use Rattle.history_laws.specs.WaitEnds.{IsOver, StallsExactly, cancels_in, ends_otherwise, has_succeeded, is_wait_end, leaves_in};
 ghost use Rattle.fsa_model.specs.Starving.{TriesPlain, starved_of};
 
-/// No try ends a call, its own or another, with the status NoMemory: only a settlement does.
-pub fn tries_end_for_no_want_of_memory()
+/// No try ends a call, its own or another, with the status NoMemory or Stalled: only a settlement does.
+pub fn tries_end_none_starved_or_stalled()
     ensures plain { (v : Volume) (call : Call) (turn : ℕ) → TriesPlain v (try v call turn) }
 {}
 
@@ -68,12 +68,12 @@ pub fn calls_made_side_by_side_differ()
 
 /// In a history that makes no call twice a wait for a call ends SUCCESS, STALLED or INVALID_PARAMETER; INVALID_HANDLE only
 /// where its client had left before, and CANCELLED only where its client has cancelled it or left since. It never ends
-/// NO_MEMORY, and its reply has no body. Once all that is ready has been taken up in a turn, all pending waits end STALLED
-/// where every client that hasn't left waits; no wait ends so otherwise.
+/// NO_MEMORY, and its reply has no body. In every history, once all that is ready has been taken up in a turn, all pending
+/// waits end STALLED where every client that hasn't left waits; no call ends so otherwise.
 pub fn waits_end_in_few_ways()
     ensures ends { (setup : Setup) (front later : List HistoryEntry) (entry : HistoryEntry) (r : Run) → CallsDiffer (front ++ entry ∷ later) → run setup (front ++ entry ∷ later) ≡ Some r → is_wait entry.call.what ≡ true
         → ends_otherwise (is_wait_end (leaves_in entry.call.client front) (cancels_in entry.call.client entry.call.number later)) entry.call.client entry.call.number r.volume ≡ false }
-    ensures stalled { (setup : Setup) (history : List HistoryEntry) → CallsDiffer history → StallsExactly setup history }
+    ensures stalled { (setup : Setup) (history : List HistoryEntry) → StallsExactly setup history }
 {}
 
 /// A schedule makes no call while its client waits.
@@ -107,4 +107,10 @@ pub fn only_holders_release_held_calls()
 /// off: it cancels the call, closes the handle that the call names, or leaves.
 pub fn held_calls_stay()
     ensures stay { (setup : Setup) (history : List HistoryEntry) → CallsDiffer history → HeldStay setup history }
+{}
+
+/// In a history that makes no call twice each pending call, held or not, that the call of a turn calls off has ended once the
+/// turn's call has been tried, and is pending no more.
+pub fn called_off_calls_end()
+    ensures end { (setup : Setup) (history : List HistoryEntry) → CallsDiffer history → CalledOffEnd setup history }
 {}

@@ -1,16 +1,16 @@
 //! What is proved of histories and their texts: in which order a script's calls are made, that they all are, that a
-//! text tells its history, how a wait ends, what stands before a call, how long a held call stays, and whose calls
-//! release it. It has no product code: the laws are said by functions that do nothing.
+//! text tells its history, how a wait ends, what stands before a call, how long a held call stays, whose calls release
+//! it, and that what is called off ends. It has no product code: the laws are said by functions that do nothing.
 #![tactic(auto)]
 
 mod law;
 mod order;
 
 pub use law::{
-    calls_come_after_waits, calls_made_side_by_side_differ, held_calls_stay,
+    called_off_calls_end, calls_come_after_waits, calls_made_side_by_side_differ, held_calls_stay,
     no_scheduled_call_is_made_waiting, only_holders_release_held_calls, scripts_are_read,
     starved_calls_end_without_memory, text_without_no_memory_is_plain,
-    tries_end_for_no_want_of_memory, two_histories_with_one_text_are_one,
+    tries_end_none_starved_or_stalled, two_histories_with_one_text_are_one,
     two_whole_histories_with_one_text_are_one, waits_end_in_few_ways,
 };
 pub use order::{

@@ -1,5 +1,5 @@
 use Rattle.history_laws.proofs.PlainTries.{try-plain}
-use Rattle.history_laws.proofs.law.tries_end_for_no_want_of_memory.Goals as goal
+use Rattle.history_laws.proofs.law.tries_end_none_starved_or_stalled.Goals as goal
 
 pub returns : goal.returns
 returns c = record { plain = try-plain }
