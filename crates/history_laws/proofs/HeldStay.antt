@@ -1,8 +1,9 @@
--- In each turn of a run a held call stays pending as it is, unless the turn's call calls it off or ends all that it waits for.
+-- In each turn of a run a pending call stays as it is in the try of the turn's call, unless it asks for an oplock or that calls
+-- it off; and a held call stays so to the turn's end, unless the turn's call ends all that it waits for.
 use Rattle.std.proofs.Common.{◌≡◌, ℕ, zero, suc, ◌≤◌, Bool, true, false, not, List, [], ◌∷◌, ◌++◌, length, refl, subst, sym, ◌∙◌, arith, eq-eqb, inl, inr, Some}
 use Rattle.std.specs.List.{list_any}
-use Rattle.std.specs.Prelude.{◌==◌, ◌&&◌, if◌then◌else◌}
-use Rattle.std.proofs.lemmas.Bool.{cases_Bool}
+use Rattle.std.specs.Prelude.{◌==◌, ◌&&◌, ◌||◌, is_some, if◌then◌else◌}
+use Rattle.std.proofs.lemmas.Bool.{cases_Bool, eqb-true}
 use Rattle.fsa_types.specs.declared.reply.Blocker.{Blocker}
 use Rattle.fsa_types.specs.declared.reply.Blocker.TheVariants as blocker
 use Rattle.fsa_types.specs.declared.request.Call.{Call}
@@ -11,7 +12,7 @@ use Rattle.fsa_types.specs.declared.request.What.TheVariants.{WaitFor}
 use Rattle.fsa_types.specs.declared.status.Status.TheVariants.{NoMemory, Stalled}
 use Rattle.fsa_types.specs.declared.reply.Body.TheVariants.{Nothing}
 use Rattle.fsa_model.specs.Close.{with_calls_ended}
-use Rattle.fsa_model.specs.Engine.{CallsDiffer, own_tried}
+use Rattle.fsa_model.specs.Engine.{CallsDiffer, GrantsPend, asks_oplock_of, has_grant_under, is_entry_of, is_pending_grant, own_tried}
 use Rattle.fsa_model.specs.History.{HistoryEntry, Run, run}
 use Rattle.fsa_model.specs.Once.{IsOnce, how_many, times}
 use Rattle.fsa_model.specs.Outcome.{Outcome, Done, Stay, Hold}
@@ -21,21 +22,25 @@ use Rattle.fsa_model.specs.Reports.{settling_after}
 use Rattle.fsa_model.specs.Setup.{Setup}
 use Rattle.fsa_model.specs.Try.{try}
 use Rattle.fsa_model.specs.Turn.{answered, settlement, turn_number, volume_after}
-use Rattle.fsa_model.specs.Volume.{Pending, Volume}
-use Rattle.fsa_model.specs.Waiting.{all_wait, blocker_lives, is_asked_before, is_blocked, is_held, is_wait, next_ready, waits_in_order, with_stalled}
-use Rattle.fsa_model.proofs.CountLaws.{and_left, and_right, how_many-none, how_many-some, how_many-weaker, none-how_many, only-one, some-how_many}
+use Rattle.fsa_model.specs.Volume.{Oplock, Pending, Volume}
+use Rattle.fsa_model.specs.Waiting.{all_wait, blocker_lives, is_asked_before, is_blocked, is_granted_under, is_held, is_wait, next_ready, waits_in_order, with_stalled}
+use Rattle.fsa_model.proofs.CountLaws.{and_left, and_right, and_true, how_many-append, how_many-none, how_many-some, how_many-weaker, none-how_many, only-one, some-how_many}
 use Rattle.fsa_model.proofs.EngineLaws.{new-before, run-before}
+use Rattle.fsa_model.proofs.GrantedLaws.{run-grants}
 use Rattle.fsa_model.proofs.OnceLaws.{SameBlockers, is_call_of, is_same-refl}
+use Rattle.fsa_model.proofs.PendLaws.{asks-some}
 use Rattle.fsa_model.proofs.RowLaws.{any-map, any-push, any-weaker, option_cases}
 use Rattle.fsa_model.proofs.SettleLaws.{IsNext, Steps, Steps-taken_up, next-may_be_held, next_ready-is, taken_up_all-done, try-tries}
 use Rattle.fsa_model.proofs.TakenLaws.{GoesOn-begins, GoesOn-settle_step}
 use Rattle.fsa_model.proofs.TryLaws.{Leaves, Tries, TriesTo}
 use Rattle.fsa_model.proofs.TurnLaws.{Adds-answered, TriedTo, try-keeps}
+use Rattle.fsa_model.proofs.WaitLaws.{Found, some_item}
 use Rattle.fsa_model.proofs.WatchLaws.{comes_over}
-use Rattle.history_laws.specs.Holding.{HeldStay, KeepsHeld}
+use Rattle.history_laws.specs.Holding.{HeldStay, KeepsHeld, asks_oplock}
 use Rattle.history_laws.proofs.AnyLaws.{any-where}
+use Rattle.history_laws.proofs.BrokenGrants.{NoBrokenGrant, is_broken_grant, run-tidy}
 use Rattle.history_laws.proofs.CallsApart.{calls-apart, calls-stay, ends-stay}
-use Rattle.history_laws.proofs.HeldTries.{stays-try}
+use Rattle.history_laws.proofs.HeldTries.{GrantsNone, stays-try}
 use Rattle.history_laws.proofs.HoldersRelease.{repeated-last}
 use Rattle.history_laws.proofs.TurnBlockers.{blockers-stalled}
 use Rattle.history_laws.proofs.TurnByTurn.{differ-before}
@@ -234,6 +239,38 @@ module _ (own : Volume) where
 
 -- ---- in each turn of a run
 
+-- what is pending under the turn of an oplock asks for it
+grants-asking : (v : Volume) → ((turn : ℕ) → how_many (is_under turn) v.pending ≤ 1) → GrantsPend v → NoBrokenGrant v.oplocks → GrantsNone (λ e. not (asks_oplock e.1)) v
+grants-asking v turns pend unbroken turn some = of_oplock (some_item (is_granted_under turn) v.oplocks (some-how_many (is_granted_under turn) v.oplocks some))
+  where
+    of_oplock : Found (is_granted_under turn) v.oplocks → how_many (λ e. e.0 == turn && not (asks_oplock e.1)) v.pending ≡ 0
+    of_oplock oplock = elim (option_cases oplock.item.call) [
+      | inl none ↦ (let impossible : false ≡ true = rw none at oplock.passes in cc)
+      | inr call ↦ (
+          let at_turn : (call.0 == turn) ≡ true = rw call.1 at oplock.passes in
+          let same : call.0 ≡ turn = eqb-true call.0 turn at_turn in
+          let granted : oplock.item.call ≡ Some turn = rw (← same) call.1 in
+          how_many-none (λ e. is_under turn e && not (asks_oplock e.1)) v.pending
+          (only-one (is_under turn) (λ e. asks_oplock e.1) v.pending (turns turn)
+          (any-weaker (λ e. e.0 == turn && asks_oplock_of v oplock.item.handle e.1.call) (λ e. is_under turn e && asks_oplock e.1) v.pending
+          (λ e both. and_true (is_under turn e) (asks_oplock e.1) (and_left (e.0 == turn) (asks_oplock_of v oplock.item.handle e.1.call) both)
+          (asks-some v oplock.item.handle e.1.call (and_right (e.0 == turn) (asks_oplock_of v oplock.item.handle e.1.call) both))) (pends granted))))
+    ]
+      where
+        isnt : (bad : Oplock → Bool) → list_any bad v.oplocks ≡ false → bad oplock.item ≡ false
+        isnt bad none = elim (cases_Bool (bad oplock.item)) [
+          | inr good ↦ good
+          | inl is ↦ (let there : list_any bad v.oplocks ≡ true = oplock.is_there bad is in let impossible : true ≡ false = sym there ∙ none in cc)
+        ]
+
+        pends : oplock.item.call ≡ Some turn → has_grant_under v oplock.item.handle turn ≡ true
+        pends granted = by (is_some oplock.item.target) (has_grant_under v oplock.item.handle turn) (rw granted at (isnt is_broken_grant unbroken)) (rw granted at (isnt (λ o. not (is_pending_grant v o)) pend))
+          where
+            by : (broken there : Bool) → (broken && true) ≡ false → not (broken || there) ≡ false → there ≡ true
+            by true there none_broken some_pend = cc
+            by false true none_broken some_pend = refl
+            by false false none_broken some_pend = cc
+
 module _ (setup : Setup) (history front later : List HistoryEntry) (entry : HistoryEntry) (r : Run) (differ : CallsDiffer history) (is : history ≡ front ++ entry ∷ later) (runs : run setup front ≡ Some r) where
   differ_to : CallsDiffer (front ++ entry ∷ [])
   differ_to = differ-before history front later entry is differ
@@ -241,13 +278,19 @@ module _ (setup : Setup) (history front later : List HistoryEntry) (entry : Hist
   may : MayTurn r.volume
   may = (run-before setup front entry r differ_to runs).may
 
+  differ_front : CallsDiffer front
+  differ_front client number = (let few = differ_to client number in let split = how_many-append (is_entry_of client number) front (entry ∷ []) in omega arith)
+
+  asking : GrantsNone (λ e. not (asks_oplock e.1)) r.volume
+  asking = grants-asking r.volume may.take_up.may.turns (run-grants setup front r differ_front runs) (run-tidy setup front r differ_front runs).none
+
   new : times entry.call.client entry.call.number r.volume ≡ 0
   new = new-before setup front entry r differ_to runs
 
   turn-keeps_held : KeepsHeld r.volume entry.call entry.starved
   turn-keeps_held = record {
-    tried = λ test some. stays-answered (λ e. is_held e.1 && test e) r.volume entry.call (try r.volume entry.call (turn_number r.volume)) tried (let none = new in omega arith)
-        (stays-try r.volume entry.call test (turn_number r.volume) may.take_up.may.oplocks may.take_up.once may.take_up.none_held some);
+    tried = λ test some. stays-answered (λ e. not (asks_oplock e.1) && test e) r.volume entry.call (try r.volume entry.call (turn_number r.volume)) tried (let none = new in omega arith)
+        (stays-try r.volume entry.call test (turn_number r.volume) may.take_up.once asking some);
     settled = λ steps test some. any-weaker (blocked_if (so_far steps).volume test) (λ e. is_held e.1 && test e) (settlement r.volume entry.call entry.starved).volume.pending
         (λ e all. only_held (is_held e.1) (is_blocked (blocker_lives (so_far steps).volume) e.1) (test e) all)
         (StaysSo.stays (settles steps) test (any-weaker (λ e. (is_held e.1 && is_blocked (blocker_lives (so_far steps).volume) e.1) && test e) (blocked_if (so_far steps).volume test) (so_far steps).volume.pending

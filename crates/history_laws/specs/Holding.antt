@@ -1,7 +1,7 @@
--- How long a held call stays pending, and that what is called off ends.
+-- How long a pending call stays so, and that what is called off ends.
 use Rattle.std.specs.List.{list_any}
 use Rattle.std.specs.Option.{option_map_or}
-use Rattle.std.specs.Prelude.{◌≡◌, ◌==◌, ◌&&◌, not, ℕ, Bool, true, false, List, ◌∷◌, ◌++◌, Some}
+use Rattle.std.specs.Prelude.{◌≡◌, ◌==◌, ◌&&◌, not, ℕ, Bool, true, false, List, ◌∷◌, ◌++◌, Some, is_some}
 use Rattle.fsa_types.specs.Rows.{row_of}
 use Rattle.fsa_types.specs.declared.request.Call.{Call}
 use Rattle.fsa_types.specs.declared.request.CallId.{CallId}
@@ -10,7 +10,7 @@ use Rattle.fsa_types.specs.declared.request.What.{What}
 use Rattle.fsa_types.specs.declared.request.What.TheVariants.{Ask, Leave}
 use Rattle.fsa_model.specs.Close.{is_call_on}
 use Rattle.fsa_model.specs.Edits.{is_call}
-use Rattle.fsa_model.specs.Engine.{own_tried}
+use Rattle.fsa_model.specs.Engine.{handle_granted, own_tried}
 use Rattle.fsa_model.specs.History.{HistoryEntry, Run, run}
 use Rattle.fsa_model.specs.Lookups.{handle_of}
 use Rattle.fsa_model.specs.Reports.{settling_after}
@@ -32,12 +32,18 @@ asks_off v client _ pending = false
 abbrev pub calls_off : Volume → Call → Pending → Bool
 calls_off v call pending = asks_off v call.client call.what pending
 
--- each held call stays pending in the try of the turn's call, with the same turn and blockers, unless that calls it off; and
--- one that waits, after any step of the settlement, for a break or a lock that lives then, stays so to the turn's end. It's
--- said by tests: where some such entry passes a test, an entry that passes it is there afterwards
+-- the pending call asks for an oplock or answers a break. Such a call is never held, but pending as granted, and it ends also
+-- where a break of its oplock tells it, or where another oplock of its key is granted
+abbrev pub asks_oplock : Pending → Bool
+asks_oplock pending = is_some (handle_granted pending.call.what)
+
+-- each other pending call, be it held, a watch or a wait, stays pending in the try of the turn's call, with the same turn and
+-- blockers, unless that calls it off; and a held call that waits, after any step of the settlement, for a break or a lock that
+-- lives then, stays so to the turn's end. It's said by tests: where some such entry passes a test, an entry that passes it is
+-- there afterwards
 pub record KeepsHeld (v : Volume) (call : Call) (starved : List CallId) : Type 0 where
-  pub tried : (test : ℕ × Pending → Bool) → list_any (λ entry. (is_held entry.1 && not (calls_off v call entry.1)) && test entry) v.pending ≡ true
-      → list_any (λ entry. is_held entry.1 && test entry) (own_tried v call).pending ≡ true
+  pub tried : (test : ℕ × Pending → Bool) → list_any (λ entry. (not (asks_oplock entry.1) && not (calls_off v call entry.1)) && test entry) v.pending ≡ true
+      → list_any (λ entry. not (asks_oplock entry.1) && test entry) (own_tried v call).pending ≡ true
   pub settled : (steps : ℕ) (test : ℕ × Pending → Bool)
       → list_any (λ entry. (is_held entry.1 && is_blocked (blocker_lives (settling_after v call starved steps).volume) entry.1) && test entry) (settling_after v call starved steps).volume.pending ≡ true
       → list_any (λ entry. is_held entry.1 && test entry) (settlement v call starved).volume.pending ≡ true

@@ -104,7 +104,8 @@ pub fn only_holders_release_held_calls()
 {}
 
 /// In a history that makes no call twice a held call stays pending, as it is, until it is taken up, unless its client calls it
-/// off: it cancels the call, closes the handle that the call names, or leaves.
+/// off: it cancels the call, closes the handle that the call names, or leaves. In the try of a turn's call each other pending
+/// call, such as a watch or a wait, likewise stays, unless it asks for an oplock or answers a break.
 pub fn held_calls_stay()
     ensures stay { (setup : Setup) (history : List HistoryEntry) → CallsDiffer history → HeldStay setup history }
 {}
