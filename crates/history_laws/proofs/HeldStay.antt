@@ -8,11 +8,12 @@ use Rattle.fsa_types.specs.declared.reply.Blocker.{Blocker}
 use Rattle.fsa_types.specs.declared.reply.Blocker.TheVariants as blocker
 use Rattle.fsa_types.specs.declared.request.Call.{Call}
 use Rattle.fsa_types.specs.declared.request.What.{What}
-use Rattle.fsa_types.specs.declared.request.What.TheVariants.{WaitFor}
+use Rattle.fsa_types.specs.declared.request.Request.TheVariants.{Ack, Oplock as OplockRequest}
+use Rattle.fsa_types.specs.declared.request.What.TheVariants.{Ask, WaitFor}
 use Rattle.fsa_types.specs.declared.status.Status.TheVariants.{NoMemory, Stalled}
 use Rattle.fsa_types.specs.declared.reply.Body.TheVariants.{Nothing}
 use Rattle.fsa_model.specs.Close.{with_calls_ended}
-use Rattle.fsa_model.specs.Engine.{CallsDiffer, GrantsPend, asks_oplock_of, has_grant_under, is_entry_of, is_pending_grant, own_tried}
+use Rattle.fsa_model.specs.Engine.{CallsDiffer, GrantsPend, asks_oplock_of, handle_granted, has_grant_under, is_entry_of, is_pending_grant, own_tried}
 use Rattle.fsa_model.specs.History.{HistoryEntry, Run, run}
 use Rattle.fsa_model.specs.Once.{IsOnce, how_many, times}
 use Rattle.fsa_model.specs.Outcome.{Outcome, Done, Stay, Hold}
@@ -239,6 +240,13 @@ module _ (own : Volume) where
 
 -- ---- in each turn of a run
 
+-- what asks for an oplock can't be held
+asks-unheld : (what : What) → is_some (handle_granted what) ≡ true → may_be_held what ≡ false
+asks-unheld (Ask (OplockRequest handle level)) is = refl
+asks-unheld (Ask (Ack handle level)) is = refl
+asks-unheld (Ask _) is = absurd (let impossible : false ≡ true = is in cc)
+asks-unheld _ is = absurd (let impossible : false ≡ true = is in cc)
+
 -- what is pending under the turn of an oplock asks for it
 grants-asking : (v : Volume) → ((turn : ℕ) → how_many (is_under turn) v.pending ≤ 1) → GrantsPend v → NoBrokenGrant v.oplocks → GrantsNone (λ e. not (asks_oplock e.1)) v
 grants-asking v turns pend unbroken turn some = of_oplock (some_item (is_granted_under turn) v.oplocks (some-how_many (is_granted_under turn) v.oplocks some))
@@ -289,6 +297,9 @@ module _ (setup : Setup) (history front later : List HistoryEntry) (entry : Hist
 
   turn-keeps_held : KeepsHeld r.volume entry.call entry.starved
   turn-keeps_held = record {
+    held_ask_for_none = none-stronger is_held_wrongly (λ e. is_held e.1 && asks_oplock e.1) r.volume.pending
+        (λ e both. rw (and_left (is_held e.1) (asks_oplock e.1) both, asks-unheld e.1.call.what (and_right (is_held e.1) (asks_oplock e.1) both)) refl)
+        (none-how_many is_held_wrongly r.volume.pending may.take_up.may.held);
     tried = λ test some. stays-answered (λ e. not (asks_oplock e.1) && test e) r.volume entry.call (try r.volume entry.call (turn_number r.volume)) tried (let none = new in omega arith)
         (stays-try r.volume entry.call test (turn_number r.volume) may.take_up.once asking some);
     settled = λ steps test some. any-weaker (blocked_if (so_far steps).volume test) (λ e. is_held e.1 && test e) (settlement r.volume entry.call entry.starved).volume.pending

@@ -32,16 +32,17 @@ asks_off v client _ pending = false
 abbrev pub calls_off : Volume → Call → Pending → Bool
 calls_off v call pending = asks_off v call.client call.what pending
 
--- the pending call asks for an oplock or answers a break. Such a call is never held, but pending as granted, and it ends also
--- where a break of its oplock tells it, or where another oplock of its key is granted
+-- the pending call asks for an oplock or answers a break. Such a call is pending as granted, and ends also where a break of
+-- its oplock tells it, or where another oplock of its key is granted
 abbrev pub asks_oplock : Pending → Bool
 asks_oplock pending = is_some (handle_granted pending.call.what)
 
--- each other pending call, be it held, a watch or a wait, stays pending in the try of the turn's call, with the same turn and
--- blockers, unless that calls it off; and a held call that waits, after any step of the settlement, for a break or a lock that
--- lives then, stays so to the turn's end. It's said by tests: where some such entry passes a test, an entry that passes it is
--- there afterwards
+-- no held call is such a one. Each other pending call, be it held, a watch or a wait, stays pending in the try of the turn's
+-- call, with the same turn and blockers, unless that calls it off; and a held call that waits, after any step of the
+-- settlement, for a break or a lock that lives then, stays so to the turn's end. It's said by tests: where some such entry
+-- passes a test, an entry that passes it is there afterwards
 pub record KeepsHeld (v : Volume) (call : Call) (starved : List CallId) : Type 0 where
+  pub held_ask_for_none : list_any (λ entry. is_held entry.1 && asks_oplock entry.1) v.pending ≡ false
   pub tried : (test : ℕ × Pending → Bool) → list_any (λ entry. (not (asks_oplock entry.1) && not (calls_off v call entry.1)) && test entry) v.pending ≡ true
       → list_any (λ entry. not (asks_oplock entry.1) && test entry) (own_tried v call).pending ≡ true
   pub settled : (steps : ℕ) (test : ℕ × Pending → Bool)
