@@ -63,7 +63,7 @@ TakesUpReleased setup history =
 -- once or is pending, and none is ready; some client that hasn't left doesn't wait, or all have left. A call is held by
 -- blockers that all live; it stays pending until it is taken up, unless its client calls it off, and after each turn one of
 -- its blockers lives. A watch or a wait that isn't called off stays so in the try of a turn's call; and what that calls off,
--- held or not, has ended once it has been tried. A turn takes up just those held calls that its own call released. A break or
+-- held or not, has ended once that call has been tried. A turn takes up just those held calls that its own call released. A break or
 -- a lock ends exactly by its holder's own call, an acknowledgement, an unlock, a close or a leaving, and in the turn of any
 -- other call none ends and no held call is taken up. Caching by oplocks is coherent, and each watch reports exactly the
 -- matching changes since its last report

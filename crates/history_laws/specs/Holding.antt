@@ -33,7 +33,7 @@ abbrev pub calls_off : Volume → Call → Pending → Bool
 calls_off v call pending = asks_off v call.client call.what pending
 
 -- the pending call asks for an oplock or answers a break. Such a call is pending as granted, and ends also where a break of
--- its oplock tells it, or where another oplock of its key is granted
+-- its oplock tells it, or where another oplock of its key is granted on its stream
 abbrev pub asks_oplock : Pending → Bool
 asks_oplock pending = is_some (handle_granted pending.call.what)
 

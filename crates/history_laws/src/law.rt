@@ -103,9 +103,10 @@ pub fn only_holders_release_held_calls()
     ensures others { (setup : Setup) (history : List HistoryEntry) → CallsDiffer history → OthersReleaseNone setup history }
 {}
 
-/// In a history that makes no call twice a held call stays pending, as it is, until it is taken up, unless its client calls it
-/// off: it cancels the call, closes the handle that the call names, or leaves. In the try of a turn's call each other pending
-/// call, such as a watch or a wait, likewise stays, unless it asks for an oplock or answers a break.
+/// In a history that makes no call twice a held call stays pending, as it is, in the try of each turn's call, unless its client
+/// calls it off: it cancels the call, closes the handle that the call names, or leaves; and to the turn's end where, after any
+/// step of the settlement, something that it waits for lives. No held call asks for an oplock or answers a break. Each other
+/// pending call that does neither, such as a watch or a wait, stays too in the try of a call that doesn't call it off.
 pub fn held_calls_stay()
     ensures stay { (setup : Setup) (history : List HistoryEntry) → CallsDiffer history → HeldStay setup history }
 {}
