@@ -10,9 +10,9 @@ use Rattle.fsa_types.specs.declared.request.What.TheVariants.{Ask}
 use Rattle.fsa_types.specs.declared.status.Status.{Status}
 use Rattle.fsa_types.specs.Oplocks.{has_read, in_both}
 use Rattle.fsa_types.specs.Rows.{row_of}
-use Rattle.fsa_model.specs.Coherence.{CountsUntilCause, Acknowledged, Switched, Cancelled, key_of, key_acting, is_own, acting_handle, acting_key, IsTied, CountsFromCause, Granted, Kept, WritersAlone}
+use Rattle.fsa_model.specs.Coherence.{CountsUntilCause, Acknowledged, Switched, Cancelled, key_of, key_acting, stream_under, is_own, acting_handle, acting_key, IsTied, CountsFromCause, Granted, Kept, WritersAlone}
 use Rattle.fsa_model.specs.Edits.{is_call, without_oplock}
-use Rattle.fsa_model.specs.Grant.{is_not_granted, oplock_on, oplock_by, oplock_at, try_oplock, target_of, ack_keeping, ack_at, try_ack}
+use Rattle.fsa_model.specs.Grant.{is_not_granted, oplock_on, oplock_by, oplock_at, try_oplock, target_of, with_granted, ack_keeping, ack_at, try_ack}
 use Rattle.fsa_model.specs.Lookups.{handle_of, number_of}
 use Rattle.fsa_model.specs.Outcome.{Outcome, refused}
 use Rattle.fsa_model.specs.Turn.{volume_after}
@@ -62,7 +62,7 @@ Coheres-oplock_on v client number level turn id row stream tied named living on_
     (λ isnt. record {
       tied = IsTied-granted v id row.key stream row level turn living refl on_it tied;
       keeps = KeepsBytes-granted v id row.key stream level turn _ _ tied;
-      ended = λ handle before after. Switched number level refl (by_it handle (ends-granted v id row.key stream level turn handle tied before after));
+      ended = λ handle before after. Switched number id stream turn level refl named stream_is granted (by_it handle (ends-granted v id row.key stream level turn handle tied before after));
       begins = λ handle before after. Granted number level refl (named ∙ ap (λ h. Some h) (sym (begins-granted v id row.key stream level turn handle before after)));
       alone = λ alone. alone-granted v id row.key stream row level turn tied living refl on_it isnt alone;
     })
@@ -70,15 +70,17 @@ Coheres-oplock_on v client number level turn id row stream tied named living on_
     key_is : key_of v id ≡ row.key
     key_is = rw living refl
 
-    acting_is : acting_handle v client (Ask (Oplock number level)) ≡ Some id
-    acting_is = named
-
     acting_key_is : acting_key v client (Ask (Oplock number level)) ≡ row.key
     acting_key_is = ap (key_acting v) named ∙ key_is
 
-    by_it : (handle : ℕ) → is_own v handle (Some id) row.key ≡ true
-        → is_own v handle (acting_handle v client (Ask (Oplock number level))) (acting_key v client (Ask (Oplock number level))) ≡ true
-    by_it handle own = ap (λ acting. is_own v handle acting (acting_key v client (Ask (Oplock number level)))) acting_is ∙ ap (is_own v handle (Some id)) acting_key_is ∙ own
+    stream_is : stream_under v (Some id) ≡ Some stream
+    stream_is = rw living on_it
+
+    by_it : (handle : ℕ) → is_own v handle (Some id) row.key ≡ true → is_own v handle (Some id) (acting_key v client (Ask (Oplock number level))) ≡ true
+    by_it handle own = ap (is_own v handle (Some id)) acting_key_is ∙ own
+
+    granted : (with_granted v id row.key stream level turn).oplocks ≡ (with_granted v id (acting_key v client (Ask (Oplock number level))) stream level turn).oplocks
+    granted = ap (λ key. (with_granted v id key stream level turn).oplocks) (sym acting_key_is)
 
 Coheres-oplock_at : (v : Volume) (client number : ℕ) (level : Level) (turn id : ℕ) → IsTied v → handle_of v client number ≡ Some id
     → Coheres v client (Ask (Oplock number level)) (oplock_at v id level turn)
@@ -102,7 +104,7 @@ Coheres-ack_keeping v client number asked target turn id tied named answers =
     (λ stays. record {
       tied = IsTied-kept v id (in_both asked target) turn tied;
       keeps = KeepsBytes-oplocks v _ _ _ tied refl refl;
-      ended = λ handle before after. Acknowledged number asked refl (named ∙ ap (λ h. Some h) (sym (ends-kept v id (in_both asked target) turn handle before after)));
+      ended = λ handle before after. (let same : handle ≡ id = ends-kept v id (in_both asked target) turn handle before after in Acknowledged number asked target refl (named ∙ ap (λ h. Some h) (sym same)) (ap (target_of v) same ∙ answers));
       begins = λ handle before after. (let same : handle ≡ id = begins-kept v id (in_both asked target) turn handle before after in
           Kept number asked target refl (named ∙ ap (λ h. Some h) (sym same)) (ap (target_of v) same ∙ answers) (reads-left asked target stays));
       alone = alone-kept v id asked target turn answers;
@@ -110,7 +112,7 @@ Coheres-ack_keeping v client number asked target turn id tied named answers =
     (λ ends. record {
       tied = IsTied-without_oplock v id tied;
       keeps = KeepsBytes-oplocks v _ _ _ tied refl refl;
-      ended = λ handle before after. Acknowledged number asked refl (named ∙ ap (λ h. Some h) (sym (ends-without v id handle before after)));
+      ended = λ handle before after. (let same : handle ≡ id = ends-without v id handle before after in Acknowledged number asked target refl (named ∙ ap (λ h. Some h) (sym same)) (ap (target_of v) same ∙ answers));
       begins = λ handle before after. absurd (false≢true (sym before ∙ counts-falls v (without_oplock v id) handle (Falls-without_oplock v id tied) after));
       alone = alone-falls v (without_oplock v id) (Falls-without_oplock v id tied);
     })

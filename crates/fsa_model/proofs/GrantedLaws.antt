@@ -722,7 +722,7 @@ try-left v call turn may once one granted = Left-if (has_left v call.client) _ _
 
 -- ---- the turn's own call
 
-answered-granted : (v : Volume) (call : Call) → MayTurn v → times call.client call.number v ≡ 0 → OneGrantEach v → Granted v → Granted (answered call (turn_number v) (try v call (turn_number v)))
+pub answered-granted : (v : Volume) (call : Call) → MayTurn v → times call.client call.number v ≡ 0 → OneGrantEach v → Granted v → Granted (answered call (turn_number v) (try v call (turn_number v)))
 answered-granted v call may new one granted =
     go (try v call (turn_number v)) (try-keeps v call (turn_number v) may.take_up.may.oplocks) (Left.so (try-left v call (turn_number v) may.take_up.may may.take_up.once one granted))
   where
@@ -814,7 +814,7 @@ tried-granted v entry (Done w reply) once none next held may tries left =
     own : ℕ × Pending → Bool
     own e = is_call_of entry.1.call.client entry.1.call.number e && not (is_some (handle_granted e.1.call.what))
 
-taken_up-granted : (s : Settling) (entry : ℕ × Pending) → MaySettle s.volume → IsOnce s.volume → GrantsNoneHeld s.volume → OneGrantEach s.volume → IsNext s.volume entry → Granted s.volume → Granted (taken_up s entry).volume
+pub taken_up-granted : (s : Settling) (entry : ℕ × Pending) → MaySettle s.volume → IsOnce s.volume → GrantsNoneHeld s.volume → OneGrantEach s.volume → IsNext s.volume entry → Granted s.volume → Granted (taken_up s entry).volume
 taken_up-granted s entry may once none one next granted = elim (cases_Bool (is_held entry.1)) [
   | inl held ↦ rw held (of_held held (next-may_be_held s.volume entry may next held))
   | inr waits ↦ rw waits (of_come waits)
@@ -844,6 +844,18 @@ step-granted s t may once none one granted step = elim (option_cases (next_ready
   | inr some ↦ subst (λ (t : Settling). Granted t.volume) (some_equal (taken_up s some.0) t (rw some.1 at step)) (taken_up-granted s some.0 may once none one (next_ready-is s.volume some.0 some.1) granted)
 ]
 
+-- at last all waits end, where all clients wait
+pub stalled-granted : (w : Volume) → IsOnce w → Granted w → Granted (with_stalled w)
+stalled-granted w once before = elim (cases_Bool (all_wait w)) [
+  | inr some ↦ rw some before
+  | inl all ↦ (let kept : KeepsAll w (with_stalled w) = stalled-kept w in
+      let last : (with_calls_ended (λ _. Stalled) (waits_in_order w) w).last_handle ≡ w.last_handle = rw all at kept.same.handles in
+      rw all (record {
+        none = NoneLapsed-calls_ended w (λ _. Stalled) (λ pending. is_wait pending.call.what) (λ a b. is_asked_before a.1 b.1) once (λ e is. not_wait e.1.call.what is) before.none;
+        numbered = rw (SameWatching.handles (watching-calls_ended (λ _. Stalled) (waits_in_order w) w), last) before.numbered;
+      }))
+]
+
 -- the settlement keeps it
 record SettlesGranted (v w : Volume) : Type 0 where
   granted : Granted w
@@ -851,7 +863,7 @@ record SettlesGranted (v w : Volume) : Type 0 where
 
 settled-granted : (v : Volume) (starved : List CallId) → MayTakeUp v → OneGrantEach v → Granted v → SettlesGranted v (settled v starved).volume
 settled-granted v starved may one granted = record {
-  granted = stalled taken (go.1.0).once go.1.1;
+  granted = stalled-granted taken (go.1.0).once go.1.1;
   one = λ turn. (let few : how_many (is_granted_under turn) v.oplocks ≤ 1 = one turn in let fewer = (go.1.0).granted turn in
       let kept : KeepsAll taken (with_stalled taken) = stalled-kept taken in let last = kept.kept.keeps.granted turn in omega arith);
 }
@@ -870,17 +882,6 @@ settled-granted v starved may one granted = record {
     go : (settle_step (taken_up_all v starved) ≡ None) × On (taken_up_all v starved)
     go = repeated-ends settle_step On (λ s. how_many_free s.volume) step (length v.pending) (record { volume = v; starved = starved; taken = [] })
         (GoesOn-begins v starved may, granted) (how_many-length (is_free v) v.pending)
-
-    stalled : (w : Volume) → IsOnce w → Granted w → Granted (with_stalled w)
-    stalled w once before = elim (cases_Bool (all_wait w)) [
-      | inr some ↦ rw some before
-      | inl all ↦ (let kept : KeepsAll w (with_stalled w) = stalled-kept w in
-          let last : (with_calls_ended (λ _. Stalled) (waits_in_order w) w).last_handle ≡ w.last_handle = rw all at kept.same.handles in
-          rw all (record {
-            none = NoneLapsed-calls_ended w (λ _. Stalled) (λ pending. is_wait pending.call.what) (λ a b. is_asked_before a.1 b.1) once (λ e is. not_wait e.1.call.what is) before.none;
-            numbered = rw (SameWatching.handles (watching-calls_ended (λ _. Stalled) (waits_in_order w) w), last) before.numbered;
-          }))
-    ]
 
 -- ---- over a history
 

@@ -28,7 +28,7 @@ use Rattle.fsa_types.specs.Rows.{row_of, IsNumbered}
 use Rattle.fsa_model.specs.Breaks.{is_chosen, with_breaks}
 use Rattle.fsa_model.specs.Close.{handle_named}
 use Rattle.fsa_model.specs.Edits.{is_call}
-use Rattle.fsa_model.specs.Grant.{oplock_of, call_of, target_of}
+use Rattle.fsa_model.specs.Grant.{oplock_of, call_of, target_of, with_granted}
 use Rattle.fsa_model.specs.History.{HistoryEntry, Run, begun, run}
 use Rattle.fsa_model.specs.Lookups.{bytes_of, child_of, handle_of, is_directory, is_on, is_open_on, number_of, stream_of}
 use Rattle.fsa_model.specs.Open.{stream_name}
@@ -164,15 +164,20 @@ abbrev pub blockers_of : Outcome → List Blocker
 blockers_of (Hold v blockers interim) = blockers
 blockers_of _ = []
 
+-- the stream of the acting handle, where it has one
+abbrev pub stream_under : Volume → Option ℕ → Option ℕ
+stream_under v acting = option_and_then (λ handle. option_and_then (λ row. row.stream) (row_of v.handles handle)) acting
+
 -- after a try of this client's call, which left this volume and is held by these blockers
 pub data WhyEnded (v : Volume) (client : ℕ) (what : What) (next : Volume) (blockers : List Blocker) (handle : ℕ) : Type 0 where
   -- it is closed
   Closed : row_of next.handles handle ≡ None → WhyEnded v client what next blockers handle
-  -- it acknowledged its break
-  Acknowledged : (number : ℕ) (level : Level) → what ≡ Ask (Ack number level) → handle_of v client number ≡ Some handle → WhyEnded v client what next blockers handle
-  -- it was switched: a handle of its key was granted an oplock
-  Switched : (number : ℕ) (level : Level) → what ≡ Ask (Oplock number level) → is_own v handle (acting_handle v client what) (acting_key v client what) ≡ true
+  -- it acknowledged its break, which was in progress
+  Acknowledged : (number : ℕ) (level target : Level) → what ≡ Ask (Ack number level) → handle_of v client number ≡ Some handle → target_of v handle ≡ Some target
       → WhyEnded v client what next blockers handle
+  -- it was switched: a handle of its key was granted an oplock on its stream
+  Switched : (number granted stream turn : ℕ) (level : Level) → what ≡ Ask (Oplock number level) → handle_of v client number ≡ Some granted → stream_under v (Some granted) ≡ Some stream
+      → next.oplocks ≡ (with_granted v granted (acting_key v client what) stream level turn).oplocks → is_own v handle (Some granted) (acting_key v client what) ≡ true → WhyEnded v client what next blockers handle
   -- the call by which it had its oplock was cancelled
   Cancelled : (number turn : ℕ) → what ≡ Ask (Cancel number) → number_of (is_call client number) v.pending ≡ Some turn → call_of v handle ≡ Some turn
       → WhyEnded v client what next blockers handle
@@ -216,9 +221,6 @@ gives_bytes (Got bytes) = not (length bytes == 0)
 gives_bytes _ = false
 
 -- no handle of another key on the stream of the acting one is left with write caching
-abbrev pub stream_under : Volume → Option ℕ → Option ℕ
-stream_under v acting = option_and_then (λ handle. option_and_then (λ row. row.stream) (row_of v.handles handle)) acting
-
 abbrev pub NoOtherWrites : Volume → Option ℕ → ℕ → Volume → Type 0
 NoOtherWrites v acting key next = (stream : ℕ) → stream_under v acting ≡ Some stream → NoOtherHas has_write next (set.Stream stream) acting key
 
