@@ -11,13 +11,21 @@ use Rattle.fsa_model.proofs.HeldLaws.{run-blocked, run-holds, run-settling_holds
 use Rattle.fsa_model.proofs.NoticeEnds.{run-watches_report}
 use Rattle.fsa_model.proofs.WaitEnds.{run-goes_on}
 use Rattle.history_laws.specs.Races.{NoneMadeWaiting, Whole}
+use Rattle.history_laws.proofs.AsToldCalls.{left-as_told}
 use Rattle.history_laws.proofs.CalledOff.{called_off-end}
-use Rattle.history_laws.proofs.HeldStay.{held-stay}
+use Rattle.history_laws.proofs.GrantedCalls.{granted_calls-pend}
+use Rattle.history_laws.proofs.GrantedEnds.{granted_calls-end_for_cause}
+use Rattle.history_laws.proofs.MadeCalls.{pends-as_made}
+use Rattle.history_laws.proofs.NoneMissed.{nothing-missed}
+use Rattle.history_laws.proofs.PendingStay.{pending-stay}
 use Rattle.history_laws.proofs.HoldersRelease.{holders-release, others-release_none}
 use Rattle.history_laws.proofs.ScheduledCalls.{Scheduled-free}
 use Rattle.history_laws.proofs.WaitedFor.{free-over}
+use Rattle.history_laws.proofs.SettledWaits.{waits-settle}
 use Rattle.history_laws.proofs.Stalling.{waits-stall}
+use Rattle.history_laws.proofs.ToldCalls.{told-of_oplocks}
 use Rattle.history_laws.proofs.TurnByTurn.{differ-before}
+use Rattle.history_laws.proofs.TurnTargets.{told-targets}
 use Rattle.history_laws.proofs.WaitRuns.{waits-end}
 use Rattle.text_out.specs.declared.write.TextFault.{TextFault}
 use Rattle.wire_io.specs.Sink.{AppendsPart, Written}
@@ -52,12 +60,20 @@ throughout script history free differ = record {
   calls_come_after_waits = free-over script history free differ;
   waits_end_in_few_ways = ends_waits_in_few_ways script.setup history differ;
   waits_stall_exactly = waits-stall script.setup history;
+  settled_waits_succeed_or_stall = waits-settle script.setup history differ;
   each_call_ends_once = ends_each_once script.setup history differ;
   no_call_is_left_ready = leaves_none_ready script.setup history differ;
+  no_awaited_end_or_change_is_missed = nothing-missed script.setup history differ;
   some_client_goes_on = λ front later r is runs. run-goes_on script.setup front r runs;
   calls_are_held_by_living_blockers = holds_by_living_ones script.setup history differ;
-  held_calls_stay = held-stay script.setup history differ;
+  pending_calls_are_as_made = pends-as_made script.setup history differ;
+  pending_calls_stay = pending-stay script.setup history differ;
   called_off_calls_end = called_off-end script.setup history differ;
+  granted_calls_pend_while_unbroken = granted_calls-pend script.setup history differ;
+  granted_calls_end_for_a_cause = granted_calls-end_for_cause script.setup history differ;
+  holders_are_told_of_their_oplocks = told-of_oplocks script.setup history;
+  breaks_leave_just_what_was_told = told-targets script.setup history differ;
+  oplocks_are_left_as_told = left-as_told script.setup history differ;
   a_held_call_has_a_living_blocker = keeps_held_blocked script.setup history differ;
   released_calls_are_tried_once = takes_up_released script.setup history differ;
   only_holders_release_held_calls = holders-release script.setup history differ;

@@ -12,10 +12,15 @@ use Rattle.fsa_model.specs.Script.{script_of}
 use Rattle.fsa_model.specs.Text.{shows_no_memory, text}
 use Rattle.fsa_model.specs.Waiting.{is_wait}
 use Rattle.fsa_model.specs.Watched.{WatchesReport}
-use Rattle.history_laws.specs.Holding.{CalledOffEnd, HeldStay}
+use Rattle.history_laws.specs.AsMade.{PendsAsMade}
+use Rattle.history_laws.specs.Awaited.{NothingIsMissed}
+use Rattle.history_laws.specs.GrantedEnds.{GrantedCallsEndForCause}
+use Rattle.history_laws.specs.Granting.{GrantedCallsPend}
+use Rattle.history_laws.specs.Holding.{CalledOffEnd, PendingStay}
 use Rattle.history_laws.specs.Releasing.{HoldersRelease, OthersReleaseNone}
 use Rattle.history_laws.specs.Races.{AllComeAfterWaits, Begun, Whole}
-use Rattle.history_laws.specs.WaitEnds.{StallsExactly, cancels_in, ends_otherwise, is_wait_end, leaves_in}
+use Rattle.history_laws.specs.Telling.{LeftAsTold, ToldOfOplocks, ToldTargets}
+use Rattle.history_laws.specs.WaitEnds.{SettlesWaits, StallsExactly, cancels_in, ends_otherwise, is_wait_end, leaves_in}
 use Rattle.wire_io.specs.Source.{ReadsWhole}
 use Rattle.wire_io.specs.Sink.{Written, Appends, AppendsFront, AppendsPart}
 use Rattle.fsa_top.specs.declared.limits.Limit.{Limit}
@@ -57,27 +62,41 @@ abbrev pub TakesUpReleased : Setup → List HistoryEntry → Type 0
 TakesUpReleased setup history =
     (front later : List HistoryEntry) (entry : HistoryEntry) (r : Run) → history ≡ front ++ entry ∷ later → run setup front ≡ Some r → TakesReleased r.volume entry.call entry.starved
 
--- what holds throughout a history: no call is made twice. Each stands after the end of every wait that its client had
--- made and, where that end is SUCCESS, after the end of the call that was waited for; a wait ends in few ways, and just
--- waits end STALLED, exactly where every client that hasn't left waits. After each turn each call that was made has ended
--- once or is pending, and none is ready; some client that hasn't left doesn't wait, or all have left. A call is held by
--- blockers that all live; it stays pending until it is taken up, unless its client calls it off, and after each turn one of
--- its blockers lives. A watch or a wait that isn't called off stays so in the try of a turn's call; and what that calls off,
--- held or not, has ended once that call has been tried. A turn takes up just those held calls that its own call released. A break or
--- a lock ends exactly by its holder's own call, an acknowledgement, an unlock, a close or a leaving, and in the turn of any
--- other call none ends and no held call is taken up. Caching by oplocks is coherent, and each watch reports exactly the
--- matching changes since its last report
+-- what holds throughout a history: no call is made twice. Each stands after the end of every wait that its client had made and,
+-- where that end is SUCCESS, after the end of the call that was waited for; a wait ends in few ways, in a settlement with
+-- SUCCESS or STALLED alone, and just waits end STALLED, exactly where every client that hasn't left waits. After each turn each
+-- call that was made has ended once or is pending, and none is ready: no call has ended for which a wait is pending, and
+-- nothing is due to the watch of a handle by which a Notify is pending; some client that hasn't left doesn't wait, or all have
+-- left. What is pending is the very call that was made. A call is held by blockers that all live; it stays pending until it is
+-- taken up, unless its client calls it off, and after each turn one of its blockers lives. A Notify or a wait stays so too
+-- until it is called off or taken up; waits end also where every client that hasn't left waits; and what a turn's call calls
+-- off, held or not, has ended once that call has been tried. While an oplock is there and no break of it is in progress, its
+-- call is pending, and no other call that asks for an oplock or answers a break is. Such a call ends only where it is told of a
+-- break, called off or switched. It is told of a break only what some break of its own oplock tells; then a break of that is in
+-- progress, where an acknowledgement is asked, or the oplock is gone; and where a break has come to be in progress, just what
+-- it leaves was told. A turn takes up just those held calls that its own call released. A break or a lock ends exactly by its
+-- holder's own call, an acknowledgement, an unlock, a close or a leaving, and in the turn of any other call none ends and no
+-- held call is taken up. Caching by oplocks is coherent, and each watch reports exactly the matching changes since its last
+-- report
 pub record HoldsThroughout (setup : Setup) (history : List HistoryEntry) : Type 0 where
   pub makes_no_call_twice : CallsDiffer history
   pub calls_come_after_waits : AllComeAfterWaits setup history
   pub waits_end_in_few_ways : EndsWaitsInFewWays setup history
   pub waits_stall_exactly : StallsExactly setup history
+  pub settled_waits_succeed_or_stall : SettlesWaits setup history
   pub each_call_ends_once : EndsEachCallOnce setup history
   pub no_call_is_left_ready : LeavesNoneReady setup history
+  pub no_awaited_end_or_change_is_missed : NothingIsMissed setup history
   pub some_client_goes_on : KeepsSomeGoing setup history
   pub calls_are_held_by_living_blockers : HoldsByLivingOnes setup history
-  pub held_calls_stay : HeldStay setup history
+  pub pending_calls_are_as_made : PendsAsMade setup history
+  pub pending_calls_stay : PendingStay setup history
   pub called_off_calls_end : CalledOffEnd setup history
+  pub granted_calls_pend_while_unbroken : GrantedCallsPend setup history
+  pub granted_calls_end_for_a_cause : GrantedCallsEndForCause setup history
+  pub holders_are_told_of_their_oplocks : ToldOfOplocks setup history
+  pub breaks_leave_just_what_was_told : ToldTargets setup history
+  pub oplocks_are_left_as_told : LeftAsTold setup history
   pub a_held_call_has_a_living_blocker : KeepsHeldBlocked setup history
   pub released_calls_are_tried_once : TakesUpReleased setup history
   pub only_holders_release_held_calls : HoldersRelease setup history
@@ -152,7 +171,8 @@ ReadsScript left left_now script = (bytes : List ℕ) × ReadsWithin left left_n
 abbrev pub Ran : (Script → Written → Written → Type 0) → Option (List ℕ) → Option (List ℕ) → Written → Written → Type 0
 Ran writes left left_now written written_now = (script : Script) × ReadsScript left left_now script × writes script written written_now
 
--- the source was read to its end within the limits, its bytes are no script, and the line that names the first faulty line was written
+-- the source was read to its end within the limits, its bytes are no script, and the line that names the first faulty line
+-- was written
 abbrev pub FoundBad : Option (List ℕ) → Option (List ℕ) → Written → Written → ℕ → ℕ → Type 0
 FoundBad left left_now written written_now faults faults_now =
     (bytes : List ℕ) × ReadsWithin left left_now bytes × NamesFault bytes written written_now faults faults_now

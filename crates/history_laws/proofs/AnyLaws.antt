@@ -1,8 +1,8 @@
 -- Whether some item of a list passes a test.
-use Rattle.std.proofs.Common.{◌≡◌, Bool, true, false, List, [], ◌∷◌, refl, ap, ◌∙◌, inl, inr}
+use Rattle.std.proofs.Common.{◌≡◌, Bool, true, false, not, List, [], ◌∷◌, refl, ap, sym, ◌∙◌, inl, inr}
 use Rattle.std.specs.List.{filter, list_any}
 use Rattle.std.specs.Prelude.{◌&&◌, ◌||◌}
-use Rattle.std.proofs.lemmas.Bool.{cases_Bool}
+use Rattle.std.proofs.lemmas.Bool.{cases_Bool, false_from_ne_true}
 use Rattle.fsa_model.proofs.CountLaws.{and_left, and_right}
 use Rattle.fsa_model.proofs.RowLaws.{any-filter, any-same, any-weaker, or_right}
 use Rattle.fsa_model.proofs.WaitLaws.{or_none}
@@ -14,6 +14,16 @@ and_none false b isnt = refl
 pub and_true : (b : Bool) → b ≡ (b && true)
 and_true true = refl
 and_true false = refl
+
+pub both_ends : (a b c : Bool) → ((a && b) && c) ≡ true → (a && c) ≡ true
+both_ends true true c all = all
+both_ends true false c all = cc
+both_ends false b c all = cc
+
+-- the other way about, and said by what isn't so
+pub and_twice : (a b : Bool) → (a && b) ≡ true → (b && not (not a)) ≡ true
+and_twice true b both = rw both refl
+and_twice false b both = cc
 
 -- where none passes
 pub any-never : {X : Type 0} (p : X → Bool) (xs : List X) → ((x : X) → p x ≡ false) → list_any p xs ≡ false
@@ -50,3 +60,7 @@ any-kept p bad keep xs so none some =
     any-weaker (λ x. p x && keep x) p (filter keep xs) (λ x both. and_left (p x) (keep x) both)
     (any-filter (λ x. p x && keep x) keep xs (λ x both. and_right (p x) (keep x) both)
     (any-where p bad (λ x. p x && keep x) xs (λ x passes isnt. rw (passes, so x passes isnt) refl) none some))
+
+-- where no item passes, none passes what is stronger
+pub none-stronger : {X : Type 0} (p q : X → Bool) (xs : List X) → ((x : X) → q x ≡ true → p x ≡ true) → list_any p xs ≡ false → list_any q xs ≡ false
+none-stronger p q xs weaker none = false_from_ne_true (list_any q xs) (λ some. (let impossible : true ≡ false = sym (any-weaker q p xs weaker some) ∙ none in cc))

@@ -34,7 +34,7 @@ use Rattle.fsa_model.specs.Settling.{MaySettle}
 use Rattle.fsa_model.specs.Setup.{Setup}
 use Rattle.fsa_model.specs.Try.{try, try_what}
 use Rattle.fsa_model.specs.Turn.{turn_number, volume_after}
-use Rattle.fsa_model.specs.Volume.{Handle, Lock, Oplock, Pending, Volume}
+use Rattle.fsa_model.specs.Volume.{Handle, Lock, Oplock, Pending, Volume, fresh}
 use Rattle.fsa_model.specs.Waiting.{is_granted_under, is_held, try_cancel, with_oplock_given_up}
 use Rattle.fsa_model.proofs.BreakLaws.{broken, told-oplocks, with_breaks-rest}
 use Rattle.fsa_model.proofs.CountLaws.{how_many-append, how_many-filter_le}
@@ -152,13 +152,13 @@ record AreApart (v : Volume) : Type 0 where
   one : HasOneOplockEach v
   tidy : IsTidy v
 
-AreApart-by : {v w : Volume} → ByBreaks v w → AreApart v → AreApart w
+AreApart-by : {kind : Class} {v w : Volume} → ByBreaks kind v w → AreApart v → AreApart w
 AreApart-by (Still v w oplocks locks pending ended left last_break last_lock) apart = record {
   one = λ handle. rw oplocks (let few = apart.one handle in omega arith);
   tidy = record { none = rw oplocks apart.tidy.none; locks = rw (locks, last_lock) apart.tidy.locks };
 }
 AreApart-by (Locked v handle at count exclusive) apart = record { one = apart.one; tidy = record { none = apart.tidy.none; locks = one_lock v handle at count exclusive apart.tidy.locks } }
-AreApart-by (Broken v on kind acting key) apart = record {
+AreApart-by {kind} (Broken v on acting key) apart = record {
   one = HasOneOplockEach-kept v (with_breaks v on kind acting key) (Keeps-breaks v on kind acting key) apart.one;
   tidy = record {
     none = broken-none kind v (chosen v on acting key) (chosen-well v on kind acting key apart.one) apart.tidy.none;
@@ -310,7 +310,11 @@ apart-try v call turn one tidy = apart-if (has_left v call.client) _ _ (apart-re
 
 -- ---- a turn
 
-taken_up-tidy : (s : Settling) (entry : ℕ × Pending) → MaySettle s.volume → IsNext s.volume entry → IsTidy s.volume → IsTidy (taken_up s entry).volume
+-- once its own call has been tried
+pub own-tidy : (v : Volume) (call : Call) → HasOneOplockEach v → IsTidy v → IsTidy (own_tried v call)
+own-tidy v call one tidy = IsTidy-same (blockers-answered call (turn_number v) (try v call (turn_number v))) (TriesApart.so (apart-try v call (turn_number v) one tidy))
+
+pub taken_up-tidy : (s : Settling) (entry : ℕ × Pending) → MaySettle s.volume → IsNext s.volume entry → IsTidy s.volume → IsTidy (taken_up s entry).volume
 taken_up-tidy s entry may next tidy = elim (cases_Bool (is_held entry.1)) [
   | inr comes ↦ rw comes (IsTidy-same (blockers-come s entry.1 entry.1.call.what) tidy)
   | inl held ↦ rw held (elim (cases_Bool (starves s.starved entry.1)) [
@@ -321,8 +325,10 @@ taken_up-tidy s entry may next tidy = elim (cases_Bool (is_held entry.1)) [
 
 -- ---- a run
 
+pub IsTidy-fresh : (setup : Setup) → IsTidy (fresh setup)
+IsTidy-fresh setup = record { none = refl; locks = record { one = λ number. omega arith; given = λ number later. refl } }
+
 pub run-tidy : (setup : Setup) (history : List HistoryEntry) (r : Run) → CallsDiffer history → run setup history ≡ Some r → IsTidy r.volume
 run-tidy setup history r differ is = run-keeps (λ v later. IsTidy v) (λ v entry later may differ turns tidy.
     settled-keeps IsTidy taken_up-tidy v entry.call entry.starved (own-may v entry.call may (new-call v entry later differ)) (IsTidy-same (blockers-stalled (taken_up_all (own_tried v entry.call) entry.starved).volume))
-    (IsTidy-same (blockers-answered entry.call (turn_number v) (try v entry.call (turn_number v))) (TriesApart.so (apart-try v entry.call (turn_number v) may.take_up.may.oplocks tidy))))
-    setup history r differ (record { none = refl; locks = record { one = λ number. omega arith; given = λ number later. refl } }) is
+    (own-tidy v entry.call may.take_up.may.oplocks tidy)) setup history r differ (IsTidy-fresh setup) is

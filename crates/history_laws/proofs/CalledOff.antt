@@ -13,7 +13,7 @@ use Rattle.fsa_types.specs.declared.request.What.TheVariants.{Ask, Leave}
 use Rattle.fsa_types.specs.declared.status.Status.TheVariants.{Cancelled}
 use Rattle.fsa_model.specs.Close.{close_at, is_call_on, names, try_close, try_leave}
 use Rattle.fsa_model.specs.Edits.{is_call}
-use Rattle.fsa_model.specs.Engine.{CallsDiffer, is_entry_of, own_tried}
+use Rattle.fsa_model.specs.Engine.{CallsDiffer, own_tried}
 use Rattle.fsa_model.specs.History.{HistoryEntry}
 use Rattle.fsa_model.specs.Lookups.{handle_of, has_left, is_opened_by}
 use Rattle.fsa_model.specs.Once.{how_many, is_end, times}
@@ -25,7 +25,7 @@ use Rattle.fsa_model.specs.Try.{try, try_what}
 use Rattle.fsa_model.specs.Turn.{answered, settlement, turn_number, volume_after}
 use Rattle.fsa_model.specs.Volume.{Handle, Pending, Volume}
 use Rattle.fsa_model.specs.Waiting.{has_ended, try_cancel, with_oplock_given_up}
-use Rattle.fsa_model.proofs.CountLaws.{and_left, and_right, how_many-append, how_many-filter_le, how_many-none, how_many-same, how_many-some, how_many-split, how_many-weaker, none-how_many, only-one, some-how_many}
+use Rattle.fsa_model.proofs.CountLaws.{and_left, and_right, how_many-filter_le, how_many-none, how_many-same, how_many-some, how_many-split, how_many-weaker, none-how_many, only-one, some-how_many}
 use Rattle.fsa_model.proofs.EngineLaws.{new-before, run-before}
 use Rattle.fsa_model.proofs.OnceLaws.{is_call_of, is_same, is_same-equal, is_same-refl, pending-with_end}
 use Rattle.fsa_model.proofs.RowLaws.{find-all, find-none, option_cases, row_of-here}
@@ -37,7 +37,7 @@ use Rattle.history_laws.proofs.AnyLaws.{any-never}
 use Rattle.history_laws.proofs.LeavingLaws.{own_fewer}
 use Rattle.history_laws.proofs.OpensStay.{EndsAtOnce, calling_off-ends, may_call_off}
 use Rattle.history_laws.proofs.PendingNames.{CallsNamed, closed-gone, leave-gone, run-calls_named}
-use Rattle.history_laws.proofs.TurnByTurn.{differ-before, own-may, settled-keeps}
+use Rattle.history_laws.proofs.TurnByTurn.{differ-before, differ-front, own-may, settled-keeps}
 
 -- the call calls off this one, whatever that waits for
 abbrev is_off : Volume → Call → Call → Bool
@@ -216,7 +216,7 @@ module _ (v : Volume) (call : Call) (may : MayTurn v) (new : times call.client c
 pub called_off-end : (setup : Setup) (history : List HistoryEntry) → CallsDiffer history → CalledOffEnd setup history
 called_off-end setup history differ front later entry r is runs =
     turn-ends_off r.volume entry.call (run-before setup front entry r differ_to runs).may (new-before setup front entry r differ_to runs)
-    (run-calls_named setup front r (λ client number. (let few = differ_to client number in let parts = how_many-append (is_entry_of client number) front (entry ∷ []) in omega arith)) runs) entry.starved
+    (run-calls_named setup front r (differ-front front (entry ∷ []) differ_to) runs) entry.starved
   where
     differ_to : CallsDiffer (front ++ entry ∷ [])
     differ_to = differ-before history front later entry is differ

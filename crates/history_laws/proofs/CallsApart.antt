@@ -10,14 +10,15 @@ use Rattle.fsa_types.specs.declared.request.What.{What}
 use Rattle.fsa_types.specs.declared.status.Status.{Status}
 use Rattle.fsa_model.specs.Close.{with_calls_ended}
 use Rattle.fsa_model.specs.Edits.{is_call, with_end}
-use Rattle.fsa_model.specs.Once.{IsOnce, times}
+use Rattle.fsa_model.specs.Once.{IsOnce, how_many, times}
 use Rattle.fsa_model.specs.Volume.{Pending, Volume}
 use Rattle.fsa_model.proofs.CoherenceLaws.{any-in_order}
-use Rattle.fsa_model.proofs.CountLaws.{and_left, and_right, only-one}
+use Rattle.fsa_model.proofs.CountLaws.{and_left, and_right, only-one, some-how_many}
 use Rattle.fsa_model.proofs.OnceLaws.{is_call_of, is_same-equal, is_same-refl}
-use Rattle.fsa_model.proofs.RowLaws.{any-filter_none, any-weaker}
+use Rattle.fsa_model.proofs.RowLaws.{any-filter_none}
+use Rattle.fsa_model.proofs.SettleLaws.{IsNext}
 use Rattle.fsa_model.proofs.WaitLaws.{Found, some_item}
-use Rattle.history_laws.proofs.AnyLaws.{any-filter_and, any-kept}
+use Rattle.history_laws.proofs.AnyLaws.{and_twice, any-filter_and, any-kept, none-stronger}
 
 -- where a call ends, what is none of its rows stays
 pub ends-stay : (T : ℕ × Pending → Bool) (v : Volume) (client number : ℕ) (reply : Reply) → list_any (λ e. T e && is_call_of client number e) v.pending ≡ false → list_any T v.pending ≡ true
@@ -40,16 +41,10 @@ pub calls-stay : (T : ℕ × Pending → Bool) (status_of : What → Status) (ca
 calls-stay T status_of [] v apart some = some
 calls-stay T status_of (entry ∷ calls) v apart some =
     calls-stay T status_of calls (with_end v entry.1.call.client entry.1.call.number (record { status = status_of entry.1.call.what; body = Nothing }))
-    (any-filter_none (λ e. T e && is_one_of calls e) (λ e. not (is_call entry.1.call.client entry.1.call.number e.1)) v.pending (none-weaker (λ e both. rest (T e) (is_call_of entry.1.call.client entry.1.call.number e) (is_one_of calls e) both)))
+    (any-filter_none (λ e. T e && is_one_of calls e) (λ e. not (is_call entry.1.call.client entry.1.call.number e.1)) v.pending (none-stronger (λ e. T e && is_one_of (entry ∷ calls) e) _ v.pending (λ e both. rest (T e) (is_call_of entry.1.call.client entry.1.call.number e) (is_one_of calls e) both) apart))
     (ends-stay T v entry.1.call.client entry.1.call.number (record { status = status_of entry.1.call.what; body = Nothing })
-    (none-weaker (λ e both. first (T e) (is_call_of entry.1.call.client entry.1.call.number e) (is_one_of calls e) both)) some)
+    (none-stronger (λ e. T e && is_one_of (entry ∷ calls) e) _ v.pending (λ e both. first (T e) (is_call_of entry.1.call.client entry.1.call.number e) (is_one_of calls e) both) apart) some)
   where
-    none-weaker : {q : ℕ × Pending → Bool} → ((e : ℕ × Pending) → q e ≡ true → (T e && is_one_of (entry ∷ calls) e) ≡ true) → list_any q v.pending ≡ false
-    none-weaker {q} weaker = elim (cases_Bool (list_any q v.pending)) [
-      | inr none ↦ none
-      | inl is ↦ absurd (let there = any-weaker q (λ e. T e && is_one_of (entry ∷ calls) e) v.pending weaker is in let impossible : true ≡ false = sym there ∙ apart in cc)
-    ]
-
     rest : (a b c : Bool) → (a && c) ≡ true → (a && (b || c)) ≡ true
     rest true true c both = refl
     rest true false c both = both
@@ -89,3 +84,9 @@ calls-apart T test before v once excludes = elim (cases_Bool (list_any (λ e. T 
             let others : list_any (λ e. is_call_of client number e && not (test e.1)) v.pending ≡ false = only-one (is_call_of client number) (λ e. test e.1) v.pending (omega arith) kept in
             let there : list_any (λ e. is_call_of client number e && not (test e.1)) v.pending ≡ true = found.is_there (λ e. is_call_of client number e && not (test e.1)) (rw (is_same-refl client number, fails) refl) in
             let impossible : true ≡ false = sym there ∙ others in cc
+
+-- where one pending call at most passes a test, and the next does, none that passes it passes what the next doesn't
+pub next-apart : (p T : ℕ × Pending → Bool) (w : Volume) (entry : ℕ × Pending) → how_many p w.pending ≤ 1 → IsNext w entry → p entry ≡ true → T entry ≡ false → list_any (λ e. T e && p e) w.pending ≡ false
+next-apart p T w entry one next its free =
+    let there : list_any (λ e. p e && not (T e)) w.pending ≡ true = some-how_many (λ e. p e && not (T e)) w.pending (next.is_there (λ e. p e && not (T e)) (rw (its, free) refl)) in
+    none-stronger (λ e. p e && not (not (T e))) (λ e. T e && p e) w.pending (λ e both. and_twice (T e) (p e) both) (only-one p (λ e. not (T e)) w.pending one there)

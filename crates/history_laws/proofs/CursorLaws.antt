@@ -1,4 +1,5 @@
 -- Laws of cursors: where they begin, how one goes on with a turn, and which call is next by them.
+use Rattle.fsa_model.proofs.RowLaws.{or-false}
 use Rattle.std.proofs.Common.{◌≡◌, ℕ, ◌+◌, ◌-◌, ◌<◌, ◌≤◌, length-set, zero, suc, List, [], ◌∷◌, ◌++◌, length, drop, take, map, cond, ne_eqb, Bool, true, false, not, Some, None, refl, ap, sym, subst, ◌∙◌, arith, eq-eqb, inl, inr, ◌⊎◌}
 use Rattle.std.specs.Prelude.{◌==◌, ◌&&◌, ◌||◌, find, nat_lt, slice_get, slice_set, slice_index_or}
 use Rattle.std.proofs.lemmas.Bool.{cases_Bool, eqb-true}
@@ -67,10 +68,6 @@ by_order (suc i) (suc p) = elim (by_order i p) [
   | inr rest ↦ elim rest [ inl same ↦ inr (inl (ap suc same)) | inr more ↦ inr (inr (omega arith)) ]
 ]
 
-or_false : (b : Bool) → (b || false) ≡ b
-or_false true = refl
-or_false false = refl
-
 -- the call at its client's cursor was made: the cursor goes on to the client's next call
 pub StandAt-push : (calls : List Call) (history : List HistoryEntry) (cursors : List ℕ) (place : ℕ) (entry : HistoryEntry) → AreNumbered [] calls → StandAt calls history cursors
     → entry.call.client < length cursors → slice_index_or cursors entry.call.client 0 ≡ place → slice_get calls place ≡ Some entry.call
@@ -119,7 +116,7 @@ StandAt-push calls history cursors place entry numbered stands within cursor at 
     other_client : (b : Bool) (call : Call) → (call.client == entry.call.client) ≡ false → (b || is_same_call entry.call call) ≡ b
     other_client b call isnt = elim (cases_Bool (entry.call.client == call.client)) [
       | inl is ↦ absurd (differs call.client (sym (eqb-true entry.call.client call.client is)) isnt)
-      | inr apart ↦ rw apart (or_false b)
+      | inr apart ↦ rw apart (or-false b)
     ]
 
     own_call : (i : ℕ) (call : Call) → slice_get calls i ≡ Some call → call.client ≡ entry.call.client → (nat_lt i place || is_same_call entry.call call) ≡ nat_lt i onward

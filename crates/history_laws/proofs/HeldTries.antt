@@ -7,6 +7,7 @@ use Rattle.std.proofs.lemmas.Bool.{cases_Bool, eqb-true}
 use Rattle.std.proofs.lemmas.List.Elements.{All-head, All-tail}
 use Rattle.fsa_types.specs.Oplocks.{Effect, Stays, Ends, Begins, Lowers}
 use Rattle.fsa_types.specs.Rows.{row_of}
+use Rattle.fsa_types.specs.declared.oplock.Class.{Class}
 use Rattle.fsa_types.specs.declared.reply.Body.TheVariants.{Broken as IsBroken, Nothing}
 use Rattle.fsa_types.specs.declared.reply.Interim.TheVariants.{Granted}
 use Rattle.fsa_types.specs.declared.reply.Reply.{Reply}
@@ -40,7 +41,7 @@ use Rattle.fsa_model.proofs.RowLaws.{any-weaker, option_cases}
 use Rattle.fsa_model.proofs.TryLaws.{Keeps, Keeps-breaks, Keeps-effect, KeepsNumbers, Untouched, Untouched-next}
 use Rattle.fsa_model.proofs.WaitLaws.{All-kept, done_to}
 use Rattle.history_laws.specs.Holding.{asks_oplock, calls_off}
-use Rattle.history_laws.proofs.AnyLaws.{any-kept}
+use Rattle.history_laws.proofs.AnyLaws.{any-kept, both_ends}
 use Rattle.history_laws.proofs.ByBreaks.{ByBreaks, Still, Locked, Broken, Next, TriesByBreaks}
 use Rattle.history_laws.proofs.CallsApart.{calls-apart, calls-stay, ends-stay}
 use Rattle.history_laws.proofs.TriesByBreaks.{changes_otherwise, what-by_breaks}
@@ -133,14 +134,14 @@ module _ (T : ℕ × Pending → Bool) where
     none : GrantsNone w
     keep : Keep v w
 
-  HoldsOn-by : {v w : Volume} → ByBreaks v w → IsOnce v → GrantsNone v → HoldsOn v w
+  HoldsOn-by : {kind : Class} {v w : Volume} → ByBreaks kind v w → IsOnce v → GrantsNone v → HoldsOn v w
   HoldsOn-by (Still v w oplocks locks pending ended left last_break last_lock) once none = record {
     once = λ client number. rw (pending, ended) (once client number);
     none = λ turn some. rw pending (none turn (rw oplocks at some));
     keep = λ some. rw pending some;
   }
   HoldsOn-by (Locked v handle at count exclusive) once none = record { once = once; none = none; keep = λ some. some }
-  HoldsOn-by (Broken v on kind acting key) once none =
+  HoldsOn-by {kind} (Broken v on acting key) once none =
       let keeps : Keeps v (with_breaks v on kind acting key) = Keeps-breaks v on kind acting key in
       record {
         once = IsOnce-kept v (with_breaks v on kind acting key) (keeps.times once) once;
@@ -157,8 +158,8 @@ module _ (T : ℕ × Pending → Bool) where
 
   -- ---- an oplock's request
 
-  record TriesKeep (v : Volume) (outcome : Outcome) : Type 0 where
-    keep : Keep v (volume_after outcome)
+  pub record TriesKeep (v : Volume) (outcome : Outcome) : Type 0 where
+    pub keep : Keep v (volume_after outcome)
 
   keep-if : {v : Volume} (test : Bool) (one other : Outcome) → TriesKeep v one → TriesKeep v other → TriesKeep v (if test then one else other)
   keep-if true one other holds fails = holds
@@ -190,14 +191,14 @@ module _ (T : ℕ × Pending → Bool) where
   keep-without : (v : Volume) (id : ℕ) (reply : Reply) → TriesKeep v (Done (without_oplock v id) reply)
   keep-without v id reply = record { keep = λ some. some }
 
-  keep-ack : (v : Volume) (client handle : ℕ) (level : Level) (turn : ℕ) → TriesKeep v (try_ack v client handle level turn)
+  pub keep-ack : (v : Volume) (client handle : ℕ) (level : Level) (turn : ℕ) → TriesKeep v (try_ack v client handle level turn)
   unfolding try_ack ack_at ack_keeping
   keep-ack v client handle level turn = search (keep-if, keep-option, keep-refused, keep-level, keep-without) depth 20
 
   keep-unlocked : (v : Volume) (id at count : ℕ) → TriesKeep v (ends_with (without_lock v id at count) Success)
   keep-unlocked v id at count = record { keep = λ some. some }
 
-  keep-unlock : (v : Volume) (client handle at count : ℕ) → TriesKeep v (try_unlock v client handle at count)
+  pub keep-unlock : (v : Volume) (client handle at count : ℕ) → TriesKeep v (try_unlock v client handle at count)
   unfolding try_unlock unlock_at unlock_by unlock_range
   keep-unlock v client handle at count = search (keep-option, keep-refused, keep-unlocked) depth 20
 
@@ -216,7 +217,7 @@ module _ (T : ℕ × Pending → Bool) where
       (keep-closed v entry.0 entry.1 once (λ e passes. (let its : entry.1.client ≡ client = eqb-true entry.1.client client (All-head (λ (entry : ℕ × Handle). (entry.1.client == client) ≡ true) entry handles own) in
       rw (its, others e passes) refl)) some)
 
-  keep-leave : (v : Volume) (client : ℕ) → IsOnce v → ((e : ℕ × Pending) → T e ≡ true → (e.1.call.client == client) ≡ false) → Keep v (volume_after (try_leave v client))
+  pub keep-leave : (v : Volume) (client : ℕ) → IsOnce v → ((e : ℕ × Pending) → T e ≡ true → (e.1.call.client == client) ≡ false) → Keep v (volume_after (try_leave v client))
   unfolding try_leave with_client_gone
   keep-leave v client once others some =
       let ended : Volume = with_calls_ended (λ _. Cancelled) (pending_by_turn (is_left_behind client) v) v in
@@ -225,7 +226,7 @@ module _ (T : ℕ × Pending → Bool) where
       (All-kept (λ (entry : ℕ × Handle). (entry.1.client == client) ≡ true) (λ entry. entry.1.client == client) v.handles (λ k d within passes. passes))) others
       (calls-stay T (λ _. Cancelled) (pending_by_turn (is_left_behind client) v) v (calls-apart T (is_left_behind client) (λ a b. nat_lt a.0 b.0) v once (λ e passes. rw (others e passes) refl)) some)
 
-  keep-close : (v : Volume) (client handle : ℕ) → IsOnce v
+  pub keep-close : (v : Volume) (client handle : ℕ) → IsOnce v
       → ((e : ℕ × Pending) → T e ≡ true → option_map_or (λ id. option_map_or (λ row. is_call_on row e.1) (row_of v.handles id) false) (handle_of v client handle) false ≡ false) → Keep v (volume_after (try_close v client handle))
   unfolding try_close close_at
   keep-close v client handle once excludes some = elim (option_cases (handle_of v client handle)) [
@@ -236,7 +237,7 @@ module _ (T : ℕ × Pending → Bool) where
     ])
   ]
 
-  keep-cancel : (v : Volume) (client number : ℕ) → ((e : ℕ × Pending) → T e ≡ true → is_call client number e.1 ≡ false) → Keep v (volume_after (try_cancel v client number))
+  pub keep-cancel : (v : Volume) (client number : ℕ) → ((e : ℕ × Pending) → T e ≡ true → is_call client number e.1 ≡ false) → Keep v (volume_after (try_cancel v client number))
   unfolding try_cancel
   keep-cancel v client number excludes some = elim (option_cases (number_of (is_call client number) v.pending)) [
     | inl none ↦ rw none some
@@ -255,12 +256,7 @@ stays_if v call test entry = (not (asks_oplock entry.1) && not (calls_off v call
 
 module _ (v : Volume) (call : Call) (test : ℕ × Pending → Bool) where
   asks_none : (e : ℕ × Pending) → stays_if v call test e ≡ true → (not (asks_oplock e.1) && test e) ≡ true
-  asks_none e all = by (not (asks_oplock e.1)) (not (calls_off v call e.1)) (test e) all
-    where
-      by : (a b c : Bool) → ((a && b) && c) ≡ true → (a && c) ≡ true
-      by true true c is = is
-      by true false c is = cc
-      by false b c is = cc
+  asks_none e all = both_ends (not (asks_oplock e.1)) (not (calls_off v call e.1)) (test e) all
 
   not_off : (e : ℕ × Pending) → stays_if v call test e ≡ true → calls_off v call e.1 ≡ false
   not_off e all = by (not (asks_oplock e.1)) (calls_off v call e.1) (test e) all

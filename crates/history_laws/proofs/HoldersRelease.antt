@@ -5,7 +5,7 @@ use Rattle.std.proofs.Common.{◌≡◌, ℕ, zero, suc, ◌+◌, ◌≤◌, len
 use Rattle.std.specs.List.{filter, find, list_any}
 use Rattle.std.specs.Option.{option_map_or}
 use Rattle.std.specs.Prelude.{◌==◌, ◌&&◌, ◌||◌, is_some, nat_lt}
-use Rattle.std.proofs.lemmas.Bool.{cases_Bool, eqb-true}
+use Rattle.std.proofs.lemmas.Bool.{cases_Bool, eqb-true, not-true}
 use Rattle.fsa_types.specs.OplockGrants.{as_answered}
 use Rattle.fsa_types.specs.Oplocks.{has_read, in_both}
 use Rattle.fsa_types.specs.Rows.{lives, row_of}
@@ -19,7 +19,7 @@ use Rattle.fsa_types.specs.declared.request.What.TheVariants.{Ask, Leave}
 use Rattle.fsa_types.specs.declared.status.Status.TheVariants.{Cancelled}
 use Rattle.fsa_model.specs.Close.{close_at, handles_of_client, is_left_behind, pending_by_turn, try_close, try_leave, with_all_closed, with_calls_ended, with_client_gone, with_closed}
 use Rattle.fsa_model.specs.Edits.{is_lock_on, with_left}
-use Rattle.fsa_model.specs.Engine.{CallsDiffer, TakesReleased, is_entry_of, is_released, own_tried}
+use Rattle.fsa_model.specs.Engine.{CallsDiffer, TakesReleased, is_released, own_tried}
 use Rattle.fsa_model.specs.Grant.{ack_at, ack_keeping, target_of, try_ack}
 use Rattle.fsa_model.specs.History.{HistoryEntry, Run, run}
 use Rattle.fsa_model.specs.Locking.{try_unlock, unlock_at, unlock_by, unlock_range}
@@ -35,7 +35,7 @@ use Rattle.fsa_model.specs.Turn.{settlement, turn_number, volume_after}
 use Rattle.fsa_model.specs.Volume.{Handle, Lock, Oplock, Pending, Volume}
 use Rattle.fsa_model.specs.Waiting.{blocker_lives, is_blocked, is_breaking, is_held}
 use Rattle.fsa_model.proofs.CoherenceLaws.{any-in_order}
-use Rattle.fsa_model.proofs.CountLaws.{and_left, and_right, how_many-append, only-one}
+use Rattle.fsa_model.proofs.CountLaws.{and_left, and_right, only-one}
 use Rattle.fsa_model.proofs.EngineLaws.{new-before, run-before, run-released}
 use Rattle.fsa_model.proofs.OnceLaws.{SameBlockers, blockers-calls_ended}
 use Rattle.fsa_model.proofs.RowLaws.{any-map, any-same, any-weaker, find-any, find-none, option_cases}
@@ -45,11 +45,11 @@ use Rattle.fsa_model.proofs.TryLaws.{Leaves, Tries, TriesTo}
 use Rattle.fsa_model.proofs.TurnLaws.{Adds-answered, TriedTo, try-keeps}
 use Rattle.fsa_model.proofs.WaitLaws.{find-passes, is_of, some_item}
 use Rattle.history_laws.specs.Releasing.{EndsWhatItHolds, HoldersRelease, OthersReleaseNone, ReleasesNone, ends, ends_held, holds, is_ended_by, is_first_lock, is_held_by, is_open_of, may_release, waits_for_ended}
-use Rattle.history_laws.proofs.BrokenGrants.{AreNumbered, Closes, IsTidy, IsTidy-same, TriesApart, apart-try, closes, run-tidy}
+use Rattle.history_laws.proofs.BrokenGrants.{AreNumbered, Closes, IsTidy, IsTidy-same, TriesApart, apart-try, closes, own-tidy, run-tidy}
 use Rattle.history_laws.proofs.AnyLaws.{and_none, and_true, any-filter_and, any-never, any-where}
 use Rattle.history_laws.proofs.HoldersStay.{stays-held}
 use Rattle.history_laws.proofs.TurnBlockers.{blockers-answered, blockers-come, blockers-stalled, blockers-tried}
-use Rattle.history_laws.proofs.TurnByTurn.{differ-before, own-may, settled-keeps, steps-keep}
+use Rattle.history_laws.proofs.TurnByTurn.{differ-before, differ-front, own-may, settled-keeps, steps-keep}
 
 -- ---- what is left of a list
 
@@ -467,19 +467,15 @@ released-ended v call ended_by turn entry is = rw (its, any-where (blocker_lives
     was = and_right (entry.0 == turn && is_held entry.1) (is_blocked (blocker_lives v) entry.1) before
 
     gone : is_blocked (blocker_lives (own_tried v call)) entry.1 ≡ false
-    gone = not-isnt (is_blocked (blocker_lives (own_tried v call)) entry.1)
+    gone = not-true (is_blocked (blocker_lives (own_tried v call)) entry.1)
         (and_right (entry.0 == turn && is_held entry.1 && is_blocked (blocker_lives v) entry.1 && lives (own_tried v call).pending turn) (not (is_blocked (blocker_lives (own_tried v call)) entry.1)) is)
-      where
-        not-isnt : (b : Bool) → not b ≡ true → b ≡ false
-        not-isnt true is = sym is
-        not-isnt false is = refl
 
 module _ (setup : Setup) (history front later : List HistoryEntry) (entry : HistoryEntry) (r : Run) (differ : CallsDiffer history) (is : history ≡ front ++ entry ∷ later) (runs : run setup front ≡ Some r) where
   differ_to : CallsDiffer (front ++ entry ∷ [])
   differ_to = differ-before history front later entry is differ
 
   differ_front : CallsDiffer front
-  differ_front client number = (let few = differ_to client number in let parts = how_many-append (is_entry_of client number) front (entry ∷ []) in omega arith)
+  differ_front = differ-front front (entry ∷ []) differ_to
 
   takes : TakesReleased r.volume entry.call entry.starved
   takes = run-released setup front entry r differ_to runs
@@ -521,7 +517,7 @@ module _ (setup : Setup) (history front later : List HistoryEntry) (entry : Hist
     given = λ b had. had;
     living = own_given.living;
     ones = own_given.ones;
-    tidy = IsTidy-same same (TriesApart.so (apart-try r.volume entry.call (turn_number r.volume) may.take_up.may.oplocks tidy));
+    tidy = own-tidy r.volume entry.call may.take_up.may.oplocks tidy;
     held = λ id b had. refl;
   }
 

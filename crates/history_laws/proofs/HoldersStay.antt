@@ -110,7 +110,7 @@ record StaysOld (v w : Volume) : Type 0 where
   old_break : (n id : ℕ) → n ≤ v.last_break → list_any (is_break_of n id) w.oplocks ≡ true → list_any (is_break_of n id) v.oplocks ≡ true
   lock : (n id : ℕ) → n ≤ v.last_lock → holds w id (blocker.Lock n) ≡ holds v id (blocker.Lock n)
 
-StaysOld-by : {v w : Volume} → ByBreaks v w → HasOneOplockEach v → StaysOld v w
+StaysOld-by : {kind : Class} {v w : Volume} → ByBreaks kind v w → HasOneOplockEach v → StaysOld v w
 StaysOld-by (Still v w oplocks locks pending ended left last_break last_lock) one = record {
   one = λ handle. rw oplocks (let few = one handle in omega arith);
   breaks = omega arith;
@@ -135,7 +135,7 @@ StaysOld-by (Locked v handle at count exclusive) one = record {
     new-lock : {X : Type 0} (p : X → Bool) (xs : List X) (x : X) → p x ≡ false → list_any p (xs ++ x ∷ []) ≡ list_any p xs
     new-lock p [] x fails = rw fails refl
     new-lock p (y ∷ xs) x fails = ap (λ rest. p y || rest) (new-lock p xs x fails)
-StaysOld-by (Broken v on kind acting key) one = record {
+StaysOld-by {kind} (Broken v on acting key) one = record {
   one = HasOneOplockEach-kept v (with_breaks v on kind acting key) (Keeps-breaks v on kind acting key) one;
   breaks = with_breaks-last v on kind acting key;
   locks = (let same = ap (λ (w : Volume). w.last_lock) (with_breaks-rest v on kind acting key) in omega arith);

@@ -82,7 +82,8 @@ IsServed-serves v w serves served = record {
 
 -- ---- a step of a settlement
 
-leave_isnt_held : (what : What) → may_be_held what ≡ true → is_leave what ≡ false
+-- a leaving is never held
+pub leave_isnt_held : (what : What) → may_be_held what ≡ true → is_leave what ≡ false
 leave_isnt_held Leave held = cc
 leave_isnt_held _ held = refl
 

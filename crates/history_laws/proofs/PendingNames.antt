@@ -123,14 +123,14 @@ stay-taken_up s entry may next = elim (cases_Bool (is_held entry.1)) [
   ])
 ]
 
-CallsNamed-taken_up : (s : Settling) (entry : ℕ × Pending) → MaySettle s.volume → IsNext s.volume entry → CallsNamed s.volume → CallsNamed (taken_up s entry).volume
+pub CallsNamed-taken_up : (s : Settling) (entry : ℕ × Pending) → MaySettle s.volume → IsNext s.volume entry → CallsNamed s.volume → CallsNamed (taken_up s entry).volume
 CallsNamed-taken_up s entry may next tidy = CallsNamed-onward s.volume (taken_up s entry).volume (record {
   stay = stay-taken_up s entry may next;
   pending = λ test. Steps.pending (Steps-taken_up s entry may next) (λ turn call. test call);
   left = λ client. left-taken_up client s entry may next;
 }) tidy
 
-CallsNamed-stalled : (v : Volume) → CallsNamed v → CallsNamed (with_stalled v)
+pub CallsNamed-stalled : (v : Volume) → CallsNamed v → CallsNamed (with_stalled v)
 CallsNamed-stalled v tidy = CallsNamed-onward v (with_stalled v) (record {
   stay = HandlesStay-same handles (stalled-kept v).same.handles;
   pending = λ test. (stalled-kept v).kept.keeps.pending (λ e. test e.1.call);
@@ -153,10 +153,10 @@ pub closed-gone : (v : Volume) (id : ℕ) (handle : Handle) → how_many (λ e. 
 closed-gone v id handle = rw (closed-pending v id handle) (ended-gone closed_status (is_call_on handle) v)
 
 -- no handle but this one has its number
-abbrev IsOnly : List (ℕ × Handle) → ℕ × Handle → Type 0
+abbrev pub IsOnly : List (ℕ × Handle) → ℕ × Handle → Type 0
 IsOnly handles entry = list_any (λ h. h.0 == entry.0 && not (is_opened_by entry.1.client entry.1.number h.1)) handles ≡ false
 
-only-numbered : (handles : List (ℕ × Handle)) (last : ℕ) (entry : ℕ × Handle) → IsNumbered handles last → row_of handles entry.0 ≡ Some entry.1 → IsOnly handles entry
+pub only-numbered : (handles : List (ℕ × Handle)) (last : ℕ) (entry : ℕ × Handle) → IsNumbered handles last → row_of handles entry.0 ≡ Some entry.1 → IsOnly handles entry
 only-numbered handles last entry numbered row = elim (option_cases (find other handles)) [
   | inl none ↦ find-none other handles none
   | inr some ↦ absurd (impossible some.0 some.1)
@@ -454,7 +454,7 @@ CallsNamed-answered call turn (Stay w interim) (inr how) tidy = CallsNamed-pendi
 CallsNamed-answered call turn (Hold w blockers interim) (inl ends) tidy = absurd ends
 CallsNamed-answered call turn (Hold w blockers interim) (inr how) tidy = CallsNamed-pending w turn call blockers how.0 how.1 tidy
 
-CallsNamed-own : (v : Volume) (call : Call) → HasOneOplockEach v → CallsNamed v → CallsNamed (own_tried v call)
+pub CallsNamed-own : (v : Volume) (call : Call) → HasOneOplockEach v → CallsNamed v → CallsNamed (own_tried v call)
 CallsNamed-own v call one tidy = CallsNamed-answered call (turn_number v) (try v call (turn_number v)) (ends-or_named v call (turn_number v) one tidy) (named-tried v call (turn_number v) one tidy)
 
 -- ---- over a run
@@ -464,7 +464,7 @@ CallsNamed-turn v entry later may new tidy =
     settled-keeps CallsNamed (λ s next may is before. CallsNamed-taken_up s next may is before) v entry.call entry.starved (own-may v entry.call may new)
     (λ before. CallsNamed-stalled (taken_up_all (own_tried v entry.call) entry.starved).volume before) (CallsNamed-own v entry.call may.take_up.may.oplocks tidy)
 
-CallsNamed-fresh : (setup : Setup) → CallsNamed (fresh setup)
+pub CallsNamed-fresh : (setup : Setup) → CallsNamed (fresh setup)
 CallsNamed-fresh setup = record { numbered = record { rising = λ j k d less within. absurd (omega arith); given = λ k d within. absurd (omega arith) }; named = refl; quiet = λ client gone. refl }
 
 pub run-calls_named : (setup : Setup) (history : List HistoryEntry) (r : Run) → CallsDiffer history → run setup history ≡ Some r → CallsNamed r.volume

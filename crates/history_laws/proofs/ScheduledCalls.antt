@@ -1,6 +1,7 @@
 -- A schedule makes no call while its client waits.
-use Rattle.std.proofs.Common.{◌≡◌, ◌+◌, Bool, true, false, not, List, ◌∷◌, ◌++◌, length, take, refl, ap, subst, ◌∙◌, arith, Some}
+use Rattle.std.proofs.Common.{◌≡◌, ◌+◌, true, not, List, ◌∷◌, ◌++◌, length, take, ap, subst, ◌∙◌, arith, Some}
 use Rattle.std.specs.Prelude.{◌&&◌, slice_get}
+use Rattle.std.proofs.lemmas.Bool.{not-true}
 use Rattle.fsa_types.specs.declared.request.Call.{Call}
 use Rattle.fsa_model.specs.History.{HistoryEntry, Run, run}
 use Rattle.fsa_model.specs.Schedule.{Scheduled, all_calls, is_made, next}
@@ -11,10 +12,6 @@ use Rattle.fsa_model.proofs.WaitLaws.{find-passes}
 use Rattle.history_laws.specs.Races.{NoneMadeWaiting}
 use Rattle.history_laws.proofs.CallsOfRuns.{entries-before}
 use Rattle.history_laws.proofs.NextLaws.{slice_get-behind}
-
-isnt : (b : Bool) → not b ≡ true → b ≡ false
-isnt true is = absurd (let impossible : false ≡ true = is in cc)
-isnt false is = refl
 
 -- the call of an entry is next after those before it: it isn't made, and its client doesn't wait
 next-passes : (script : Script) (history front back : List HistoryEntry) (entry : HistoryEntry) (r : Run) → Scheduled script history → history ≡ front ++ entry ∷ back → run script.setup front ≡ Some r
@@ -33,4 +30,4 @@ next-passes script history front back entry r scheduled is runs =
 
 pub Scheduled-free : (script : Script) (history : List HistoryEntry) → Scheduled script history → NoneMadeWaiting script history
 Scheduled-free script history scheduled front later entry is r runs =
-    isnt (waits r.volume entry.call.client) (and_right (not (is_made front entry.call)) (not (waits r.volume entry.call.client)) (next-passes script history front later entry r scheduled is runs))
+    not-true (waits r.volume entry.call.client) (and_right (not (is_made front entry.call)) (not (waits r.volume entry.call.client)) (next-passes script history front later entry r scheduled is runs))

@@ -141,8 +141,8 @@ module _ (who number : ℕ) where
 
   -- ---- what changes oplocks, pending calls and ends by breaks alone
 
-  pub Spares-by : {v w : Volume} → ByBreaks v w → Spares v w
+  pub Spares-by : {kind : Class} {v w : Volume} → ByBreaks kind v w → Spares v w
   Spares-by (Still v w oplocks locks pending ended left last_break last_lock) = Spares-still oplocks pending ended left
   Spares-by (Locked v handle at count exclusive) = Spares-still refl refl refl refl
-  Spares-by (Broken v on kind acting key) = Spares-breaks v on kind acting key
+  Spares-by {kind} (Broken v on acting key) = Spares-breaks v on kind acting key
   Spares-by (Next u v w first second) = Spares-next (Spares-by first) (Spares-by second)

@@ -7,6 +7,7 @@ use Rattle.std.specs.Prelude.{◌==◌, ◌&&◌, ◌||◌, if◌then◌else◌,
 use Rattle.std.proofs.lemmas.Bool.{cases_Bool, eq-eqb, eqb-true}
 use Rattle.std.proofs.lemmas.List.{get_or-set_other}
 use Rattle.fsa_types.specs.Rows.{row_of}
+use Rattle.fsa_types.specs.declared.oplock.Class.TheVariants.{Clash}
 use Rattle.fsa_types.specs.declared.reply.Body.TheVariants.{Nothing}
 use Rattle.fsa_types.specs.declared.reply.Interim.TheVariants.{Granted}
 use Rattle.fsa_types.specs.declared.reply.Reply.{Reply}
@@ -105,7 +106,7 @@ module _ (who number : ℕ) where
       let gone : Volume = without_handle over id in
       let marked : Volume = with_mark_on_close gone handle in
       Spares-next who number (Spares-calls closed_status (is_call_on handle) v (λ p on its waits. names-no_wait p.call.what handle.number (and_right (p.call.client == handle.client) (names p.call.what handle.number) on) waits))
-      (Spares-next who number (fewer_oplocks over gone (λ oplock. not (oplock.handle == id)) refl refl refl refl) (Spares-next who number (Spares-by who number (marked_on_close gone handle)) (Spares-by who number (swept marked handle))))
+      (Spares-next who number (fewer_oplocks over gone (λ oplock. not (oplock.handle == id)) refl refl refl refl) (Spares-next who number (Spares-by who number (marked_on_close {kind = Clash} gone handle)) (Spares-by who number (swept {kind = Clash} marked handle))))
 
   pub all_closed : (handles : List (ℕ × Handle)) (v : Volume) → Spares who number v (with_all_closed handles v)
   all_closed [] v = Spares-same who number v

@@ -7,7 +7,7 @@ use Rattle.fsa_model.specs.Engine.{CallsDiffer, is_entry_of, own_tried}
 use Rattle.fsa_model.specs.History.{HistoryEntry, Run, begun, run, steps, turn_on, with_turn}
 use Rattle.fsa_model.specs.Once.{how_many, times}
 use Rattle.fsa_model.specs.Settle.{Settling, repeated, settle_step, taken_up, taken_up_all}
-use Rattle.fsa_model.specs.Settling.{MaySettle, MayTurn}
+use Rattle.fsa_model.specs.Settling.{GoesOn, MaySettle, MayTakeUp, MayTurn}
 use Rattle.fsa_model.specs.Setup.{Setup}
 use Rattle.fsa_model.specs.Turn.{Turned, settlement, try, turn, turn_number}
 use Rattle.fsa_model.specs.Volume.{Pending, Volume, fresh}
@@ -17,6 +17,7 @@ use Rattle.fsa_model.proofs.CountLaws.{how_many-append}
 use Rattle.fsa_model.proofs.OnceHistory.{MayTurn-fresh, Runs, is_entry_of-self, run-runs}
 use Rattle.fsa_model.proofs.RowLaws.{option_cases}
 use Rattle.fsa_model.proofs.SettleLaws.{IsNext, Steps, Steps-taken_up, next_ready-is, some_equal}
+use Rattle.fsa_model.proofs.TakenLaws.{GoesOn-settle_step}
 use Rattle.fsa_model.proofs.TurnLaws.{Adds-answered, Turns, settlement-turns, try-keeps}
 
 -- ---- a settlement
@@ -40,6 +41,15 @@ module _ (P : Volume → Type 0) (step : (s : Settling) (entry : ℕ × Pending)
       → (P (taken_up_all (own_tried v call) starved).volume → P (with_stalled (taken_up_all (own_tried v call) starved).volume)) → P (own_tried v call) → P (settlement v call starved).volume
   settled-keeps v call starved may stalled own = stalled (taken_up-keeps (own_tried v call) starved may own)
 
+-- what each step keeps where the settlement has come so far
+module _ (own : Volume) (P : Volume → Type 0) (step : (s : Settling) (entry : ℕ × Pending) → GoesOn own s → IsNext s.volume entry → P s.volume → P (taken_up s entry).volume) where
+  pub goes-keep : (most : ℕ) (s : Settling) → GoesOn own s → P s.volume → GoesOn own (repeated settle_step most s) × P (repeated settle_step most s).volume
+  goes-keep zero s on holds = (on, holds)
+  goes-keep (suc more) s on holds = elim (option_cases (next_ready s.volume)) [
+    | inl none ↦ rw none (on, holds)
+    | inr some ↦ rw some.1 (goes-keep more (taken_up s some.0) (GoesOn-settle_step own s (taken_up s some.0) on (rw some.1 refl)).0 (step s some.0 on (next_ready-is s.volume some.0 some.1) holds))
+  ]
+
 -- ---- turns
 
 -- none of these calls was made before, or is made twice
@@ -54,8 +64,11 @@ new-call v entry later differ =
     let one : times entry.call.client entry.call.number v + (1 + how_many (is_entry_of entry.call.client entry.call.number) later) ≤ 1 = rw self at few in omega arith
 
 -- what a settlement asks holds once the turn's own call has been tried
+pub own-takes_up : (v : Volume) (call : Call) → MayTurn v → times call.client call.number v ≡ 0 → MayTakeUp (own_tried v call)
+own-takes_up v call may none = (Adds-answered v call (try v call (turn_number v)) may none (try-keeps v call (turn_number v) may.take_up.may.oplocks)).may.take_up
+
 pub own-may : (v : Volume) (call : Call) → MayTurn v → times call.client call.number v ≡ 0 → MaySettle (own_tried v call)
-own-may v call may none = (Adds-answered v call (try v call (turn_number v)) may none (try-keeps v call (turn_number v) may.take_up.may.oplocks)).may.take_up.may
+own-may v call may none = (own-takes_up v call may none).may
 
 -- the first of some turns is made, and what is left to make goes on from there
 record Goes (r : Run) (entry : HistoryEntry) (later : List HistoryEntry) (s : Run) : Type 0 where
@@ -103,6 +116,10 @@ module _ (P : Volume → List HistoryEntry → Type 0)
 
 -- ---- a run in two parts
 
+-- no call is made twice in the first part
+pub differ-front : (front later : List HistoryEntry) → CallsDiffer (front ++ later) → CallsDiffer front
+differ-front front later differ client number = (let few = differ client number in let parts = how_many-append (is_entry_of client number) front later in omega arith)
+
 -- no call is made twice up to an entry
 pub differ-before : (history front later : List HistoryEntry) (entry : HistoryEntry) → history ≡ front ++ entry ∷ later → CallsDiffer history → CallsDiffer (front ++ entry ∷ [])
 differ-before history front later entry is differ client number =
@@ -131,7 +148,7 @@ pub record Parts (setup : Setup) (front later : List HistoryEntry) (s : Run) : T
 pub parts : (setup : Setup) (front later : List HistoryEntry) (s : Run) → CallsDiffer (front ++ later) → run setup (front ++ later) ≡ Some s → Parts setup front later s
 parts setup front later s differ is = elim (option_cases (run setup front)) [
   | inl none ↦ (let impossible : None ≡ Some s = rw none at both in cc)
-  | inr some ↦ (let runs : Runs (fresh setup) front some.0.volume = run-runs setup front some.0 differ_front some.1 in record {
+  | inr some ↦ (let runs : Runs (fresh setup) front some.0.volume = run-runs setup front some.0 (differ-front front later differ) some.1 in record {
     at = some.0;
     runs = some.1;
     goes = rw some.1 at both;
@@ -142,6 +159,3 @@ parts setup front later s differ is = elim (option_cases (run setup front)) [
   where
     both : option_and_then (λ after. steps turn_on after later) (run setup front) ≡ Some s
     both = sym (steps-append turn_on (begun setup) front later) ∙ is
-
-    differ_front : CallsDiffer front
-    differ_front client number = (let few = differ client number in let split = how_many-append (is_entry_of client number) front later in omega arith)

@@ -38,9 +38,10 @@ use Rattle.fsa_model.proofs.TryLaws.{Tries, TriesTo, Leaves}
 use Rattle.fsa_model.proofs.TurnLaws.{TriedTo, Turns, try-keeps}
 use Rattle.fsa_model.proofs.WatchLaws.{comes_over}
 use Rattle.history_laws.specs.WaitEnds.{cancels, cancels_in, ends_otherwise, is_cancel_of, is_wait_end, leaves, leaves_in}
+use Rattle.history_laws.proofs.LeavingLaws.{leave_isnt_held}
 use Rattle.history_laws.proofs.SpareLaws.{IsBareWait, IsBareWait-fewer, Spares}
 use Rattle.history_laws.proofs.SpareOwn.{IsBareWait-calls, all_closed, left-calls, KeepsEnds, TriesKeep, try-keeps_ends}
-use Rattle.history_laws.proofs.TurnByTurn.{Differ, Parts, from-keeps, new-call, own-may, parts, run-keeps, settled-keeps, taken_up-keeps}
+use Rattle.history_laws.proofs.TurnByTurn.{Differ, Parts, differ-front, from-keeps, new-call, own-may, parts, run-keeps, settled-keeps, taken_up-keeps}
 
 or_true : (b : Bool) → (b || true) ≡ true
 or_true true = refl
@@ -328,7 +329,7 @@ module _ (who number : ℕ) (fine : Reply → Bool) where
       | inr some ↦ rw some well
     ]
 
-    well-settled : (v : Volume) (call : Call) (starved : List CallId) → MaySettle (own_tried v call) → EndsWell (own_tried v call) → EndsWell (settlement v call starved).volume
+    pub well-settled : (v : Volume) (call : Call) (starved : List CallId) → MaySettle (own_tried v call) → EndsWell (own_tried v call) → EndsWell (settlement v call starved).volume
     well-settled v call starved may own = settled-keeps EndsWell (well-step success) v call starved may (well-stalled (taken_up_all (own_tried v call) starved).volume) own
 
     -- the wait is made, and what is still to come
@@ -406,17 +407,13 @@ module _ (who : ℕ) where
   left-tried turn pending (Stay v interim) = refl
   left-tried turn pending (Hold v blockers interim) = refl
 
-  held-stays : (what : What) → may_be_held what ≡ true → is_leave what ≡ false
-  held-stays Leave held = (let impossible : false ≡ true = held in cc)
-  held-stays _ held = refl
-
   pub left-taken_up : (s : Settling) (entry : ℕ × Pending) → MaySettle s.volume → IsNext s.volume entry → has_left (taken_up s entry).volume who ≡ has_left s.volume who
   left-taken_up s entry may next = elim (cases_Bool (is_held entry.1)) [
     | inr waits ↦ rw waits (rw (left-come s entry.1 entry.1.call.what) refl)
     | inl held ↦ rw held (elim (cases_Bool (starves s.starved entry.1)) [
       | inl starving ↦ rw starving refl
       | inr plenty ↦ rw plenty (rw (left-tried entry.0 entry.1 (try s.volume entry.1.call entry.0))
-          (left-try s.volume entry.1.call entry.0 (rw (held-stays entry.1.call.what (next-may_be_held s.volume entry may next held)) (never (entry.1.call.client == who)))))
+          (left-try s.volume entry.1.call entry.0 (rw (leave_isnt_held entry.1.call.what (next-may_be_held s.volume entry may next held)) (never (entry.1.call.client == who)))))
     ])
   ]
     where
@@ -488,7 +485,7 @@ well-run setup front later entry r fine differ runs is may = by entry.call.what 
     at = parts setup front (entry ∷ later) r differ runs
 
     differ_front : CallsDiffer front
-    differ_front client number = (let few = differ client number in let split = how_many-append (is_entry_of client number) front (entry ∷ later) in omega arith)
+    differ_front = differ-front front (entry ∷ later) differ
 
     so : (earlier : ℕ) → entry.call.what ≡ WaitFor earlier → EndsWell entry.call.client entry.call.number fine r.volume
     so earlier waits = well-from entry.call.client entry.call.number fine may.success may.stalled entry later earlier at.at r refl refl waits at.may at.differ

@@ -1,7 +1,7 @@
 -- How long a pending call stays so, and that what is called off ends.
 use Rattle.std.specs.List.{list_any}
 use Rattle.std.specs.Option.{option_map_or}
-use Rattle.std.specs.Prelude.{◌≡◌, ◌==◌, ◌&&◌, not, ℕ, Bool, true, false, List, ◌∷◌, ◌++◌, Some, is_some}
+use Rattle.std.specs.Prelude.{◌≡◌, ◌==◌, ◌&&◌, not, ℕ, suc, Bool, true, false, List, ◌∷◌, ◌++◌, Some, is_some}
 use Rattle.fsa_types.specs.Rows.{row_of}
 use Rattle.fsa_types.specs.declared.request.Call.{Call}
 use Rattle.fsa_types.specs.declared.request.CallId.{CallId}
@@ -14,10 +14,11 @@ use Rattle.fsa_model.specs.Engine.{handle_granted, own_tried}
 use Rattle.fsa_model.specs.History.{HistoryEntry, Run, run}
 use Rattle.fsa_model.specs.Lookups.{handle_of}
 use Rattle.fsa_model.specs.Reports.{settling_after}
+use Rattle.fsa_model.specs.Settle.{taken_up_all}
 use Rattle.fsa_model.specs.Setup.{Setup}
 use Rattle.fsa_model.specs.Turn.{settlement}
 use Rattle.fsa_model.specs.Volume.{Pending, Volume}
-use Rattle.fsa_model.specs.Waiting.{blocker_lives, has_ended, is_blocked, is_held}
+use Rattle.fsa_model.specs.Waiting.{all_wait, blocker_lives, has_ended, is_blocked, is_held, is_ready, is_wait, next_ready}
 
 -- what the client asks calls off the pending call, which is its own: it is a cancellation of that call, a close of the handle
 -- that the call names, or the client's leaving
@@ -32,27 +33,49 @@ asks_off v client _ pending = false
 abbrev pub calls_off : Volume → Call → Pending → Bool
 calls_off v call pending = asks_off v call.client call.what pending
 
+-- the pending call under this turn is the one that a settlement takes up next
+abbrev pub is_next : Volume → ℕ → Bool
+is_next v turn = option_map_or (λ entry. entry.0 == turn) (next_ready v) false
+
 -- the pending call asks for an oplock or answers a break. Such a call is pending as granted, and ends also where a break of
 -- its oplock tells it, or where another oplock of its key is granted on its stream
 abbrev pub asks_oplock : Pending → Bool
 asks_oplock pending = is_some (handle_granted pending.call.what)
 
--- no held call is such a one. Each other pending call, be it held, a watch or a wait, stays pending in the try of the turn's
--- call, with the same turn and blockers, unless that calls it off; and a held call that waits, after any step of the
--- settlement, for a break or a lock that lives then, stays so to the turn's end. It's said by tests: where some such entry
--- passes a test, an entry that passes it is there afterwards
-pub record KeepsHeld (v : Volume) (call : Call) (starved : List CallId) : Type 0 where
+-- which pending calls stay pending as they are, with the same turn, call and blockers. It's said by tests: where some entry of
+-- the kind passes a test, an entry that passes it is there afterwards
+pub record KeepsPending (v : Volume) (call : Call) (starved : List CallId) : Type 0 where
+  -- at the turn's beginning no held call asks for an oplock or answers a break
   pub held_ask_for_none : list_any (λ entry. is_held entry.1 && asks_oplock entry.1) v.pending ≡ false
+  -- in the try of the turn's call each pending call stays that neither asks for an oplock nor answers a break, be it held, a
+  -- Notify or a wait, unless the turn's call calls it off
   pub tried : (test : ℕ × Pending → Bool) → list_any (λ entry. (not (asks_oplock entry.1) && not (calls_off v call entry.1)) && test entry) v.pending ≡ true
       → list_any (λ entry. not (asks_oplock entry.1) && test entry) (own_tried v call).pending ≡ true
+  -- in each step of the settlement each such call stays but the one that the step takes up
+  pub stepped : (steps : ℕ) (test : ℕ × Pending → Bool)
+      → list_any (λ entry. (not (asks_oplock entry.1) && not (is_next (settling_after v call starved steps).volume entry.0)) && test entry) (settling_after v call starved steps).volume.pending ≡ true
+      → list_any (λ entry. not (asks_oplock entry.1) && test entry) (settling_after v call starved (suc steps)).volume.pending ≡ true
+  -- a held call that waits, after any step, for a break or a lock that lives then, stays so to the turn's end
   pub settled : (steps : ℕ) (test : ℕ × Pending → Bool)
       → list_any (λ entry. (is_held entry.1 && is_blocked (blocker_lives (settling_after v call starved steps).volume) entry.1) && test entry) (settling_after v call starved steps).volume.pending ≡ true
       → list_any (λ entry. is_held entry.1 && test entry) (settlement v call starved).volume.pending ≡ true
+  -- after the last step, once all that is ready has been taken up, all stays but waits, and these too unless every client that
+  -- hasn't left waits
+  pub stalled : (test : ℕ × Pending → Bool)
+      → list_any (λ entry. not (is_wait entry.1.call.what && all_wait (taken_up_all (own_tried v call) starved).volume) && test entry) (taken_up_all (own_tried v call) starved).volume.pending ≡ true
+      → list_any test (settlement v call starved).volume.pending ≡ true
+  -- so what neither asks for an oplock nor answers a break, is pending once the turn's call has been tried, and is ready after
+  -- no step of the settlement, stays to the turn's end, unless it's a wait and every client that hasn't left waits once all
+  -- that is ready has been taken up
+  pub unready : (turn : ℕ) (test : Pending → Bool)
+      → ((steps : ℕ) → list_any (λ entry. entry.0 == turn && is_ready (settling_after v call starved steps).volume entry.1) (settling_after v call starved steps).volume.pending ≡ false)
+      → list_any (λ entry. entry.0 == turn && not (asks_oplock entry.1) && not (is_wait entry.1.call.what && all_wait (taken_up_all (own_tried v call) starved).volume) && test entry.1) (own_tried v call).pending ≡ true
+      → list_any (λ entry. entry.0 == turn && not (asks_oplock entry.1) && test entry.1) (settlement v call starved).volume.pending ≡ true
 
 -- so it is in each turn of a history
-abbrev pub HeldStay : Setup → List HistoryEntry → Type 0
-HeldStay setup history = (front later : List HistoryEntry) (entry : HistoryEntry) (r : Run) → history ≡ front ++ entry ∷ later → run setup front ≡ Some r
-    → KeepsHeld r.volume entry.call entry.starved
+abbrev pub PendingStay : Setup → List HistoryEntry → Type 0
+PendingStay setup history = (front later : List HistoryEntry) (entry : HistoryEntry) (r : Run) → history ≡ front ++ entry ∷ later → run setup front ≡ Some r
+    → KeepsPending r.volume entry.call entry.starved
 
 -- each pending call that the turn's call calls off, held or not, has ended once the turn's call has been tried; and none is
 -- pending then, nor at the turn's end

@@ -6,3 +6,8 @@ pub mod WaitEnds
 pub mod GoesOn
 pub mod Releasing
 pub mod Holding
+pub mod Granting
+pub mod AsMade
+pub mod Awaited
+pub mod Telling
+pub mod GrantedEnds

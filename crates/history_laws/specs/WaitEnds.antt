@@ -1,4 +1,4 @@
--- How a wait for a call ends, which calls end STALLED, and when a wait is over.
+-- How a wait for a call ends, also in a settlement, which calls end STALLED, and when a wait is over.
 use Rattle.std.specs.Prelude.{◌≡◌, ◌==◌, ◌&&◌, ◌||◌, not, ℕ, Bool, true, false, List, ◌∷◌, ◌++◌, Some}
 use Rattle.std.specs.List.{list_any}
 use Rattle.fsa_types.specs.declared.reply.Body.{Body}
@@ -93,6 +93,16 @@ stalls_in v entry client number = all_wait (all_taken_up v entry) && is_pending_
 abbrev pub StallsExactly : Setup → List HistoryEntry → Type 0
 StallsExactly setup history = (front later : List HistoryEntry) (entry : HistoryEntry) (r : Run) (client number : ℕ) → history ≡ front ++ entry ∷ later → run setup front ≡ Some r
     → has_stalled (settlement r.volume entry.call entry.starved).volume client number ≡ (has_stalled r.volume client number || stalls_in r.volume entry client number)
+
+-- SUCCESS or STALLED, and no body
+abbrev pub is_settled_end : Reply → Bool
+is_settled_end reply = (is_success reply.status || is_stalled reply.status) && gives_nothing reply.body
+
+-- in each turn a wait that is pending once the turn's call has been tried has, at the turn's end, no end but such a one
+abbrev pub SettlesWaits : Setup → List HistoryEntry → Type 0
+SettlesWaits setup history = (front later : List HistoryEntry) (entry : HistoryEntry) (r : Run) (client number : ℕ) → history ≡ front ++ entry ∷ later → run setup front ≡ Some r
+    → is_pending_wait (own_tried r.volume entry.call) client number ≡ true
+    → ends_otherwise is_settled_end client number (settlement r.volume entry.call entry.starved).volume ≡ false
 
 -- the client's wait of this number, for its call of the last number, is over: the wait has ended and, if with SUCCESS,
 -- that call has ended too, with whatever status

@@ -14,11 +14,16 @@ ghost use Rattle.fsa_model.specs.Text.{shows_no_memory, text};
 ghost use Rattle.fsa_model.specs.Turn.{Turned, try, turn};
 ghost use Rattle.fsa_model.specs.Volume.{Volume};
 ghost use Rattle.fsa_model.specs.Waiting.{has_ended, is_wait, waits};
-ghost use Rattle.history_laws.specs.Holding.{CalledOffEnd, HeldStay};
+ghost use Rattle.history_laws.specs.AsMade.{PendsAsMade};
+ghost use Rattle.history_laws.specs.Awaited.{NothingIsMissed};
+ghost use Rattle.history_laws.specs.GrantedEnds.{GrantedCallsEndForCause};
+ghost use Rattle.history_laws.specs.Granting.{GrantedCallsPend};
+ghost use Rattle.history_laws.specs.Holding.{CalledOffEnd, PendingStay};
 ghost use Rattle.history_laws.specs.Named.{IsReadScript};
 ghost use Rattle.history_laws.specs.Races.{AllComeAfterWaits, Begun, NoneMadeWaiting, Whole};
 ghost use Rattle.history_laws.specs.Releasing.{HoldersRelease, OthersReleaseNone};
-ghost use Rattle.history_laws.specs.WaitEnds.{IsOver, StallsExactly, cancels_in, ends_otherwise, has_succeeded, is_wait_end, leaves_in};
+ghost use Rattle.history_laws.specs.Telling.{LeftAsTold, ToldOfOplocks, ToldTargets};
+ghost use Rattle.history_laws.specs.WaitEnds.{IsOver, SettlesWaits, StallsExactly, cancels_in, ends_otherwise, has_succeeded, is_wait_end, leaves_in};
 ghost use Rattle.fsa_model.specs.Starving.{TriesPlain, starved_of};
 
 /// No try ends a call, its own or another, with the status NoMemory or Stalled: only a settlement does.
@@ -68,12 +73,14 @@ pub fn calls_made_side_by_side_differ()
 
 /// In a history that makes no call twice a wait for a call ends SUCCESS, STALLED or INVALID_PARAMETER; INVALID_HANDLE only
 /// where its client had left before, and CANCELLED only where its client has cancelled it or left since. It never ends
-/// NO_MEMORY, and its reply has no body. In every history, once all that is ready has been taken up in a turn, all pending
-/// waits end STALLED where every client that hasn't left waits; no call ends so otherwise.
+/// NO_MEMORY, and its reply has no body. A wait that is pending once the call of a turn has been tried ends in that turn, if it
+/// does, SUCCESS or STALLED. In every history, once all that is ready has been taken up in a turn, all pending waits end STALLED
+/// where every client that hasn't left waits; no call ends so otherwise.
 pub fn waits_end_in_few_ways()
     ensures ends { (setup : Setup) (front later : List HistoryEntry) (entry : HistoryEntry) (r : Run) → CallsDiffer (front ++ entry ∷ later) → run setup (front ++ entry ∷ later) ≡ Some r → is_wait entry.call.what ≡ true
         → ends_otherwise (is_wait_end (leaves_in entry.call.client front) (cancels_in entry.call.client entry.call.number later)) entry.call.client entry.call.number r.volume ≡ false }
     ensures stalled { (setup : Setup) (history : List HistoryEntry) → StallsExactly setup history }
+    ensures settled { (setup : Setup) (history : List HistoryEntry) → CallsDiffer history → SettlesWaits setup history }
 {}
 
 /// A schedule makes no call while its client waits.
@@ -103,16 +110,66 @@ pub fn only_holders_release_held_calls()
     ensures others { (setup : Setup) (history : List HistoryEntry) → CallsDiffer history → OthersReleaseNone setup history }
 {}
 
-/// In a history that makes no call twice a held call stays pending, as it is, in the try of each turn's call, unless its client
-/// calls it off: it cancels the call, closes the handle that the call names, or leaves; and to the turn's end where, after any
-/// step of the settlement, something that it waits for lives. No held call asks for an oplock or answers a break. Each other
-/// pending call that does neither, such as a watch or a wait, stays too in the try of a call that doesn't call it off.
-pub fn held_calls_stay()
-    ensures stay { (setup : Setup) (history : List HistoryEntry) → CallsDiffer history → HeldStay setup history }
+/// In a history that makes no call twice a held call stays pending, as it is, in the try of each turn's call, unless its
+/// client calls it off: it cancels the call, closes the handle that the call names, or leaves; and to the turn's end where,
+/// after any step of the settlement, something that it waits for lives. At a turn's beginning no held call asks for an
+/// oplock or answers a break. Each other pending call that does neither, such as a Notify or a wait, stays too in the try
+/// of a call that doesn't call it off. Each step of the settlement keeps each call that does neither, held or not, but the
+/// one that it takes up. After the last step only waits end, where every client that hasn't left waits then. So through the
+/// settlement such a call stays where it's ready after no step of that, unless it's a wait that ends so.
+pub fn pending_calls_stay()
+    ensures stay { (setup : Setup) (history : List HistoryEntry) → CallsDiffer history → PendingStay setup history }
 {}
 
 /// In a history that makes no call twice each pending call, held or not, that the call of a turn calls off has ended once the
 /// turn's call has been tried, and is pending no more.
 pub fn called_off_calls_end()
     ensures end { (setup : Setup) (history : List HistoryEntry) → CallsDiffer history → CalledOffEnd setup history }
+{}
+
+/// In a history that makes no call twice a call that asks for an oplock or answers a break is pending exactly as long as an
+/// oplock is granted to it of which no break is in progress. Once a turn's call has been tried, after each step of its
+/// settlement, and at the turn's end each such call that is pending has an oplock that was granted under its turn, of the
+/// handle that it names, of which no break is in progress; and each oplock without a break in progress has its call
+/// pending, under its turn. So such a call, once pending, ends in the very try, or step of a settlement, in which its
+/// oplock breaks, is switched or goes, and in none before.
+pub fn granted_calls_pend_while_unbroken()
+    ensures pends { (setup : Setup) (history : List HistoryEntry) → CallsDiffer history → GrantedCallsPend setup history }
+{}
+
+/// In a history that makes no call twice a pending call that asks for an oplock or answers a break ends only for a cause. In the
+/// try of a turn's call it is told of a break, or that calls it off, or that is a request for an oplock, by which it ends
+/// OPLOCK_SWITCHED_TO_NEW_HANDLE; or else it stays pending. In each step of the settlement it is told of a break or stays
+/// pending, and where waits stall it stays.
+pub fn granted_calls_end_for_a_cause()
+    ensures cause { (setup : Setup) (history : List HistoryEntry) → CallsDiffer history → GrantedCallsEndForCause setup history }
+{}
+
+/// In a history that makes no call twice what is pending is what was made: each call that is pending once a turn's call has
+/// been tried, after a step of its settlement or at the turn's end is the very call that was made in the turn whose number
+/// it has.
+pub fn pending_calls_are_as_made()
+    ensures made { (setup : Setup) (history : List HistoryEntry) → CallsDiffer history → PendsAsMade setup history }
+{}
+
+/// In a history that makes no call twice nothing that is awaited is missed: after each turn no call has ended for which a wait
+/// is pending, and nothing is due to the watch of a handle by which a Notify is pending.
+pub fn no_awaited_end_or_change_is_missed()
+    ensures missed { (setup : Setup) (history : List HistoryEntry) → CallsDiffer history → NothingIsMissed setup history }
+{}
+
+/// In every history a call ends in a reply that tells of a break only where the call was pending, an oplock was granted to
+/// it of which no break was in progress, and some class of requests, by a break of that oplock, tells just that: SUCCESS,
+/// the level that the class leaves of it, and whether that has to be acknowledged. So it is in the try of each turn's call,
+/// in each step of the settlement, and where waits stall. So no holder is told a level that no break leaves of its oplock,
+/// it is asked for an acknowledgement just where such a break asks for one, and no other call is told of a break. In a
+/// history that makes no call twice, where an oplock had no break in progress before such a part of a turn, the call that
+/// it was granted to was pending, and a break of its handle's oplock is in progress at the part's end, that call has ended
+/// SUCCESS, with an acknowledgement asked, and was told just the level that the break leaves. And where that call was told
+/// of a break, a break of the handle's oplock is in progress at the part's end if an acknowledgement was asked, and else
+/// the handle has no oplock.
+pub fn holders_are_told_what_breaks_leave()
+    ensures of_oplock { (setup : Setup) (history : List HistoryEntry) → ToldOfOplocks setup history }
+    ensures target { (setup : Setup) (history : List HistoryEntry) → CallsDiffer history → ToldTargets setup history }
+    ensures as_told { (setup : Setup) (history : List HistoryEntry) → CallsDiffer history → LeftAsTold setup history }
 {}

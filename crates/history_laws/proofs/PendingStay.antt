@@ -1,19 +1,20 @@
 -- In each turn of a run a pending call stays as it is in the try of the turn's call, unless it asks for an oplock or that calls
--- it off; and a held call stays so to the turn's end, unless the turn's call ends all that it waits for.
-use Rattle.std.proofs.Common.{◌≡◌, ℕ, zero, suc, ◌≤◌, Bool, true, false, not, List, [], ◌∷◌, ◌++◌, length, refl, subst, sym, ◌∙◌, arith, eq-eqb, inl, inr, Some}
+-- it off; a held call stays so to the turn's end, unless the turn's call ends all that it waits for; each step of the settlement
+-- keeps each call that neither asks for an oplock nor answers a break, but the one that it takes up; and such a call that is ready
+-- after no step stays to the turn's end, unless it's a wait and all clients wait.
+use Rattle.std.proofs.Common.{◌≡◌, ℕ, ◌≤◌, Bool, true, false, not, List, [], ◌∷◌, ◌++◌, length, refl, subst, sym, ◌∙◌, arith, eq-eqb, inl, inr, Some}
 use Rattle.std.specs.List.{list_any}
-use Rattle.std.specs.Prelude.{◌==◌, ◌&&◌, ◌||◌, is_some, if◌then◌else◌}
-use Rattle.std.proofs.lemmas.Bool.{cases_Bool, eqb-true}
+use Rattle.std.specs.Prelude.{◌==◌, ◌&&◌, if◌then◌else◌}
+use Rattle.std.proofs.lemmas.Bool.{cases_Bool, not-true}
 use Rattle.fsa_types.specs.declared.reply.Blocker.{Blocker}
 use Rattle.fsa_types.specs.declared.reply.Blocker.TheVariants as blocker
 use Rattle.fsa_types.specs.declared.request.Call.{Call}
 use Rattle.fsa_types.specs.declared.request.What.{What}
-use Rattle.fsa_types.specs.declared.request.Request.TheVariants.{Ack, Oplock as OplockRequest}
-use Rattle.fsa_types.specs.declared.request.What.TheVariants.{Ask, WaitFor}
+use Rattle.fsa_types.specs.declared.request.What.TheVariants.{WaitFor}
 use Rattle.fsa_types.specs.declared.status.Status.TheVariants.{NoMemory, Stalled}
 use Rattle.fsa_types.specs.declared.reply.Body.TheVariants.{Nothing}
 use Rattle.fsa_model.specs.Close.{with_calls_ended}
-use Rattle.fsa_model.specs.Engine.{CallsDiffer, GrantsPend, asks_oplock_of, handle_granted, has_grant_under, is_entry_of, is_pending_grant, own_tried}
+use Rattle.fsa_model.specs.Engine.{CallsDiffer, own_tried}
 use Rattle.fsa_model.specs.History.{HistoryEntry, Run, run}
 use Rattle.fsa_model.specs.Once.{IsOnce, how_many, times}
 use Rattle.fsa_model.specs.Outcome.{Outcome, Done, Stay, Hold}
@@ -23,35 +24,26 @@ use Rattle.fsa_model.specs.Reports.{settling_after}
 use Rattle.fsa_model.specs.Setup.{Setup}
 use Rattle.fsa_model.specs.Try.{try}
 use Rattle.fsa_model.specs.Turn.{answered, settlement, turn_number, volume_after}
-use Rattle.fsa_model.specs.Volume.{Oplock, Pending, Volume}
-use Rattle.fsa_model.specs.Waiting.{all_wait, blocker_lives, is_asked_before, is_blocked, is_granted_under, is_held, is_wait, next_ready, waits_in_order, with_stalled}
-use Rattle.fsa_model.proofs.CountLaws.{and_left, and_right, and_true, how_many-append, how_many-none, how_many-some, how_many-weaker, none-how_many, only-one, some-how_many}
+use Rattle.fsa_model.specs.Volume.{Pending, Volume}
+use Rattle.fsa_model.specs.Waiting.{all_wait, blocker_lives, is_asked_before, is_blocked, is_held, is_wait, waits_in_order, with_stalled}
+use Rattle.fsa_model.proofs.CountLaws.{and_left, and_right, how_many-none, how_many-some, how_many-weaker, none-how_many, some-how_many}
 use Rattle.fsa_model.proofs.EngineLaws.{new-before, run-before}
-use Rattle.fsa_model.proofs.GrantedLaws.{run-grants}
 use Rattle.fsa_model.proofs.OnceLaws.{SameBlockers, is_call_of, is_same-refl}
-use Rattle.fsa_model.proofs.PendLaws.{asks-some}
-use Rattle.fsa_model.proofs.RowLaws.{any-map, any-push, any-weaker, option_cases}
-use Rattle.fsa_model.proofs.SettleLaws.{IsNext, Steps, Steps-taken_up, next-may_be_held, next_ready-is, taken_up_all-done, try-tries}
-use Rattle.fsa_model.proofs.TakenLaws.{GoesOn-begins, GoesOn-settle_step}
+use Rattle.fsa_model.proofs.RowLaws.{any-map, any-push, any-weaker}
+use Rattle.fsa_model.proofs.SettleLaws.{IsNext, Steps, Steps-taken_up, next-may_be_held, taken_up_all-done, try-tries}
+use Rattle.fsa_model.proofs.TakenLaws.{GoesOn-begins, taken_up_all-goes}
 use Rattle.fsa_model.proofs.TryLaws.{Leaves, Tries, TriesTo}
-use Rattle.fsa_model.proofs.TurnLaws.{Adds-answered, TriedTo, try-keeps}
-use Rattle.fsa_model.proofs.WaitLaws.{Found, some_item}
+use Rattle.fsa_model.proofs.TurnLaws.{TriedTo, try-keeps}
 use Rattle.fsa_model.proofs.WatchLaws.{comes_over}
-use Rattle.history_laws.specs.Holding.{HeldStay, KeepsHeld, asks_oplock}
-use Rattle.history_laws.proofs.AnyLaws.{any-where}
-use Rattle.history_laws.proofs.BrokenGrants.{NoBrokenGrant, is_broken_grant, run-tidy}
-use Rattle.history_laws.proofs.CallsApart.{calls-apart, calls-stay, ends-stay}
-use Rattle.history_laws.proofs.HeldTries.{GrantsNone, stays-try}
+use Rattle.history_laws.specs.Holding.{PendingStay, KeepsPending, asks_oplock}
+use Rattle.history_laws.proofs.AnyLaws.{any-where, none-stronger}
+use Rattle.history_laws.proofs.AskedGrants.{GrantsAsked, asks-unheld, own-asked, run-asked}
+use Rattle.history_laws.proofs.CallsApart.{calls-apart, calls-stay, ends-stay, next-apart}
+use Rattle.history_laws.proofs.HeldTries.{stays-try}
 use Rattle.history_laws.proofs.HoldersRelease.{repeated-last}
 use Rattle.history_laws.proofs.TurnBlockers.{blockers-stalled}
-use Rattle.history_laws.proofs.TurnByTurn.{differ-before}
-
--- where no item passes, none passes what is stronger
-none-stronger : {X : Type 0} (p q : X → Bool) (xs : List X) → ((x : X) → q x ≡ true → p x ≡ true) → list_any p xs ≡ false → list_any q xs ≡ false
-none-stronger p q xs weaker none = elim (cases_Bool (list_any q xs)) [
-  | inr isnt ↦ isnt
-  | inl is ↦ absurd (let there = any-weaker q p xs weaker is in let impossible : true ≡ false = sym there ∙ none in cc)
-]
+use Rattle.history_laws.proofs.TurnByTurn.{differ-before, goes-keep, own-takes_up}
+use Rattle.history_laws.proofs.UnreadyStay.{stalled-stays, step-stays, unready-settled}
 
 -- ---- the turn's own call
 
@@ -81,24 +73,9 @@ module _ (own : Volume) where
     | inl held ↦ (
         let ready = next.ready in
         let let_go : not (is_blocked (blocker_lives w) entry.1) ≡ true = rw held at ready in
-        let none : is_blocked (blocker_lives own) entry.1 ≡ false = none-stronger (blocker_lives w) (blocker_lives own) entry.1.blockers so.lives (not-isnt (is_blocked (blocker_lives w) entry.1) let_go) in
+        let none : is_blocked (blocker_lives own) entry.1 ≡ false = none-stronger (blocker_lives w) (blocker_lives own) entry.1.blockers so.lives (not-true (is_blocked (blocker_lives w) entry.1) let_go) in
         rw (held, none) refl)
   ]
-    where
-      not-isnt : (b : Bool) → not b ≡ true → b ≡ false
-      not-isnt true is = sym is
-      not-isnt false is = refl
-
-  -- nor is any other row of the call, or under its turn
-  apart : (p : ℕ × Pending → Bool) (T : ℕ × Pending → Bool) (w : Volume) (entry : ℕ × Pending) → how_many p w.pending ≤ 1 → IsNext w entry → p entry ≡ true → T entry ≡ false → list_any (λ e. T e && p e) w.pending ≡ false
-  apart p T w entry one next its free =
-      let there : list_any (λ e. p e && not (T e)) w.pending ≡ true = some-how_many (λ e. p e && not (T e)) w.pending (next.is_there (λ e. p e && not (T e)) (rw (its, free) refl)) in
-      none-stronger (λ e. p e && not (not (T e))) (λ e. T e && p e) w.pending (λ e both. turned (T e) (p e) both) (only-one p (λ e. not (T e)) w.pending one there)
-    where
-      turned : (a b : Bool) → (a && b) ≡ true → (b && not (not a)) ≡ true
-      turned true true both = refl
-      turned true false both = both
-      turned false b both = cc
 
   -- a held call that is taken up is tried
   stays-tried : (test : ℕ × Pending → Bool) (w : Volume) (entry : ℕ × Pending) (outcome : Outcome) → TriesTo Leaves w outcome → IsOnce w → GrantsNoneHeld w
@@ -170,10 +147,10 @@ module _ (own : Volume) where
       one = (let few : times entry.1.call.client entry.1.call.number s.volume ≤ 1 = once entry.1.call.client entry.1.call.number in omega arith)
 
       calls : (test : ℕ × Pending → Bool) → list_any (λ e. blocked_if test e && is_call_of entry.1.call.client entry.1.call.number e) s.volume.pending ≡ false
-      calls test = apart (is_call_of entry.1.call.client entry.1.call.number) (blocked_if test) s.volume entry one next (is_same-refl entry.1.call.client entry.1.call.number) (next-free test s.volume entry so next)
+      calls test = next-apart (is_call_of entry.1.call.client entry.1.call.number) (blocked_if test) s.volume entry one next (is_same-refl entry.1.call.client entry.1.call.number) (next-free test s.volume entry so next)
 
       turns : (test : ℕ × Pending → Bool) → list_any (λ e. blocked_if test e && is_under entry.0 e) s.volume.pending ≡ false
-      turns test = apart (is_under entry.0) (blocked_if test) s.volume entry (may.turns entry.0) next (let self : (entry.0 == entry.0) ≡ true = eq-eqb entry.0 entry.0 refl in self) (next-free test s.volume entry so next)
+      turns test = next-apart (is_under entry.0) (blocked_if test) s.volume entry (may.turns entry.0) next (let self : (entry.0 == entry.0) ≡ true = eq-eqb entry.0 entry.0 refl in self) (next-free test s.volume entry so next)
 
       stays : (test : ℕ × Pending → Bool) → list_any (blocked_if test) s.volume.pending ≡ true → list_any (blocked_if test) (taken_up s entry).volume.pending ≡ true
       stays test some = elim (cases_Bool (is_held entry.1)) [
@@ -186,20 +163,8 @@ module _ (own : Volume) where
         ])
       ]
 
-  -- how far a settlement has come that began with some volume, and came to this one
-  record ComesTo (begun : Volume) (s : Settling) : Type 0 where
-    on : GoesOn begun s
-    so : StaysSo s.volume
-
-  comes-steps : (begun : Volume) (most : ℕ) (s : Settling) → ComesTo begun s → ComesTo begun (repeated settle_step most s)
-  comes-steps begun zero s comes = comes
-  comes-steps begun (suc more) s comes = elim (option_cases (next_ready s.volume)) [
-    | inl none ↦ rw none comes
-    | inr some ↦ rw some.1 (comes-steps begun more (taken_up s some.0) (record {
-      on = (GoesOn-settle_step begun s (taken_up s some.0) comes.on (rw some.1 refl)).0;
-      so = stays-taken_up s some.0 comes.on.may comes.on.once comes.on.none_held (next_ready-is s.volume some.0 some.1) comes.so;
-    }))
-  ]
+  stays-steps : (begun : Volume) (most : ℕ) (s : Settling) → GoesOn begun s → StaysSo s.volume → GoesOn begun (repeated settle_step most s) × StaysSo (repeated settle_step most s).volume
+  stays-steps begun = goes-keep begun StaysSo (λ s entry on next so. stays-taken_up s entry on.may on.once on.none_held next so)
 
   held-no_wait : (what : What) → may_be_held what ≡ true → is_wait what ≡ false
   held-no_wait (WaitFor number) held = absurd (let impossible : false ≡ true = held in cc)
@@ -216,17 +181,13 @@ module _ (own : Volume) where
           = any-where (blocked_if test) is_held_wrongly (λ e. blocked_if test e && not (is_wait e.1.call.what)) w.pending (λ e passes rightly. right e test passes rightly) (none-how_many is_held_wrongly w.pending may.held) (so.stays test some) in
           any-weaker (λ e. blocked_if test e && not (is_wait e.1.call.what)) (blocked_if test) (with_calls_ended (λ _. Stalled) (waits_in_order w) w).pending (λ e both. and_left (blocked_if test e) (not (is_wait e.1.call.what)) both)
           (calls-stay (λ e. blocked_if test e && not (is_wait e.1.call.what)) (λ _. Stalled) (waits_in_order w) w
-          (calls-apart (λ e. blocked_if test e && not (is_wait e.1.call.what)) (λ p. is_wait p.call.what) (λ a b. is_asked_before a.1 b.1) w once (λ e both. not-isnt (is_wait e.1.call.what) (and_right (blocked_if test e) (not (is_wait e.1.call.what)) both))) no_wait))
+          (calls-apart (λ e. blocked_if test e && not (is_wait e.1.call.what)) (λ p. is_wait p.call.what) (λ a b. is_asked_before a.1 b.1) w once (λ e both. not-true (is_wait e.1.call.what) (and_right (blocked_if test e) (not (is_wait e.1.call.what)) both))) no_wait))
     ];
   }
     where
       lives-same : (b : Blocker) → blocker_lives w b ≡ true → blocker_lives (with_stalled w) b ≡ true
       lives-same (blocker.Break n) lives = rw (SameBlockers.oplocks (blockers-stalled w)) lives
       lives-same (blocker.Lock n) lives = rw (SameBlockers.locks (blockers-stalled w)) lives
-
-      not-isnt : (b : Bool) → not b ≡ true → b ≡ false
-      not-isnt true is = sym is
-      not-isnt false is = refl
 
       right : (e : ℕ × Pending) (test : ℕ × Pending → Bool) → blocked_if test e ≡ true → is_held_wrongly e ≡ false → (blocked_if test e && not (is_wait e.1.call.what)) ≡ true
       right e test passes rightly =
@@ -240,45 +201,6 @@ module _ (own : Volume) where
 
 -- ---- in each turn of a run
 
--- what asks for an oplock can't be held
-asks-unheld : (what : What) → is_some (handle_granted what) ≡ true → may_be_held what ≡ false
-asks-unheld (Ask (OplockRequest handle level)) is = refl
-asks-unheld (Ask (Ack handle level)) is = refl
-asks-unheld (Ask _) is = absurd (let impossible : false ≡ true = is in cc)
-asks-unheld _ is = absurd (let impossible : false ≡ true = is in cc)
-
--- what is pending under the turn of an oplock asks for it
-grants-asking : (v : Volume) → ((turn : ℕ) → how_many (is_under turn) v.pending ≤ 1) → GrantsPend v → NoBrokenGrant v.oplocks → GrantsNone (λ e. not (asks_oplock e.1)) v
-grants-asking v turns pend unbroken turn some = of_oplock (some_item (is_granted_under turn) v.oplocks (some-how_many (is_granted_under turn) v.oplocks some))
-  where
-    of_oplock : Found (is_granted_under turn) v.oplocks → how_many (λ e. e.0 == turn && not (asks_oplock e.1)) v.pending ≡ 0
-    of_oplock oplock = elim (option_cases oplock.item.call) [
-      | inl none ↦ (let impossible : false ≡ true = rw none at oplock.passes in cc)
-      | inr call ↦ (
-          let at_turn : (call.0 == turn) ≡ true = rw call.1 at oplock.passes in
-          let same : call.0 ≡ turn = eqb-true call.0 turn at_turn in
-          let granted : oplock.item.call ≡ Some turn = rw (← same) call.1 in
-          how_many-none (λ e. is_under turn e && not (asks_oplock e.1)) v.pending
-          (only-one (is_under turn) (λ e. asks_oplock e.1) v.pending (turns turn)
-          (any-weaker (λ e. e.0 == turn && asks_oplock_of v oplock.item.handle e.1.call) (λ e. is_under turn e && asks_oplock e.1) v.pending
-          (λ e both. and_true (is_under turn e) (asks_oplock e.1) (and_left (e.0 == turn) (asks_oplock_of v oplock.item.handle e.1.call) both)
-          (asks-some v oplock.item.handle e.1.call (and_right (e.0 == turn) (asks_oplock_of v oplock.item.handle e.1.call) both))) (pends granted))))
-    ]
-      where
-        isnt : (bad : Oplock → Bool) → list_any bad v.oplocks ≡ false → bad oplock.item ≡ false
-        isnt bad none = elim (cases_Bool (bad oplock.item)) [
-          | inr good ↦ good
-          | inl is ↦ (let there : list_any bad v.oplocks ≡ true = oplock.is_there bad is in let impossible : true ≡ false = sym there ∙ none in cc)
-        ]
-
-        pends : oplock.item.call ≡ Some turn → has_grant_under v oplock.item.handle turn ≡ true
-        pends granted = by (is_some oplock.item.target) (has_grant_under v oplock.item.handle turn) (rw granted at (isnt is_broken_grant unbroken)) (rw granted at (isnt (λ o. not (is_pending_grant v o)) pend))
-          where
-            by : (broken there : Bool) → (broken && true) ≡ false → not (broken || there) ≡ false → there ≡ true
-            by true there none_broken some_pend = cc
-            by false true none_broken some_pend = refl
-            by false false none_broken some_pend = cc
-
 module _ (setup : Setup) (history front later : List HistoryEntry) (entry : HistoryEntry) (r : Run) (differ : CallsDiffer history) (is : history ≡ front ++ entry ∷ later) (runs : run setup front ≡ Some r) where
   differ_to : CallsDiffer (front ++ entry ∷ [])
   differ_to = differ-before history front later entry is differ
@@ -286,17 +208,14 @@ module _ (setup : Setup) (history front later : List HistoryEntry) (entry : Hist
   may : MayTurn r.volume
   may = (run-before setup front entry r differ_to runs).may
 
-  differ_front : CallsDiffer front
-  differ_front client number = (let few = differ_to client number in let split = how_many-append (is_entry_of client number) front (entry ∷ []) in omega arith)
-
-  asking : GrantsNone (λ e. not (asks_oplock e.1)) r.volume
-  asking = grants-asking r.volume may.take_up.may.turns (run-grants setup front r differ_front runs) (run-tidy setup front r differ_front runs).none
+  asking : GrantsAsked r.volume
+  asking = run-asked setup front entry r differ_to runs
 
   new : times entry.call.client entry.call.number r.volume ≡ 0
   new = new-before setup front entry r differ_to runs
 
-  turn-keeps_held : KeepsHeld r.volume entry.call entry.starved
-  turn-keeps_held = record {
+  turn-keeps_pending : KeepsPending r.volume entry.call entry.starved
+  turn-keeps_pending = record {
     held_ask_for_none = none-stronger is_held_wrongly (λ e. is_held e.1 && asks_oplock e.1) r.volume.pending
         (λ e both. rw (and_left (is_held e.1) (asks_oplock e.1) both, asks-unheld e.1.call.what (and_right (is_held e.1) (asks_oplock e.1) both)) refl)
         (none-how_many is_held_wrongly r.volume.pending may.take_up.may.held);
@@ -306,6 +225,9 @@ module _ (setup : Setup) (history front later : List HistoryEntry) (entry : Hist
         (λ e all. only_held (is_held e.1) (is_blocked (blocker_lives (so_far steps).volume) e.1) (test e) all)
         (StaysSo.stays (settles steps) test (any-weaker (λ e. (is_held e.1 && is_blocked (blocker_lives (so_far steps).volume) e.1) && test e) (blocked_if (so_far steps).volume test) (so_far steps).volume.pending
         (λ e all. regrouped (is_held e.1) (is_blocked (blocker_lives (so_far steps).volume) e.1) (test e) all) some));
+    stepped = λ steps. step-stays own steps begun (GoesOn-begins own entry.starved own_may) (own-asked r.volume entry.call may asking);
+    stalled = stalled-stays (taken_up_all own entry.starved).volume (GoesOn.once (taken_up_all-goes own entry.starved own_may).1);
+    unready = unready-settled own entry.starved own_may (own-asked r.volume entry.call may asking);
   }
     where
       tried : TriedTo r.volume (turn_number r.volume) entry.call.what (try r.volume entry.call (turn_number r.volume))
@@ -324,20 +246,23 @@ module _ (setup : Setup) (history front later : List HistoryEntry) (entry : Hist
       so_far steps = settling_after r.volume entry.call entry.starved steps
 
       own_may : MayTakeUp own
-      own_may = (Adds-answered r.volume entry.call (try r.volume entry.call (turn_number r.volume)) may new tried).may.take_up
+      own_may = own-takes_up r.volume entry.call may new
 
-      came : (steps : ℕ) → ComesTo own own (so_far steps)
-      came steps = comes-steps own own steps begun (record { on = GoesOn-begins own entry.starved own_may; so = record { lives = λ b lives. lives; stays = λ test some. some } })
+      same : (w : Volume) → StaysSo w w
+      same w = record { lives = λ b lives. lives; stays = λ test some. some }
+
+      came : (steps : ℕ) → GoesOn own (so_far steps)
+      came steps = (stays-steps own own steps begun (GoesOn-begins own entry.starved own_may) (same own)).0
 
       -- from that step on
-      comes : (steps : ℕ) → ComesTo (so_far steps).volume own (repeated settle_step most (so_far steps))
-      comes steps = comes-steps (so_far steps).volume own most (so_far steps) (record { on = ComesTo.on (came steps); so = record { lives = λ b lives. lives; stays = λ test some. some } })
+      comes : (steps : ℕ) → GoesOn own (repeated settle_step most (so_far steps)) × StaysSo (so_far steps).volume (repeated settle_step most (so_far steps)).volume
+      comes steps = stays-steps (so_far steps).volume own most (so_far steps) (came steps) (same (so_far steps).volume)
 
       settles : (steps : ℕ) → StaysSo (so_far steps).volume (settlement r.volume entry.call entry.starved).volume
       settles steps =
-          let last : ComesTo (so_far steps).volume own (taken_up_all own entry.starved) = subst (λ (s : Settling). ComesTo (so_far steps).volume own s)
+          let last : GoesOn own (taken_up_all own entry.starved) × StaysSo (so_far steps).volume (taken_up_all own entry.starved).volume = subst (λ (s : Settling). GoesOn own s × StaysSo (so_far steps).volume s.volume)
           (sym (repeated-last settle_step most steps begun (rw (taken_up_all-done own entry.starved own_may.may).0 refl))) (comes steps) in
-          stays-stalled (so_far steps).volume (taken_up_all own entry.starved).volume (ComesTo.on last).may (ComesTo.on last).once (ComesTo.so last)
+          stays-stalled (so_far steps).volume (taken_up_all own entry.starved).volume last.0.may last.0.once last.1
 
       only_held : (a b c : Bool) → (a && (b && c)) ≡ true → (a && c) ≡ true
       only_held true true c all = all
@@ -348,5 +273,5 @@ module _ (setup : Setup) (history front later : List HistoryEntry) (entry : Hist
       regrouped true b c all = all
       regrouped false b c all = all
 
-pub held-stay : (setup : Setup) (history : List HistoryEntry) → CallsDiffer history → HeldStay setup history
-held-stay setup history differ front later entry r is runs = turn-keeps_held setup history front later entry r differ is runs
+pub pending-stay : (setup : Setup) (history : List HistoryEntry) → CallsDiffer history → PendingStay setup history
+pending-stay setup history differ front later entry r is runs = turn-keeps_pending setup history front later entry r differ is runs
