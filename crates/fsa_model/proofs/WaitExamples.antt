@@ -60,7 +60,8 @@ pub one_client_stalls :
 unfolding digits script_of line_after line_of client_at sids_at request_of what_of create_fields close_fields read_fields write_fields start_at flush_fields set_end_fields lock_fields unlock_fields cancel_fields wait_fields choice_at string_at string_of text_at text_of mask_at mask_of disposition_at number_at field_at take_line take_client take_request take_call end_after try_create create_at create_walked create_named create_by_link create_found create_there create_in_file create_stream create_on_stream open_stream open_directory open_granted overwrite_existing open_existing clashed create_missing make_file make_directory stopped try_close close_at with_closed try_leave with_client_gone try_write write_at write_by write_stream write_at_place write_range write_unlocked write_grown write_bytes try_read read_at read_by read_stream read_range read_unlocked read_bytes try_set_end set_end_at set_end_by set_end_stream set_end_to set_end_grown try_flush flush_at try_lock lock_at lock_by lock_stream lock_range lock_free try_unlock unlock_at unlock_by unlock_range try_wait try_cancel
 one_client_stalls = refl
 
--- locks that are refused, that wait, are taken up, cancelled, stalled, and end with their handle; a write at the end, a new length and a flush
+-- locks that are refused, that wait, are taken up, cancelled, stalled, and end with their handle; a write at
+-- the end, a new length and a flush
 pub all_of_it :
     text_of_bytes (script_of (
     codes "fsa 1\nclient ann 7\nclient bob 9\nann 1 create =\\L 0x3 0x7 create 0x0 0x0 0\nbob 1 create =\\L 0x3 0x7 open 0x0 0x0 0\nann 2 lock 1 0 10 ex now\n"

@@ -27,7 +27,8 @@ abbrev pub refused : Volume → Status → Outcome
 refused v status = ends_with v status
 
 -- the answer to a turn's own call; the calls that ended in it besides that answer, in the order in which
--- they ended, the own call too where it was pending and ended in the settlement; and the calls that were taken up and found no memory, in order
+-- they ended, the own call too where it was pending and ended in the settlement; and the calls that were
+-- taken up and found no memory, in order
 pub record TurnOut : Type 0 where
   pub answer : Answer
   pub ended : List EndOf

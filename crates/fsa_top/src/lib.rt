@@ -8,7 +8,8 @@
 //!
 //! writes `> a 1 leave`, `a 1 SUCCESS` and `end 1`, and answers 0. With the words `gen 0` it reads
 //! nothing, and writes how many turns the generated script of the seed 0 has and how many calls ended
-//! with each status. Nothing is asked of the words, the bytes, the source or the sink. The script is held in memory whole, and so are all replies.
+//! with each status. Nothing is asked of the words, the bytes, the source or the sink. The script is held in
+//! memory whole, and so are all replies.
 #![tactic(auto)]
 
 mod generated_run;

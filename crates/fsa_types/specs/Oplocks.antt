@@ -7,8 +7,9 @@ use Rattle.fsa_types.specs.declared.request.Level.TheVariants.{Nil, R, RH, RW, R
 use Rattle.fsa_types.specs.declared.oplock.Class.{Class}
 use Rattle.fsa_types.specs.declared.oplock.Class.TheVariants.{Clash, NameChange, ReadOpen, Change}
 
--- an oplock ('Per Oplock') of a handle: its level; while a break is in progress its target,
--- which is the most that may stay, and the number of the break, 0 without one; and the turn of the call that is pending as granted, if there is one
+-- an oplock ('Per Oplock') of a handle: its level; while a break is in progress its target, which is the most
+-- that may stay, and the number of the break, 0 without one; and the turn of the call that is pending as
+-- granted, if there is one
 pub record Oplock : Type 0 where
   pub handle : ℕ
   pub key : ℕ

@@ -6,7 +6,8 @@ ghost use Rattle.std.specs.Prelude.{⊤, [], ◌∷◌, codes};
 
 use bitflags::{Flag, Flags, bitflag_items};
 
-/// The rights of an open or of an access entry, after [MS-DTYP] 'ACCESS_MASK'. Generic rights are mapped to these before they count.
+/// The rights of an open or of an access entry, after [MS-DTYP] 'ACCESS_MASK'. Generic rights are mapped to
+/// these before they count.
 #[derive(Clone, Copy, PartialEq, Eq, Debug)]
 pub struct AccessMask(u32);
 
@@ -131,7 +132,8 @@ impl Flags for ShareAccess {
     }
 }
 
-/// The options of an open, after [MS-FSA] 'Server Requests an Open of a File', CreateOptions. Only the first five have an effect here; the others are accepted.
+/// The options of an open, after [MS-FSA] 'Server Requests an Open of a File', CreateOptions. Only the first
+/// five have an effect here; the others are accepted.
 #[derive(Clone, Copy, PartialEq, Eq, Debug)]
 pub struct CreateOptions(u32);
 
@@ -207,7 +209,8 @@ impl Flags for CreateOptions {
     }
 }
 
-/// File attributes of requests, after [MS-FSCC] 'File Attributes'. READONLY, HIDDEN, SYSTEM and ARCHIVE are kept; TEMPORARY, OFFLINE and NOT_CONTENT_INDEXED are accepted in requests and not kept.
+/// File attributes of requests, after [MS-FSCC] 'File Attributes'. READONLY, HIDDEN, SYSTEM and ARCHIVE are
+/// kept; TEMPORARY, OFFLINE and NOT_CONTENT_INDEXED are accepted in requests and not kept.
 #[derive(Clone, Copy, PartialEq, Eq, Debug)]
 pub struct FileAttributes(u32);
 

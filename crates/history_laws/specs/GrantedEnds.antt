@@ -41,7 +41,7 @@ PendsOn call client number v = list_any (λ entry. is_asking_call client number 
 abbrev pub IsTold : ℕ → ℕ → Volume → Volume → Type 0
 IsTold client number v w = times_told (λ reply. true) client number v < times_told (λ reply. true) client number w
 
--- the status of a call whose oplock was switched to another handle of its key
+-- the status of a call whose oplock was switched: its own handle, or another one of its key, is granted one
 abbrev pub is_switch : Status → Bool
 is_switch OplockSwitchedToNewHandle = true
 is_switch _ = false

@@ -197,7 +197,8 @@ module _ {M B E C : Type 0} (base : M → B) (list : M → List E) (call_of : E 
         history = r.history;
       }
 
-  -- The table when it is closed with a pass at rest that has the parts of all clients, whose calls are all that it has seen of them
+  -- The table when it is closed with a pass at rest that has the parts of all clients, whose calls are all that
+  -- it has seen of them
   ends : (id : ℕ) (v : V) (ws : List ℕ) (xs : List (Option M)) → Final (Seen Rule id v) ws xs → v.live ≡ true → v.holds ≡ false
       → ((c : ℕ) → c < n → (k : ℕ) × (p : Part E C) × (get_elem? (parts_of v) k ≡ some p) × (p.client ≡ c))
       → ((k : ℕ) (p : Part E C) → get_elem? (parts_of v) k ≡ some p → p.mine ≡ calls_by call_of client_of p.client v.own.seen)

@@ -9,7 +9,8 @@ use Rattle.history_lock.specs.Turns.{with_seen}
 abbrev pub IsResting : {M B E C : Type 0} → Me (Option M) (View B E C) → Type 0
 IsResting me = (me.1 ≡ []) × (me.0.holds ≡ false) × (me.0.hand ≡ []) × (me.0.kept ≡ [])
 
--- One entry was added after all that had been seen, and ends what is seen now. Its call is this one, and it is the one call more that the pass has made; nothing else changed
+-- One entry was added after all that had been seen, and ends what is seen now. Its call is this one, and it is
+-- the one call more that the pass has made; nothing else changed
 pub record Makes {B E C : Type 0} (call_of : E → C) (call : C) (v w : View B E C) : Type 0 where
   pub front : List E
   pub entry : E

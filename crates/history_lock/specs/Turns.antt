@@ -1,5 +1,6 @@
 -- The rule of the turn lock, which every step of every pass keeps, and what each step tells the pass that makes it.
--- Word 0 is the turn: 0, or one more than the client that holds it. Word 1 is the number of entries. The slot holds the machine while the turn is free.
+-- Word 0 is the turn: 0, or one more than the client that holds it. Word 1 is the number of entries. The slot
+-- holds the machine while the turn is free.
 use Rattle.std.specs.Prelude.{◌≡◌, ◌≢◌, ℕ, ◌+◌, ◌<◌, ◌≤◌, ◌^◌, true, false, if◌then◌else◌, List, [], ◌∷◌, ◌++◌, length, Option, Some, All}
 use mathlib.Core.Option.{some, none}
 use lib.ListN.{get_elem?}
@@ -71,7 +72,8 @@ pub record Sees {E C : Type 0} (call_of : E → C) (client_of : C → ℕ) (log 
   pub seen : Begins p.seen log
   pub mine : p.mine ≡ calls_by call_of client_of p.client log
 
--- What one pass knows is true. The owner of a client is the pass that serves it, and the place in that pass's parts: so no client has two
+-- What one pass knows is true. The owner of a client is the pass that serves it, and the place in that pass's
+-- parts: so no client has two
 pub record Fits {B E C : Type 0} (call_of : E → C) (client_of : C → ℕ) (b : B) (n turn served : ℕ) (log : List E) (owner : ℕ → ℕ × ℕ) (j : ℕ) (v : View B E C) : Type 0 where
   pub holder : v.holds ≡ true → (turn ≡ v.own.client + 1) × (v.hand ≡ log) × (v.live ≡ true)
   pub part : (k : ℕ) (p : Part E C) → get_elem? (parts_of v) k ≡ some p → (owner p.client ≡ (j, k)) × Sees call_of client_of log p × (p.client < served)
@@ -105,12 +107,15 @@ pub record Kept {M B E C : Type 0} (base : M → B) (list : M → List E) (call_
   -- the entries are a history of this machine
   pub history : stands b log
 
--- What the steps tell: st is the step, found what its word was, m what the pass knows and holds before, and m' after. The two counts of a pass rise at these steps alone, so each step names its word: loads counts loads of the count word, and lost the exchanges that found the turn word held
+-- What the steps tell: st is the step, found what its word was, m what the pass knows and holds before, and m'
+-- after. The two counts of a pass rise at these steps alone, so each step names its word: loads counts loads of
+-- the count word, and lost the exchanges that found the turn word held
 module _ {M B E C : Type 0} (base : M → B) (list : M → List E) (call_of : E → C) (client_of : C → ℕ) (stands : B → List E → Type 0) where
   abbrev Seat : Type 0
   Seat = Me (Option M) (View B E C)
 
-  -- The exchange of the turn word, from 0 to the number that names this pass: it was free, and the pass has it with the machine; or another pass holds it, and there are two clients at least
+  -- The exchange of the turn word, from 0 to the number that names this pass: it was free, and the pass has it
+  -- with the machine; or another pass holds it, and there are two clients at least
   abbrev pub taken : Step (Option M) → Seat → ℕ → Seat → Type 0
   taken st m found m' =
       (found ≡ 0 → (x : M) × (m'.1 ≡ (0, Some x) ∷ []) × (m'.0 ≡ holding m.0 (list x)) × (m.0.base ≡ base x ∷ []) × Sees call_of client_of (list x) m.0.own)
@@ -121,7 +126,8 @@ module _ {M B E C : Type 0} (base : M → B) (list : M → List E) (call_of : E 
   abbrev pub committed : Step (Option M) → Seat → ℕ → Seat → Type 0
   committed st m found m' = (m'.1 ≡ m.1) × ((x : M) → m.1 ≡ (0, Some x) ∷ [] → m'.0 ≡ with_made m.0 (list x) (calls_by call_of client_of m.0.own.client (list x))) × (st.word ≡ 1) × (st.first ≡ 1)
 
-  -- The load of the count: the history has as many entries, and what this pass and those that it keeps know is true of it, and it is one of this machine
+  -- The load of the count: the history has as many entries, and what this pass and those that it keeps know is
+  -- true of it, and it is one of this machine
   abbrev pub loaded : Step (Option M) → Seat → ℕ → Seat → Type 0
   loaded st m found m' =
       (m'.1 ≡ m.1)

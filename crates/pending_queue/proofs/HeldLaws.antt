@@ -1,4 +1,5 @@
--- The calls that are held, among all that haven't ended: how they follow as calls are held, held anew, let go or ended, and as breaks and locks end.
+-- The calls that are held, among all that haven't ended: how they follow as calls are held, held anew, let go or
+-- ended, and as breaks and locks end.
 use Rattle.std.proofs.Common.{◌≡◌, ℕ, suc, Bool, true, false, not, List, [], ◌∷◌, ◌++◌, length, refl, ap, sym, ◌∙◌, arith, inl, inr}
 use Rattle.std.specs.List.{list_any, All}
 use Rattle.std.specs.Prelude.{◌==◌, ◌&&◌, map, filter, option_map}

@@ -15,7 +15,8 @@ use Rattle.fsa_model.specs.Waiting.{is_pending}
 use Rattle.fsa_machine.specs.MachineView.{CallsNumbered}
 use Rattle.fsa_model.specs.Ended.{ended_with_list, reply_in}
 
--- the turns of these entries can be made, the calls of each client are numbered from 1, each once, and there are no more than 1,000,000
+-- the turns of these entries can be made, the calls of each client are numbered from 1, each once, and there are
+-- no more than 1,000,000
 pub record IsMachineHistory (setup : Setup) (entries : List HistoryEntry) : Type 0 where
   pub runs : IsSome (run setup entries)
   pub numbered : CallsNumbered entries

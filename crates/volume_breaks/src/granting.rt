@@ -90,7 +90,7 @@ pub fn drop_chosen(oplocks: &mut Oplocks)
     }
 }
 
-// The call of an oplock that ends, since another handle of its key is granted one, is told so.
+// The call of an oplock that ends, since a handle of its key is granted one, is told so.
 fn end_one(pending: &mut PendingCalls, ended: &mut EndTable, oplock: &OplockRow)
     requires room { 1 ≤ ended.old.room }
     ensures done { (v : Volume) → with_calls v pending.new.items ended.new.items ≡ with_switch_told (with_calls v pending.old.items ended.old.items) oplock.now }
@@ -106,8 +106,8 @@ fn end_one(pending: &mut PendingCalls, ended: &mut EndTable, oplock: &OplockRow)
     end_pending(pending, ended, oplock.call, reply);
 }
 
-/// The calls of oplocks that end, since another handle of their key is granted one, are told so, one after the
-/// other. Room for the ends of as many calls has to be there.
+/// The calls of oplocks that end, since a handle of their key is granted one, are told so, one after the other.
+/// Room for the ends of as many calls has to be there.
 pub fn end_switched(pending: &mut PendingCalls, ended: &mut EndTable, switched: &[OplockRow])
     requires room { length switched.now ≤ ended.old.room }
     ensures done { (v : Volume) → with_calls v pending.new.items ended.new.items ≡ fold with_switch_told (with_calls v pending.old.items ended.old.items) switched.now }
