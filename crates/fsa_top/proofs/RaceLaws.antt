@@ -17,6 +17,7 @@ use Rattle.history_laws.proofs.GrantedCalls.{granted_calls-pend}
 use Rattle.history_laws.proofs.GrantedEnds.{granted_calls-end_for_cause}
 use Rattle.history_laws.proofs.MadeCalls.{pends-as_made}
 use Rattle.history_laws.proofs.NoneMissed.{nothing-missed}
+use Rattle.history_laws.proofs.OplockChanges.{oplocks-change_for_cause}
 use Rattle.history_laws.proofs.PendingStay.{pending-stay}
 use Rattle.history_laws.proofs.HoldersRelease.{holders-release, others-release_none}
 use Rattle.history_laws.proofs.ScheduledCalls.{Scheduled-free}
@@ -71,6 +72,7 @@ throughout script history free differ = record {
   called_off_calls_end = called_off-end script.setup history differ;
   granted_calls_pend_while_unbroken = granted_calls-pend script.setup history differ;
   granted_calls_end_for_a_cause = granted_calls-end_for_cause script.setup history differ;
+  oplocks_change_for_a_cause = oplocks-change_for_cause script.setup history;
   holders_are_told_of_their_oplocks = told-of_oplocks script.setup history;
   breaks_leave_just_what_was_told = told-targets script.setup history differ;
   oplocks_are_left_as_told = left-as_told script.setup history differ;

@@ -17,6 +17,7 @@ use Rattle.history_laws.specs.Awaited.{NothingIsMissed}
 use Rattle.history_laws.specs.GrantedEnds.{GrantedCallsEndForCause}
 use Rattle.history_laws.specs.Granting.{GrantedCallsPend}
 use Rattle.history_laws.specs.Holding.{CalledOffEnd, PendingStay}
+use Rattle.history_laws.specs.OplockChanges.{OplocksChangeForCause}
 use Rattle.history_laws.specs.Releasing.{HoldersRelease, OthersReleaseNone}
 use Rattle.history_laws.specs.Races.{AllComeAfterWaits, Begun, Whole}
 use Rattle.history_laws.specs.Telling.{LeftAsTold, ToldOfOplocks, ToldTargets}
@@ -62,22 +63,24 @@ abbrev pub TakesUpReleased : Setup → List HistoryEntry → Type 0
 TakesUpReleased setup history =
     (front later : List HistoryEntry) (entry : HistoryEntry) (r : Run) → history ≡ front ++ entry ∷ later → run setup front ≡ Some r → TakesReleased r.volume entry.call entry.starved
 
--- what holds throughout a history: no call is made twice. Each stands after the end of every wait that its client had made and,
--- where that end is SUCCESS, after the end of the call that was waited for; a wait ends in few ways, in a settlement with
--- SUCCESS or STALLED alone, and just waits end STALLED, exactly where every client that hasn't left waits. After each turn each
--- call that was made has ended once or is pending, and none is ready: no call has ended for which a wait is pending, and
+-- what holds throughout a history: no call is made twice. Each stands after the end of every wait that its client had made
+-- and, where that end is SUCCESS, after the end of the call that was waited for; a wait ends in few ways, in a settlement with
+-- SUCCESS or STALLED alone, and just waits end STALLED, exactly where every client that hasn't left waits. After each turn
+-- each call that was made has ended once or is pending, and none is ready: no call has ended for which a wait is pending, and
 -- nothing is due to the watch of a handle by which a Notify is pending; some client that hasn't left doesn't wait, or all have
 -- left. What is pending is the very call that was made. A call is held by blockers that all live; it stays pending until it is
 -- taken up, unless its client calls it off, and after each turn one of its blockers lives. A Notify or a wait stays so too
 -- until it is called off or taken up; waits end also where every client that hasn't left waits; and what a turn's call calls
 -- off, held or not, has ended once that call has been tried. While an oplock is there and no break of it is in progress, its
--- call is pending, and no other call that asks for an oplock or answers a break is. Such a call ends only where it is told of a
--- break, called off or switched. It is told of a break only what some break of its own oplock tells; then a break of that is in
--- progress, where an acknowledgement is asked, or the oplock is gone; and where a break has come to be in progress, just what
--- it leaves was told. A turn takes up just those held calls that its own call released. A break or a lock ends exactly by its
--- holder's own call, an acknowledgement, an unlock, a close or a leaving, and in the turn of any other call none ends and no
--- held call is taken up. Caching by oplocks is coherent, and each watch reports exactly the matching changes since its last
--- report
+-- call is pending, and no other call that asks for an oplock or answers a break is. Such a call ends only where it is told of
+-- a break, called off or switched. It is told of a break only what some break of its own oplock tells; then a break of that is
+-- in progress, where an acknowledgement is asked, or the oplock is gone; and where a break has come to be in progress, just
+-- what it leaves was told. An oplock changes for a cause alone: a call of another handle and key (0 is no key) breaks it, its
+-- handle acknowledges, it is granted or switched, its call is cancelled, or its handle closes. A call breaks only what its
+-- kind names, and doesn't end with SUCCESS while it has to wait for that. A turn takes up just those held calls that its own
+-- call released. A break or a lock ends exactly by its holder's own call, an acknowledgement, an unlock, a close or a leaving,
+-- and in the turn of any other call none ends and no held call is taken up. Caching by oplocks is coherent, and each watch
+-- reports exactly the matching changes since its last report
 pub record HoldsThroughout (setup : Setup) (history : List HistoryEntry) : Type 0 where
   pub makes_no_call_twice : CallsDiffer history
   pub calls_come_after_waits : AllComeAfterWaits setup history
@@ -97,6 +100,7 @@ pub record HoldsThroughout (setup : Setup) (history : List HistoryEntry) : Type 
   pub holders_are_told_of_their_oplocks : ToldOfOplocks setup history
   pub breaks_leave_just_what_was_told : ToldTargets setup history
   pub oplocks_are_left_as_told : LeftAsTold setup history
+  pub oplocks_change_for_a_cause : OplocksChangeForCause setup history
   pub a_held_call_has_a_living_blocker : KeepsHeldBlocked setup history
   pub released_calls_are_tried_once : TakesUpReleased setup history
   pub only_holders_release_held_calls : HoldersRelease setup history

@@ -1,3 +1,6 @@
+pub mod AllByCalls
+pub mod AllByOpens
+pub mod AllOfSets
 pub mod AnyLaws
 pub mod AsToldBreaks
 pub mod AsToldCalls
@@ -10,6 +13,8 @@ pub mod ByBreaks
 pub mod CalledOff
 pub mod CallsApart
 pub mod CallsOfRuns
+pub mod CausesOfBreaks
+pub mod CausesOfCalls
 pub mod CursorLaws
 pub mod EndLines
 pub mod EndsByBreaks
@@ -21,8 +26,10 @@ pub mod HoldersStay
 pub mod LeavingLaws
 pub mod MadeCalls
 pub mod NextLaws
+pub mod NoneBefore
 pub mod NoneMissed
 pub mod OpensStay
+pub mod OplockChanges
 pub mod OrderLaws
 pub mod OthersRelease
 pub mod OwnGrants
@@ -38,6 +45,9 @@ pub mod ReadNames
 pub mod SameRace
 pub mod SameText
 pub mod ScheduledCalls
+pub mod SetsBroken
+pub mod SetsByCalls
+pub mod SetsByOpens
 pub mod SettlePlain
 pub mod SettledWaits
 pub mod SpareLaws
@@ -54,4 +64,5 @@ pub mod TurnTargets
 pub mod UnreadyStay
 pub mod WaitRuns
 pub mod WaitedFor
+pub mod WaitsByCalls
 pub mod WholeLaws

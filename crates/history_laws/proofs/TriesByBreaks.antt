@@ -263,7 +263,7 @@ query_quota v sid = search going depth 60 fits 4000
 
 open_clashes : (v : Volume) (on : HandleSet) (key : ℕ) → TriesByBreaks v (clashed v on key)
 unfolding clashed
-open_clashes v on key = one-class {kind = Clash} (search (going, by-breaks))
+open_clashes v on key = one-class {kind = Clash} (search going)
 
 open_goes : (v : Volume) (asked : Asked) (link : ℕ) (stream : Option ℕ) (on : HandleSet) → TriesByBreaks v (open_existing v asked link stream on)
 unfolding open_existing
@@ -271,7 +271,7 @@ open_goes v asked link stream on = one-class {kind = ReadOpen} (search (going, o
 
 open_overwrites : (v : Volume) (asked : Asked) (link file stream : ℕ) → TriesByBreaks v (overwrite_existing v asked link file stream)
 unfolding overwrite_existing
-open_overwrites v asked link file stream = one-class {kind = Change} (search (going, opened_so, overwritten, by-breaks) depth 60 fits 4000)
+open_overwrites v asked link file stream = one-class {kind = Change} (search (going, opened_so, overwritten) depth 60 fits 4000)
 
 open_stops : (v : Volume) (file : ℕ) (rest : List ℕ) → TriesByBreaks v (stopped v file rest)
 open_stops v file rest = one-class {kind = Change} (stops v file rest)

@@ -11,3 +11,5 @@ pub mod AsMade
 pub mod Awaited
 pub mod Telling
 pub mod GrantedEnds
+pub mod OplockChanges
+pub mod TurnParts

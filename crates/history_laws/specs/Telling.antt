@@ -1,7 +1,7 @@
 -- What the holder of an oplock is told of a break, by the end of its pending call, and what the break then leaves.
 use Rattle.std.specs.List.{list_any}
 use Rattle.std.specs.Option.{option_map_or}
-use Rattle.std.specs.Prelude.{◌≡◌, ◌<◌, ◌==◌, ◌&&◌, not, ℕ, suc, Bool, true, false, List, [], ◌∷◌, ◌++◌, Some, is_some}
+use Rattle.std.specs.Prelude.{◌≡◌, ◌<◌, ◌==◌, ◌&&◌, not, ℕ, Bool, true, false, List, [], ◌∷◌, is_some}
 use Rattle.fsa_types.specs.OplockLists.{effect_on, told_by}
 use Rattle.fsa_types.specs.Oplocks.{is_within}
 use Rattle.fsa_types.specs.declared.oplock.Class.TheVariants.{Clash, NameChange, ReadOpen, Change}
@@ -9,20 +9,15 @@ use Rattle.fsa_types.specs.declared.reply.Body.{Body}
 use Rattle.fsa_types.specs.declared.reply.Body.TheVariants.{Broken}
 use Rattle.fsa_types.specs.declared.reply.EndOf.{EndOf}
 use Rattle.fsa_types.specs.declared.reply.Reply.{Reply}
-use Rattle.fsa_types.specs.declared.request.Call.{Call}
-use Rattle.fsa_types.specs.declared.request.CallId.{CallId}
 use Rattle.fsa_types.specs.declared.request.Level.{Level}
 use Rattle.fsa_types.specs.declared.status.Status.TheVariants.{Success}
 use Rattle.fsa_model.specs.Edits.{is_call}
-use Rattle.fsa_model.specs.Engine.{own_tried}
-use Rattle.fsa_model.specs.History.{HistoryEntry, Run, run}
+use Rattle.fsa_model.specs.History.{HistoryEntry}
 use Rattle.fsa_model.specs.Once.{how_many, is_end}
-use Rattle.fsa_model.specs.Reports.{settling_after}
-use Rattle.fsa_model.specs.Settle.{taken_up_all}
 use Rattle.fsa_model.specs.Setup.{Setup}
-use Rattle.fsa_model.specs.Turn.{settlement}
 use Rattle.fsa_model.specs.Volume.{Oplock, Pending, Volume}
 use Rattle.fsa_model.specs.Waiting.{is_granted_under}
+use Rattle.history_laws.specs.TurnParts.{InEachTurn}
 use Rattle.history_laws.specs.WaitEnds.{is_success}
 
 -- ---- what is told
@@ -113,36 +108,13 @@ IsAsTold v w = (handle turn client number : ℕ) (ack : Bool) → list_any (is_h
 
 -- ---- in each turn
 
--- so it is in a turn that begins with this volume: in the try of its call, in each step of its settlement, and at last, where
--- waits stall
-pub record TellsOfOplocks (v : Volume) (call : Call) (starved : List CallId) : Type 0 where
-  pub tried : TellsOfOplock v (own_tried v call)
-  pub stepped : (steps : ℕ) → TellsOfOplock (settling_after v call starved steps).volume (settling_after v call starved (suc steps)).volume
-  pub stalled : TellsOfOplock (taken_up_all (own_tried v call) starved).volume (settlement v call starved).volume
-
--- so it is in each turn of a history
+-- so it is in each part of each turn of a history: calls are told what their own oplocks' breaks tell; just what a break leaves
+-- is told; and an oplock is left as was told
 abbrev pub ToldOfOplocks : Setup → List HistoryEntry → Type 0
-ToldOfOplocks setup history = (front later : List HistoryEntry) (entry : HistoryEntry) (r : Run) → history ≡ front ++ entry ∷ later → run setup front ≡ Some r
-    → TellsOfOplocks r.volume entry.call entry.starved
+ToldOfOplocks setup history = InEachTurn TellsOfOplock setup history
 
--- just what a break leaves is told in the same parts of a turn
-pub record TellsTargets (v : Volume) (call : Call) (starved : List CallId) : Type 0 where
-  pub tried : TellsTarget v (own_tried v call)
-  pub stepped : (steps : ℕ) → TellsTarget (settling_after v call starved steps).volume (settling_after v call starved (suc steps)).volume
-  pub stalled : TellsTarget (taken_up_all (own_tried v call) starved).volume (settlement v call starved).volume
-
--- and in each turn of a history
 abbrev pub ToldTargets : Setup → List HistoryEntry → Type 0
-ToldTargets setup history = (front later : List HistoryEntry) (entry : HistoryEntry) (r : Run) → history ≡ front ++ entry ∷ later → run setup front ≡ Some r
-    → TellsTargets r.volume entry.call entry.starved
+ToldTargets setup history = InEachTurn TellsTarget setup history
 
--- an oplock is left as was told in the same parts of a turn
-pub record AreAsTold (v : Volume) (call : Call) (starved : List CallId) : Type 0 where
-  pub tried : IsAsTold v (own_tried v call)
-  pub stepped : (steps : ℕ) → IsAsTold (settling_after v call starved steps).volume (settling_after v call starved (suc steps)).volume
-  pub stalled : IsAsTold (taken_up_all (own_tried v call) starved).volume (settlement v call starved).volume
-
--- and in each turn of a history
 abbrev pub LeftAsTold : Setup → List HistoryEntry → Type 0
-LeftAsTold setup history = (front later : List HistoryEntry) (entry : HistoryEntry) (r : Run) → history ≡ front ++ entry ∷ later → run setup front ≡ Some r
-    → AreAsTold r.volume entry.call entry.starved
+LeftAsTold setup history = InEachTurn IsAsTold setup history

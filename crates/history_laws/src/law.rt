@@ -20,6 +20,7 @@ ghost use Rattle.history_laws.specs.GrantedEnds.{GrantedCallsEndForCause};
 ghost use Rattle.history_laws.specs.Granting.{GrantedCallsPend};
 ghost use Rattle.history_laws.specs.Holding.{CalledOffEnd, PendingStay};
 ghost use Rattle.history_laws.specs.Named.{IsReadScript};
+ghost use Rattle.history_laws.specs.OplockChanges.{OplocksChangeForCause};
 ghost use Rattle.history_laws.specs.Races.{AllComeAfterWaits, Begun, NoneMadeWaiting, Whole};
 ghost use Rattle.history_laws.specs.Releasing.{HoldersRelease, OthersReleaseNone};
 ghost use Rattle.history_laws.specs.Telling.{LeftAsTold, ToldOfOplocks, ToldTargets};
@@ -172,4 +173,19 @@ pub fn holders_are_told_what_breaks_leave()
     ensures of_oplock { (setup : Setup) (history : List HistoryEntry) → ToldOfOplocks setup history }
     ensures target { (setup : Setup) (history : List HistoryEntry) → CallsDiffer history → ToldTargets setup history }
     ensures as_told { (setup : Setup) (history : List HistoryEntry) → CallsDiffer history → LeftAsTold setup history }
+{}
+
+/// In each try of every history oplocks change for a cause alone. A call that reads or writes some bytes, sets a length,
+/// locks, opens, marks, renames or links may break, by the class of its kind, those on the handles that `MayBreak` names
+/// for it: all of such a set but those of the handle by which it acts and of its key, and each as the class says. It has
+/// broken none where it ends with a status that comes only before its breaks, and all that it may where it ends with one
+/// that comes only behind them, or is held and doesn't rename; and where it has ended so, but for an open that goes on
+/// beside its breaks, it had to wait for none of them. A break that has to be acknowledged leaves the level as it is
+/// until the handle acknowledges it; then what is in both the break's target and the level acknowledged stays, and where
+/// that is nothing the oplock is gone. Any other break ends the oplock. A new oplock is one that the call asks for and
+/// that can be granted; all those of its handle or key on the stream, none of which had more or a break in progress, are
+/// gone then. Otherwise an oplock goes only where the call that it was granted to is cancelled, its handle is closed, or
+/// its client leaves.
+pub fn oplocks_change_for_a_cause()
+    ensures cause { (setup : Setup) (history : List HistoryEntry) → OplocksChangeForCause setup history }
 {}
