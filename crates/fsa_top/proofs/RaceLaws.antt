@@ -11,8 +11,11 @@ use Rattle.fsa_model.proofs.HeldLaws.{run-blocked, run-holds, run-settling_holds
 use Rattle.fsa_model.proofs.NoticeEnds.{run-watches_report}
 use Rattle.fsa_model.proofs.WaitEnds.{run-goes_on}
 use Rattle.history_laws.specs.Races.{NoneMadeWaiting, Whole}
+use Rattle.history_laws.proofs.AsAsked.{opens-and_locks_as_asked}
 use Rattle.history_laws.proofs.AsToldCalls.{left-as_told}
+use Rattle.history_laws.proofs.AsTried.{calls-pend_as_tried}
 use Rattle.history_laws.proofs.CalledOff.{called_off-end}
+use Rattle.history_laws.proofs.EndsAsFound.{calls-end_as_found}
 use Rattle.history_laws.proofs.GrantedCalls.{granted_calls-pend}
 use Rattle.history_laws.proofs.GrantedEnds.{granted_calls-end_for_cause}
 use Rattle.history_laws.proofs.MadeCalls.{pends-as_made}
@@ -28,6 +31,7 @@ use Rattle.history_laws.proofs.ToldCalls.{told-of_oplocks}
 use Rattle.history_laws.proofs.TurnByTurn.{differ-before}
 use Rattle.history_laws.proofs.TurnTargets.{told-targets}
 use Rattle.history_laws.proofs.WaitRuns.{waits-end}
+use Rattle.history_laws.proofs.WhyPending.{calls-pend_for_cause}
 use Rattle.text_out.specs.declared.write.TextFault.{TextFault}
 use Rattle.wire_io.specs.Sink.{AppendsPart, Written}
 use Rattle.client_run.proofs.RunLaws.{differ-front}
@@ -67,7 +71,11 @@ throughout script history free differ = record {
   no_awaited_end_or_change_is_missed = nothing-missed script.setup history differ;
   some_client_goes_on = λ front later r is runs. run-goes_on script.setup front r runs;
   calls_are_held_by_living_blockers = holds_by_living_ones script.setup history differ;
+  calls_pend_for_a_cause = calls-pend_for_cause script.setup history;
+  calls_end_as_they_find = calls-end_as_found script.setup history;
+  opens_and_locks_leave_what_was_asked = opens-and_locks_as_asked script.setup history;
   pending_calls_are_as_made = pends-as_made script.setup history differ;
+  calls_pend_as_they_were_tried = calls-pend_as_tried script.setup history differ;
   pending_calls_stay = pending-stay script.setup history differ;
   called_off_calls_end = called_off-end script.setup history differ;
   granted_calls_pend_while_unbroken = granted_calls-pend script.setup history differ;

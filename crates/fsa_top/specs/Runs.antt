@@ -12,8 +12,11 @@ use Rattle.fsa_model.specs.Script.{script_of}
 use Rattle.fsa_model.specs.Text.{shows_no_memory, text}
 use Rattle.fsa_model.specs.Waiting.{is_wait}
 use Rattle.fsa_model.specs.Watched.{WatchesReport}
+use Rattle.history_laws.specs.AsAsked.{OpensAndLocksAsAsked}
 use Rattle.history_laws.specs.AsMade.{PendsAsMade}
+use Rattle.history_laws.specs.AsTried.{CallsPendAsTried}
 use Rattle.history_laws.specs.Awaited.{NothingIsMissed}
+use Rattle.history_laws.specs.EndsAsFound.{CallsEndAsFound}
 use Rattle.history_laws.specs.GrantedEnds.{GrantedCallsEndForCause}
 use Rattle.history_laws.specs.Granting.{GrantedCallsPend}
 use Rattle.history_laws.specs.Holding.{CalledOffEnd, PendingStay}
@@ -22,6 +25,7 @@ use Rattle.history_laws.specs.Releasing.{HoldersRelease, OthersReleaseNone}
 use Rattle.history_laws.specs.Races.{AllComeAfterWaits, Begun, Whole}
 use Rattle.history_laws.specs.Telling.{LeftAsTold, ToldOfOplocks, ToldTargets}
 use Rattle.history_laws.specs.WaitEnds.{SettlesWaits, StallsExactly, cancels_in, ends_otherwise, is_wait_end, leaves_in}
+use Rattle.history_laws.specs.WhyPending.{CallsPendForCause}
 use Rattle.wire_io.specs.Source.{ReadsWhole}
 use Rattle.wire_io.specs.Sink.{Written, Appends, AppendsFront, AppendsPart}
 use Rattle.fsa_top.specs.declared.limits.Limit.{Limit}
@@ -68,19 +72,25 @@ TakesUpReleased setup history =
 -- SUCCESS or STALLED alone, and just waits end STALLED, exactly where every client that hasn't left waits. After each turn
 -- each call that was made has ended once or is pending, and none is ready: no call has ended for which a wait is pending, and
 -- nothing is due to the watch of a handle by which a Notify is pending; some client that hasn't left doesn't wait, or all have
--- left. What is pending is the very call that was made. A call is held by blockers that all live; it stays pending until it is
--- taken up, unless its client calls it off, and after each turn one of its blockers lives. A Notify or a wait stays so too
--- until it is called off or taken up; waits end also where every client that hasn't left waits; and what a turn's call calls
--- off, held or not, has ended once that call has been tried. While an oplock is there and no break of it is in progress, its
--- call is pending, and no other call that asks for an oplock or answers a break is. Such a call ends only where it is told of
--- a break, called off or switched. It is told of a break only what some break of its own oplock tells; then a break of that is
--- in progress, where an acknowledgement is asked, or the oplock is gone; and where a break has come to be in progress, just
--- what it leaves was told. An oplock changes for a cause alone: a call of another handle and key (0 is no key) breaks it, its
--- handle acknowledges, it is granted or switched, its call is cancelled, or its handle closes. A call breaks only what its
--- kind names, and doesn't end with SUCCESS while it has to wait for that. A turn takes up just those held calls that its own
--- call released. A break or a lock ends exactly by its holder's own call, an acknowledgement, an unlock, a close or a leaving,
--- and in the turn of any other call none ends and no held call is taken up. Caching by oplocks is coherent, and each watch
--- reports exactly the matching changes since its last report
+-- left. An open ends SUCCESS only where it clashes with no handle, SHARING_VIOLATION only where it clashes with one, and
+-- OPLOCK_BREAK_IN_PROGRESS only beside breaks that it would wait for; a read, a write, a lock, a request for an oplock, an
+-- acknowledgement and a wait end with each status only where what it says is found. An open that succeeds leaves just the
+-- handle that was asked for, a lock just the lock, and neither leaves one otherwise. What is pending is the very call that was
+-- made. After its try a call is pending for a cause alone: held by just the breaks of one set of handles for which its rule has
+-- it wait or, where it is a lock, by just the locks in conflict with it, all of which live then and are kept for it; or as the
+-- call of an oplock, as a Notify to whose handle's watch nothing is due, or as a wait for a pending call. A held call stays
+-- pending until it is taken up, unless its client calls it off, and after each turn one of its blockers lives. A Notify or a
+-- wait stays so too until it is called off or taken up; waits end also where every client that hasn't left waits; and what a
+-- turn's call calls off, held or not, has just one end once that call has been tried, with the status of its rule. While an
+-- oplock is there and no break of it is in progress, its call is pending, and no other call that asks for an oplock or answers
+-- a break is. Such a call ends only where it is told of a break, called off or switched. It is told of a break only what some
+-- break of its own oplock tells; then a break of that is in progress, where an acknowledgement is asked, or the oplock is gone;
+-- and where a break has come to be in progress, just what it leaves was told. An oplock changes for a cause alone: a call of
+-- another handle and key (0 is no key) breaks it, its handle acknowledges, it is granted or switched, its call is cancelled, or
+-- its handle closes. A call breaks only what its kind names, and doesn't end with SUCCESS while it has to wait for that. A turn
+-- takes up just those held calls that its own call released. A break or a lock ends exactly by its holder's own call, an
+-- acknowledgement, an unlock, a close or a leaving, and in the turn of any other call none ends and no held call is taken up.
+-- Caching by oplocks is coherent, and each watch reports exactly the matching changes since its last report
 pub record HoldsThroughout (setup : Setup) (history : List HistoryEntry) : Type 0 where
   pub makes_no_call_twice : CallsDiffer history
   pub calls_come_after_waits : AllComeAfterWaits setup history
@@ -92,7 +102,11 @@ pub record HoldsThroughout (setup : Setup) (history : List HistoryEntry) : Type 
   pub no_awaited_end_or_change_is_missed : NothingIsMissed setup history
   pub some_client_goes_on : KeepsSomeGoing setup history
   pub calls_are_held_by_living_blockers : HoldsByLivingOnes setup history
+  pub calls_pend_for_a_cause : CallsPendForCause setup history
+  pub calls_end_as_they_find : CallsEndAsFound setup history
+  pub opens_and_locks_leave_what_was_asked : OpensAndLocksAsAsked setup history
   pub pending_calls_are_as_made : PendsAsMade setup history
+  pub calls_pend_as_they_were_tried : CallsPendAsTried setup history
   pub pending_calls_stay : PendingStay setup history
   pub called_off_calls_end : CalledOffEnd setup history
   pub granted_calls_pend_while_unbroken : GrantedCallsPend setup history

@@ -4,7 +4,7 @@ use Rattle.std.specs.List.{filter, list_any}
 use Rattle.std.specs.Prelude.{◌&&◌, ◌||◌}
 use Rattle.std.proofs.lemmas.Bool.{cases_Bool, false_from_ne_true}
 use Rattle.fsa_model.proofs.CountLaws.{and_left, and_right}
-use Rattle.fsa_model.proofs.RowLaws.{any-filter, any-same, any-weaker, or_right}
+use Rattle.fsa_model.proofs.RowLaws.{any-filter, any-weaker, or_right}
 use Rattle.fsa_model.proofs.WaitLaws.{or_none}
 
 pub and_none : (a b : Bool) → b ≡ false → (a && b) ≡ false
@@ -29,10 +29,6 @@ and_twice false b both = cc
 pub any-never : {X : Type 0} (p : X → Bool) (xs : List X) → ((x : X) → p x ≡ false) → list_any p xs ≡ false
 any-never p [] never = refl
 any-never p (x ∷ xs) never = rw (never x) (any-never p xs never)
-
--- where the other test takes none out
-pub any-true : {X : Type 0} (p : X → Bool) (xs : List X) → list_any p xs ≡ list_any (λ x. p x && true) xs
-any-true p xs = any-same p (λ x. p x && true) xs (λ x. and_true (p x))
 
 -- of what a filter keeps
 pub any-filter_and : {X : Type 0} (p keep : X → Bool) (xs : List X) → list_any p (filter keep xs) ≡ list_any (λ x. p x && keep x) xs

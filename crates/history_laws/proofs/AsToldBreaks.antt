@@ -1,6 +1,6 @@
 -- Where breaks tell the call of an oplock, the oplock is as was told: it is gone, or a break of it is in progress.
 use Rattle.std.proofs.Common.{◌≡◌, ℕ, ◌+◌, ◌<◌, ◌≤◌, Bool, true, false, not, List, [], ◌∷◌, refl, sym, subst, ◌∙◌, arith, inl, inr, ◌⊎◌, Option, Some, None}
-use Rattle.std.specs.List.{find, fold, list_any}
+use Rattle.std.specs.List.{fold, list_any}
 use Rattle.std.specs.Option.{option_map_or}
 use Rattle.std.specs.Prelude.{◌==◌, ◌&&◌, is_some, map}
 use Rattle.std.proofs.lemmas.Bool.{cases_Bool, eqb-true}
@@ -19,17 +19,17 @@ use Rattle.fsa_model.specs.Settling.{is_of, is_under}
 use Rattle.fsa_model.specs.Volume.{Oplock, Pending, Volume}
 use Rattle.fsa_model.specs.Waiting.{is_granted_under}
 use Rattle.fsa_model.proofs.BreakLaws.{told-oplocks}
-use Rattle.fsa_model.proofs.CountLaws.{and_left, and_right, how_many-append, how_many-none, how_many-some, how_many-weaker, none-how_many, only-one}
+use Rattle.fsa_model.proofs.CountLaws.{and_left, and_right, how_many-append, how_many-none, how_many-weaker, none-how_many, only-one}
 use Rattle.fsa_model.proofs.OnceLaws.{is_call_of, is_same-equal, pending-with_end}
 use Rattle.fsa_model.proofs.PendLaws.{found-under}
-use Rattle.fsa_model.proofs.RowLaws.{any-filter, any-map, any-weaker, eqb-swap, find-any, find-none, option_cases}
+use Rattle.fsa_model.proofs.RowLaws.{any-filter, any-map, any-weaker, eqb-swap, option_cases}
 use Rattle.fsa_model.proofs.TryLaws.{Keeps, Keeps-effect}
-use Rattle.fsa_model.proofs.WaitLaws.{begun, changed, find-passes, lowered}
+use Rattle.fsa_model.proofs.WaitLaws.{begun, changed, lowered}
 use Rattle.history_laws.specs.Telling.{IsAsTold, IsLeft, asks_ack, is_held_under, telling, tells_of_break, times_told}
 use Rattle.history_laws.proofs.AnyLaws.{and_none, any-never, any-filter_and, none-stronger}
 use Rattle.history_laws.proofs.ByBreaks.{ByBreaks, Still, Locked, Broken, Next}
 use Rattle.history_laws.proofs.TargetRuns.{AreApart, Fits, among-chosen, apart-by, apart-kept, fits-chosen, fits-other, fits-own, fits-rest}
-use Rattle.history_laws.proofs.ToldTargets.{IsUnbroken, effect-unbroken}
+use Rattle.history_laws.proofs.ToldTargets.{IsUnbroken, effect-unbroken, under-turn}
 
 -- the handle's oplock has a break in progress
 abbrev pub is_breaking_of : ℕ → Oplock → Bool
@@ -88,22 +88,9 @@ module _ (handle turn client number : ℕ) where
   -- the call that is pending under the turn is told, and pends no more
   told-gone : (u : Volume) (level : Level) (ack : Bool) → ((at : ℕ) → how_many (is_under at) u.pending ≤ 1) → list_any (λ (e : ℕ × Pending). e.0 == turn && is_call client number e.1) u.pending ≡ true
       → how_many (is_call_of client number) (with_told u (Some turn) level ack).pending ≡ 0
-  told-gone u level ack turns pends = elim (option_cases (find (λ (entry : ℕ × Pending). entry.0 == turn) u.pending)) [
-    | inl missing ↦ absurd (
-        let none = how_many-none (is_under turn) u.pending (find-none (is_under turn) u.pending missing) in
-        let there = how_many-some (λ (e : ℕ × Pending). e.0 == turn && is_call client number e.1) u.pending pends in
-        let weaker = how_many-weaker (λ (e : ℕ × Pending). e.0 == turn && is_call client number e.1) (is_under turn) u.pending (λ e both. and_left (e.0 == turn) (is_call client number e.1) both) in omega arith)
-    | inr entry ↦ (let is = its entry.0 entry.1 in rw entry.1 (pending-with_end u entry.0.1.call.client entry.0.1.call.number client number (telling level ack) ∙ rw is refl))
-  ]
-    where
-      its : (e : ℕ × Pending) → find (λ (entry : ℕ × Pending). entry.0 == turn) u.pending ≡ Some e → is_call client number e.1 ≡ true
-      its e found = elim (cases_Bool (is_call client number e.1)) [
-        | inl is ↦ is
-        | inr isnt ↦ (
-            let there = find-any (is_under turn) (λ x. is_under turn x && not (is_call client number x.1)) u.pending e found (rw (find-passes (is_under turn) u.pending e found, isnt) refl) in
-            let none = only-one (is_under turn) (λ x. is_call client number x.1) u.pending (turns turn) pends in
-            let impossible : true ≡ false = sym there ∙ none in cc)
-      ]
+  told-gone u level ack turns pends =
+      let under = under-turn turn client number u turns pends in
+      rw under.found (pending-with_end u under.entry.1.call.client under.entry.1.call.number client number (telling level ack) ∙ rw under.its refl)
 
   -- an oplock of another call breaks
   effect-untold : (w : Volume) (o : Oplock) (done : Effect) (test : Reply → Bool) → list_any (is_called client number o.call) w.pending ≡ false

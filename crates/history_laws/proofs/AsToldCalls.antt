@@ -1,5 +1,5 @@
 -- In each turn an oplock whose call is told of a break is as was told.
-use Rattle.std.proofs.Common.{◌≡◌, ℕ, zero, suc, ◌≤◌, Bool, true, false, List, [], ◌∷◌, ◌++◌, refl, arith, inl, inr, Option, Some, None}
+use Rattle.std.proofs.Common.{◌≡◌, ℕ, zero, suc, ◌≤◌, Bool, true, false, List, [], ◌∷◌, refl, arith, inl, inr, Option, Some, None}
 use Rattle.std.specs.List.{fold}
 use Rattle.std.specs.Option.{option_map_or}
 use Rattle.std.specs.Prelude.{◌&&◌, nat_le, option_and_then, if◌then◌else◌}
@@ -23,32 +23,25 @@ use Rattle.fsa_model.specs.Grant.{ack_at, ack_keeping, is_not_granted, oplock_at
 use Rattle.fsa_model.specs.History.{HistoryEntry}
 use Rattle.fsa_model.specs.Locking.{try_unlock, unlock_at, unlock_by, unlock_range}
 use Rattle.fsa_model.specs.Lookups.{handle_of, has_left, number_of}
-use Rattle.fsa_model.specs.Once.{times}
 use Rattle.fsa_model.specs.Outcome.{Outcome, Done, Stay, Hold, refused}
-use Rattle.fsa_model.specs.Reports.{settling_after}
 use Rattle.fsa_model.specs.Settle.{Settling, come_over, repeated, settle_step, starves, taken_up, taken_up_all, with_tried}
-use Rattle.fsa_model.specs.Settling.{MayTurn}
 use Rattle.fsa_model.specs.Setup.{Setup}
 use Rattle.fsa_model.specs.Try.{try, try_what}
 use Rattle.fsa_model.specs.Turn.{answered, turn_number, volume_after}
 use Rattle.fsa_model.specs.Volume.{Handle, Oplock, Pending, Volume}
 use Rattle.fsa_model.specs.Waiting.{all_wait, is_held, next_ready, try_cancel, waits_in_order, with_oplock_given_up, with_stalled}
 use Rattle.fsa_model.specs.Watching.{due_size, report, with_watch_seen}
-use Rattle.fsa_model.proofs.EngineLaws.{new-before, run-before}
 use Rattle.fsa_model.proofs.KeepLaws.{Untouched-mark_on_close, Untouched-swept}
 use Rattle.fsa_model.proofs.RowLaws.{option_cases}
 use Rattle.fsa_model.proofs.TryLaws.{Untouched, Untouched-next}
 use Rattle.history_laws.specs.Telling.{IsAsTold, LeftAsTold, asks_ack, tells_of_break, times_told}
 use Rattle.history_laws.proofs.AsToldBreaks.{by-as_told, same-left}
-use Rattle.history_laws.proofs.BackedTries.{MayBack}
 use Rattle.history_laws.proofs.ByBreaks.{TriesByBreaks}
-use Rattle.history_laws.proofs.GrantedCalls.{goes, run-may_back}
 use Rattle.history_laws.proofs.OwnReplies.{EndsUntold, report-untold, try-untold}
 use Rattle.history_laws.proofs.TargetRuns.{AreApart}
 use Rattle.history_laws.proofs.ToldBreaks.{end-times}
 use Rattle.history_laws.proofs.TriesByBreaks.{changes_otherwise, what-by_breaks}
-use Rattle.history_laws.proofs.TurnByTurn.{differ-before, differ-front}
-use Rattle.history_laws.proofs.TurnTargets.{apart-back}
+use Rattle.history_laws.proofs.TurnTargets.{turn-apart}
 
 -- ---- no call is told
 
@@ -243,23 +236,10 @@ stalled-as_told v = elim (cases_Bool (all_wait v)) [
 ]
 
 pub left-as_told : (setup : Setup) (history : List HistoryEntry) → CallsDiffer history → LeftAsTold setup history
-left-as_told setup history differ front later entry r is runs = record {
-  tried = own-as_told r.volume entry.call (apart-back r.volume may.take_up.may may.take_up.once back);
-  stepped = λ steps. step-as_told steps (record { volume = own_tried r.volume entry.call; starved = entry.starved; taken = [] }) so_far;
-  stalled = stalled-as_told (taken_up_all (own_tried r.volume entry.call) entry.starved).volume;
-}
-  where
-    differ_to : CallsDiffer (front ++ entry ∷ [])
-    differ_to = differ-before history front later entry is differ
-
-    may : MayTurn r.volume
-    may = (run-before setup front entry r differ_to runs).may
-
-    new : times entry.call.client entry.call.number r.volume ≡ 0
-    new = new-before setup front entry r differ_to runs
-
-    back : MayBack r.volume
-    back = run-may_back setup front r (differ-front front (entry ∷ []) differ_to) runs
-
-    so_far : (steps : ℕ) → AreApart (settling_after r.volume entry.call entry.starved steps).volume
-    so_far steps = (let come = goes r.volume entry.call entry.starved may new back steps in apart-back (settling_after r.volume entry.call entry.starved steps).volume come.0.may come.0.once come.1)
+left-as_told setup history differ front later entry r is runs =
+    let apart = turn-apart setup history front later entry r differ is runs in
+    record {
+      tried = own-as_told r.volume entry.call apart.before;
+      stepped = λ steps. step-as_told steps (record { volume = own_tried r.volume entry.call; starved = entry.starved; taken = [] }) apart.so_far;
+      stalled = stalled-as_told (taken_up_all (own_tried r.volume entry.call) entry.starved).volume;
+    }

@@ -45,7 +45,7 @@ use Rattle.history_laws.proofs.BrokenGrants.{IsTidy, NoBrokenGrant, is_broken_gr
 use Rattle.history_laws.proofs.ByBreaks.{TriesByBreaks}
 use Rattle.history_laws.proofs.OwnGrants.{unasked}
 use Rattle.history_laws.proofs.PendingNames.{CallsNamed}
-use Rattle.history_laws.proofs.TriesByBreaks.{changes_otherwise, what-by_breaks}
+use Rattle.history_laws.proofs.TriesByBreaks.{changes_otherwise, held-by_breaks, what-by_breaks}
 use Rattle.history_laws.proofs.TurnBlockers.{blockers-come, blockers-stalled}
 
 -- ---- a call that asks for none
@@ -253,18 +253,8 @@ taken_up-backed s entry may next backed = elim (cases_Bool (is_held entry.1)) [
     tried : may_be_held entry.1.call.what ≡ true → AreBacked (volume_after (try s.volume entry.1.call entry.0))
     tried can = elim (cases_Bool (has_left s.volume entry.1.call.client)) [
       | inl gone ↦ rw gone backed
-      | inr here ↦ rw here (IsBacked.backed (backed-by (TriesByBreaks.so (what-by_breaks s.volume entry.0 entry.1.call.client entry.1.call.number entry.1.call.what (by entry.1.call.what can))) (record { one = may.oplocks; turns = may.turns; backed = backed })))
+      | inr here ↦ rw here (IsBacked.backed (backed-by (TriesByBreaks.so (what-by_breaks s.volume entry.0 entry.1.call.client entry.1.call.number entry.1.call.what (held-by_breaks entry.1.call.what can))) (record { one = may.oplocks; turns = may.turns; backed = backed })))
     ]
-      where
-        by : (what : What) → may_be_held what ≡ true → changes_otherwise what ≡ false
-        by (Ask (OplockRequest handle level)) can = absurd (let impossible : false ≡ true = can in cc)
-        by (Ask (Ack handle level)) can = absurd (let impossible : false ≡ true = can in cc)
-        by (Ask (Unlock handle at count)) can = absurd (let impossible : false ≡ true = can in cc)
-        by (Ask (Close handle)) can = absurd (let impossible : false ≡ true = can in cc)
-        by (Ask (Cancel number)) can = absurd (let impossible : false ≡ true = can in cc)
-        by (Ask _) can = refl
-        by Leave can = absurd (let impossible : false ≡ true = can in cc)
-        by _ can = refl
 
 -- and at last all waits end, where all clients wait
 pub stalled-backed : (v : Volume) → AreBacked v → AreBacked (with_stalled v)

@@ -56,8 +56,6 @@ is_broken_grant oplock = is_some oplock.target && is_some oplock.call
 abbrev pub NoBrokenGrant : List Oplock → Type 0
 NoBrokenGrant oplocks = list_any is_broken_grant oplocks ≡ false
 
--- ---- one oplock
-
 -- ---- changes of oplocks
 
 -- one handle's oplock is changed, and then it isn't such a one
@@ -70,10 +68,6 @@ changed-none change at (o ∷ oplocks) so none =
       | inl here ↦ rw (here, so o) rest
       | inr other ↦ rw (other, parts.0) rest
     ]
-
-and_none : (a : Bool) → (a && false) ≡ false
-and_none true = refl
-and_none false = refl
 
 -- a break goes on where one is in progress
 lowered-none : (at : ℕ) (level : Level) (oplocks : List Oplock) → list_any (lacks_break at) oplocks ≡ false → NoBrokenGrant oplocks → NoBrokenGrant (map (changed (lowered level) at) oplocks)

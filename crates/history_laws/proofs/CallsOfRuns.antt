@@ -23,6 +23,7 @@ use Rattle.fsa_model.proofs.SettleLaws.{some_equal}
 use Rattle.history_laws.specs.Named.{IsReadScript}
 use Rattle.history_laws.proofs.EndLines.{AreOurs}
 use Rattle.history_laws.proofs.SettlePlain.{GivesStarved, turn-starved}
+use Rattle.history_laws.proofs.TurnByTurn.{steps-append}
 
 -- ---- the calls of a script
 
@@ -120,14 +121,6 @@ abbrev pub GoesOn : Script → List HistoryEntry → Run → List HistoryEntry �
 GoesOn script history r [] = next_in (all_calls script) history r.volume ≡ None
 GoesOn script history r (entry ∷ rest) = (made : Made script history r entry) × GoesOn script (history ++ entry ∷ []) (with_turn r made.turned) rest
 
-steps-append : {S E : Type 0} (step : S → E → Option S) (s : S) (front back : List E) → steps step s (front ++ back) ≡ option_and_then (λ after. steps step after back) (steps step s front)
-steps-append step s [] back = refl
-steps-append {S} {E} step s (item ∷ front) back =
-    elim (step s item) as (λ o. option_and_then (λ after. steps step after (front ++ back)) o ≡ option_and_then (λ after. steps step after back) (option_and_then (λ after. steps step after front) o)) [
-      | None ↦ refl
-      | Some after ↦ steps-append step after front back
-    ]
-
 -- where the run of more entries is there, so is the next turn
 pub turned-there : (setup : Setup) (history : List HistoryEntry) (entry : HistoryEntry) (rest : List HistoryEntry) (r : Run) → run setup history ≡ Some r → IsSome (run setup (history ++ entry ∷ rest))
     → (turned : Turned) × (turn r.volume entry.call entry.starved ≡ Some turned)
@@ -138,7 +131,7 @@ turned-there setup history entry rest r is runs = elim (option_cases (turn r.vol
       let impossible : false ≡ true = rw none at after in cc)
 ]
 
-entry-at : (history : List HistoryEntry) (entry : HistoryEntry) (rest : List HistoryEntry) → slice_get (history ++ entry ∷ rest) (length history) ≡ Some entry
+pub entry-at : (history : List HistoryEntry) (entry : HistoryEntry) (rest : List HistoryEntry) → slice_get (history ++ entry ∷ rest) (length history) ≡ Some entry
 entry-at [] entry rest = refl
 entry-at (first ∷ history) entry rest = entry-at history entry rest
 

@@ -5,7 +5,7 @@ use Rattle.std.proofs.Common.{◌≡◌, ℕ, Bool, true, false, not, List, [], 
 use Rattle.std.specs.List.{filter, find, fold, list_any}
 use Rattle.std.specs.Option.{option_map_or}
 use Rattle.std.specs.Prelude.{◌==◌, ◌&&◌, ◌||◌, is_some, map, nat_lt, option_map, if◌then◌else◌}
-use Rattle.std.proofs.lemmas.Bool.{cases_Bool, eqb-true, false≢true}
+use Rattle.std.proofs.lemmas.Bool.{cases_Bool, eqb-true, false≢true, not-false}
 use Rattle.std.proofs.lemmas.List.Kept.{AllPairs-filter}
 use Rattle.fsa_types.specs.OplockGrants.{as_answered, as_granted, some_breaking, some_more, some_writer}
 use Rattle.fsa_types.specs.Oplocks.{has_read, in_both, is_within}
@@ -68,7 +68,7 @@ gone-by keep oplocks handle was found gone = elim (cases_Bool (keep was)) [
 ]
 
 -- one more oplock is found where it is the handle's and none was before
-found-more : (oplocks : List Oplock) (new : Oplock) (handle : ℕ) → find (is_of handle) oplocks ≡ None → is_of handle new ≡ true → find (is_of handle) (oplocks ++ new ∷ []) ≡ Some new
+pub found-more : (oplocks : List Oplock) (new : Oplock) (handle : ℕ) → find (is_of handle) oplocks ≡ None → is_of handle new ≡ true → find (is_of handle) (oplocks ++ new ∷ []) ≡ Some new
 found-more [] new handle none here = rw here refl
 found-more (o ∷ oplocks) new handle none here = elim (cases_Bool (is_of handle o)) [
   | inl first ↦ (let impossible : Some o ≡ None = rw first at none in cc)
@@ -91,16 +91,11 @@ switched-before (s ∷ oplocks) v handle o differ found =
     found-before (λ (x : Oplock). not (x.handle == s.handle)) v.oplocks handle o differ (ap (λ (left : List Oplock). find (is_of handle) left) (sym left) ∙ step)
 
 -- an answer changes none but the handle's
-found-answered : (oplocks : List Oplock) (id : ℕ) (level : Level) (turn handle : ℕ) → find (is_of handle) (map (as_answered id level turn) oplocks) ≡ option_map (as_answered id level turn) (find (is_of handle) oplocks)
+pub found-answered : (oplocks : List Oplock) (id : ℕ) (level : Level) (turn handle : ℕ) → find (is_of handle) (map (as_answered id level turn) oplocks) ≡ option_map (as_answered id level turn) (find (is_of handle) oplocks)
 found-answered oplocks id level turn handle =
     find-map (is_of handle) (as_answered id level turn) oplocks
     ∙ ap (option_map (as_answered id level turn)) (find-same (λ x. is_of handle (as_answered id level turn x)) (is_of handle) oplocks
     (λ x. elim (cases_Bool (x.handle == id)) [ inl here ↦ rw here refl | inr other ↦ rw other refl ]))
-
--- what a filter takes away passes the test of it
-not_kept : (b : Bool) → not b ≡ false → b ≡ true
-not_kept true is = refl
-not_kept false is = cc
 
 -- the oplock was granted to the call that is pending under this turn
 under-its_call : (under : ℕ) (was : Oplock) → is_granted_under under was ≡ true → was.call ≡ Some under
@@ -241,7 +236,7 @@ module _ {v : Volume} {call : Call} {turn : ℕ} where
   cause-cancel number tied is =
       cause-option (number_of (is_call call.client number) v.pending) _ _
       (λ under pends. cause-done (cause-filter (with_cancelled v call.client number under) (λ o. not (is_granted_under under o)) tied refl
-      (λ handle was found of_it gone. Cancelled number under is pends (under-its_call under was (not_kept _ gone))))) (cause-refused _)
+      (λ handle was found of_it gone. Cancelled number under is pends (under-its_call under was (not-false _ gone))))) (cause-refused _)
 
   -- ---- a close, and a leaving
 
@@ -250,13 +245,13 @@ module _ {v : Volume} {call : Call} {turn : ℕ} where
   cause-close number tied is =
       cause-option (handle_of v call.client number) _ _ (λ id named. cause-option (row_of v.handles id) _ _
       (λ row living. cause-done (cause-filter (with_closed v id row) (λ (o : Oplock). not (o.handle == id)) tied (closes v id row).oplocks
-      (λ handle was found of_it gone. (let closed : was.handle ≡ id = eqb-true was.handle id (not_kept _ gone) in Closed number is (named ∙ ap (λ h. Some h) (sym closed ∙ of_it))))))
+      (λ handle was found of_it gone. (let closed : was.handle ≡ id = eqb-true was.handle id (not-false _ gone) in Closed number is (named ∙ ap (λ h. Some h) (sym closed ∙ of_it))))))
       (cause-refused _)) (cause-refused _)
 
   cause-leave : IsTied v → call.what ≡ Leave → Causes v call turn (try_leave v call.client)
   unfolding try_leave
   cause-leave tied is = cause-done (cause-filter (with_client_gone v call.client) (λ (o : Oplock). not (is_among (handles_of_client v call.client) o.handle)) tied (client-gone v call.client)
-      (λ handle was found of_it gone. Left is (rw of_it at (sym (among-open v call.client was.handle) ∙ not_kept _ gone))))
+      (λ handle was found of_it gone. Left is (rw of_it at (sym (among-open v call.client was.handle) ∙ not-false _ gone))))
 
   -- ---- an acknowledgement
 
@@ -286,7 +281,7 @@ module _ {v : Volume} {call : Call} {turn : ℕ} where
   cause-given_up : (number id : ℕ) (level target : Level) → IsTied v → call.what ≡ Ask (request.Ack number level) → handle_of v call.client number ≡ Some id → target_of v id ≡ Some target
       → has_read (in_both level target) ≡ false → HasCauses v call turn (without_oplock v id)
   cause-given_up number id level target tied is named answers none = cause-filter (without_oplock v id) (λ (o : Oplock). not (o.handle == id)) tied refl
-      (λ handle was found of_it gone. (let own : id ≡ handle = sym (eqb-true was.handle id (not_kept _ gone)) ∙ of_it in
+      (λ handle was found of_it gone. (let own : id ≡ handle = sym (eqb-true was.handle id (not-false _ gone)) ∙ of_it in
       let aimed : was.target ≡ Some target = rw (own, found) at answers in GivenUp number level target is (named ∙ ap (λ h. Some h) own) aimed none))
 
   cause-ack : (number : ℕ) (level : Level) → IsTied v → call.what ≡ Ask (request.Ack number level) → Causes v call turn (try_ack v call.client number level turn)

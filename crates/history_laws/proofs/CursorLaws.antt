@@ -1,6 +1,6 @@
 -- Laws of cursors: where they begin, how one goes on with a turn, and which call is next by them.
 use Rattle.fsa_model.proofs.RowLaws.{or-false}
-use Rattle.std.proofs.Common.{◌≡◌, ℕ, ◌+◌, ◌-◌, ◌<◌, ◌≤◌, length-set, zero, suc, List, [], ◌∷◌, ◌++◌, length, drop, take, map, cond, ne_eqb, Bool, true, false, not, Some, None, refl, ap, sym, subst, ◌∙◌, arith, eq-eqb, inl, inr, ◌⊎◌}
+use Rattle.std.proofs.Common.{◌≡◌, ℕ, ◌+◌, ◌-◌, ◌<◌, ◌≤◌, length-set, zero, suc, List, [], ◌∷◌, ◌++◌, length, drop, take, map, cond, ne_eqb, Bool, true, false, not, Some, None, refl, ap, sym, subst, ◌∙◌, arith, eq-eqb, inl, inr}
 use Rattle.std.specs.Prelude.{◌==◌, ◌&&◌, ◌||◌, find, nat_lt, slice_get, slice_set, slice_index_or}
 use Rattle.std.proofs.lemmas.Bool.{cases_Bool, eqb-true}
 use Rattle.std.proofs.lemmas.Bool.Decides.{nat_tests}
@@ -13,7 +13,8 @@ use Rattle.fsa_model.specs.Volume.{Volume}
 use Rattle.fsa_model.specs.Waiting.{waits}
 use Rattle.fsa_model.proofs.ScheduleLaws.{calls_of-push}
 use Rattle.history_laws.specs.Cursors.{StandAt, first_of, first_from}
-use Rattle.history_laws.proofs.PlaceLaws.{calls_of-first, calls_of-next, slice_get-drop, drop-drop, first_of-is, first_of-before, first_of-again, is_same-at, is_same-self, is_made-push}
+use Rattle.history_laws.proofs.PlaceLaws.{by_order, calls_of-first, calls_of-next, slice_get-drop, drop-drop, first_of-is, first_of-before, first_of-again, is_same-at, is_same-self, is_made-push}
+use Rattle.history_laws.proofs.AnyLaws.{and_none}
 
 -- ---- the first call from a place on
 
@@ -58,15 +59,6 @@ StandAt-begun calls cursors begins within = record {
 
 below : (i p : ℕ) → i < p → nat_lt i p ≡ true
 below i p less = grind (arith, nat_tests)
-
-by_order : (i p : ℕ) → (i < p) ⊎ ((i ≡ p) ⊎ (p < i))
-by_order zero zero = inr (inl refl)
-by_order zero (suc p) = inl (omega arith)
-by_order (suc i) zero = inr (inr (omega arith))
-by_order (suc i) (suc p) = elim (by_order i p) [
-  | inl less ↦ inl (omega arith)
-  | inr rest ↦ elim rest [ inl same ↦ inr (inl (ap suc same)) | inr more ↦ inr (inr (omega arith)) ]
-]
 
 -- the call at its client's cursor was made: the cursor goes on to the client's next call
 pub StandAt-push : (calls : List Call) (history : List HistoryEntry) (cursors : List ℕ) (place : ℕ) (entry : HistoryEntry) → AreNumbered [] calls → StandAt calls history cursors
@@ -148,10 +140,6 @@ find_none : {X : Type 0} (test : X → Bool) (xs : List X) → ((j : ℕ) (other
 find_none test [] none = refl
 find_none test (first ∷ xs) none = rw (none 0 first refl) (find_none test xs (λ j other here. none (suc j) other here))
 
-and_false : (b : Bool) → (b && false) ≡ false
-and_false true = refl
-and_false false = refl
-
 -- the call at the least cursor of a client that doesn't wait is next
 pub next_in-least : (calls : List Call) (history : List HistoryEntry) (cursors : List ℕ) (v : Volume) (call : Call) → StandAt calls history cursors
     → slice_get calls (slice_index_or cursors call.client 0) ≡ Some call → waits v call.client ≡ false
@@ -162,7 +150,7 @@ next_in-least calls history cursors v call stands at free least within =
     find_at (λ (other : Call). not (is_made history other) && not (waits v other.client)) calls (slice_index_or cursors call.client 0) call at
     (rw (stands.made (slice_index_or cursors call.client 0) call at, not_below (slice_index_or cursors call.client 0) (slice_index_or cursors call.client 0) (omega arith), free) refl)
     (λ j other less here. elim (cases_Bool (waits v other.client)) [
-      | inl is ↦ rw is (and_false (not (is_made history other)))
+      | inl is ↦ rw is (and_none (not (is_made history other)) false refl)
       | inr isnt ↦ (let few : slice_index_or cursors call.client 0 ≤ slice_index_or cursors other.client 0 = least other.client (within j other here) isnt in
           rw (stands.made j other here, below j (slice_index_or cursors other.client 0) (omega arith)) refl)
     ])
@@ -175,7 +163,7 @@ pub next_in-none : (calls : List Call) (history : List HistoryEntry) (cursors : 
 next_in-none calls history cursors v stands none within =
     find_none (λ (other : Call). not (is_made history other) && not (waits v other.client)) calls
     (λ j other here. elim (cases_Bool (waits v other.client)) [
-      | inl is ↦ rw is (and_false (not (is_made history other)))
+      | inl is ↦ rw is (and_none (not (is_made history other)) false refl)
       | inr isnt ↦ (let few : length calls ≤ slice_index_or cursors other.client 0 = none other.client (within j other here) isnt in
           let inside : j < length calls = slice_get_within calls j other here in
           rw (stands.made j other here, below j (slice_index_or cursors other.client 0) (omega arith)) refl)

@@ -88,6 +88,10 @@ record SameLine (first second : EndOf) (back rest : List ℕ) : Type 0 where
   status : is_no_memory first.reply.status ≡ is_no_memory second.reply.status
   after : back ≡ rest
 
+-- behind the same byte the rest is the same
+pub tail_of : {byte : ℕ} {front other : List ℕ} → byte ∷ front ≡ byte ∷ other → front ≡ other
+tail_of alike = cc
+
 -- so it is behind the two numbers
 same_status : (first second : EndOf) (back rest : List ℕ)
     → status_name first.reply.status ++ (body_text first.reply.body ++ 10 ∷ back) ≡ status_name second.reply.status ++ (body_text second.reply.body ++ 10 ∷ rest)
@@ -103,9 +107,6 @@ same_status first second back rest alike =
       sym (status_name-tells first.reply.status) ∙ ap (λ (name : List ℕ). pointwise nat_eq name (codes "NO_MEMORY")) words.0 ∙ status_name-tells second.reply.status,
       tail_of lines.1,
     )
-  where
-    tail_of : 10 ∷ back ≡ 10 ∷ rest → back ≡ rest
-    tail_of alike = cc
 
 same_line : (clients : List Client) (first second : EndOf) (back rest : List ℕ) → AreNamed clients → IsOurs clients first → IsOurs clients second
     → end_line clients first.client first.number first.reply ++ back ≡ end_line clients second.client second.number second.reply ++ rest → SameLine first second back rest
@@ -120,9 +121,6 @@ same_line clients first second back rest named ours also alike =
       status = status.0;
       after = status.1;
     }
-  where
-    tail_of : {front other : List ℕ} → 32 ∷ front ≡ 32 ∷ other → front ≡ other
-    tail_of alike = cc
 
 -- ---- the lines of a turn, and what follows them
 
@@ -146,9 +144,6 @@ follows_apart clients end back rest named (inr last) alike =
     let numbers = same_word ends_word (decimal end.number) (decimal last.0) 32 10 _ _ (Free-decimal end.number) (Free-decimal last.0) refl refl (tail_of names.1) in
     apart numbers.1
   where
-    tail_of : {front other : List ℕ} → 32 ∷ front ≡ 32 ∷ other → front ≡ other
-    tail_of alike = cc
-
     apart : {front other : List ℕ} → 32 ∷ front ≡ 10 ∷ other → ⊥
     apart alike = cc
 

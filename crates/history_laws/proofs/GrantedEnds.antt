@@ -41,7 +41,7 @@ use Rattle.history_laws.proofs.CallsApart.{next-apart}
 use Rattle.history_laws.proofs.EndsByBreaks.{StaysOrEnds, TriesSo, differs, ends-more, other-ends, so-oplock, stays-by}
 use Rattle.history_laws.proofs.HeldTries.{TriesKeep, keep-ack, keep-cancel, keep-close, keep-leave, keep-unlock}
 use Rattle.history_laws.proofs.OwnGrants.{asks-fails, unasked}
-use Rattle.history_laws.proofs.TriesByBreaks.{changes_otherwise, what-by_breaks}
+use Rattle.history_laws.proofs.TriesByBreaks.{changes_otherwise, held-by_breaks, what-by_breaks}
 use Rattle.history_laws.proofs.TurnByTurn.{differ-before, own-takes_up}
 use Rattle.history_laws.proofs.UnreadyStay.{stalled-stays}
 
@@ -131,17 +131,6 @@ module _ (v : Volume) (call : Call) (client number : ℕ) where
 -- what is ready unheld asks for no oplock, and answers no break
 free-asks_none : (v : Volume) (client number : ℕ) (what : What) → has_come v client number what ≡ true → is_some (handle_granted what) ≡ false
 free-asks_none v client number what come = unasked (has_come v client number) (λ handle level. refl) (λ handle level. refl) what come
-
--- what can be held changes nothing but by breaks
-held-by_breaks : (what : What) → may_be_held what ≡ true → changes_otherwise what ≡ false
-held-by_breaks (Ask (OplockRequest handle level)) can = absurd (let impossible : false ≡ true = can in cc)
-held-by_breaks (Ask (Ack handle level)) can = absurd (let impossible : false ≡ true = can in cc)
-held-by_breaks (Ask (Unlock handle at count)) can = absurd (let impossible : false ≡ true = can in cc)
-held-by_breaks (Ask (Close handle)) can = absurd (let impossible : false ≡ true = can in cc)
-held-by_breaks (Ask (Cancel number)) can = absurd (let impossible : false ≡ true = can in cc)
-held-by_breaks (Ask _) can = refl
-held-by_breaks Leave can = absurd (let impossible : false ≡ true = can in cc)
-held-by_breaks _ can = refl
 
 module _ (client number : ℕ) where
   abbrev asking : ℕ × Pending → Bool

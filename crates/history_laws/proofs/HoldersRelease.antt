@@ -38,7 +38,7 @@ use Rattle.fsa_model.proofs.CoherenceLaws.{any-in_order}
 use Rattle.fsa_model.proofs.CountLaws.{and_left, and_right, only-one}
 use Rattle.fsa_model.proofs.EngineLaws.{new-before, run-before, run-released}
 use Rattle.fsa_model.proofs.OnceLaws.{SameBlockers, blockers-calls_ended}
-use Rattle.fsa_model.proofs.RowLaws.{any-map, any-same, any-weaker, find-any, find-none, option_cases}
+use Rattle.fsa_model.proofs.RowLaws.{any-map, any-same, any-weaker, find-any, find-none, option_cases, eqb-swap}
 use Rattle.fsa_model.proofs.ReportLaws.{repeated-keeps}
 use Rattle.fsa_model.proofs.SettleLaws.{IsNext, next-may_be_held, repeated-none, taken_up_all-done, try-tries}
 use Rattle.fsa_model.proofs.TryLaws.{Leaves, Tries, TriesTo}
@@ -55,15 +55,6 @@ use Rattle.history_laws.proofs.TurnByTurn.{differ-before, differ-front, own-may,
 
 no_both : {b : Bool} → b ≡ true → b ≡ false → ⊥
 no_both is isnt = cc
-
-swapped : (a b : ℕ) → (a == b) ≡ (b == a)
-swapped a b = elim (cases_Bool (a == b)) [
-  | inl is ↦ (let same : b ≡ a = sym (eqb-true a b is) in is ∙ sym (eq-eqb b a same))
-  | inr isnt ↦ elim (cases_Bool (b == a)) [
-    | inr differs ↦ isnt ∙ sym differs
-    | inl is ↦ absurd (let here : (a == b) ≡ true = eq-eqb a b (sym (eqb-true b a is)) in let impossible : true ≡ false = sym here ∙ isnt in cc)
-  ]
-]
 
 any-fixed : {X : Type 0} (p : X → Bool) (c : Bool) (xs : List X) → list_any (λ x. p x && c) xs ≡ (list_any p xs && c)
 any-fixed p c [] = refl
@@ -82,7 +73,7 @@ without-number p number n gone xs numbered =
     any-filter_and p (λ x. not (number x == gone)) xs
     ∙ any-same (λ x. p x && not (number x == gone)) (λ x. p x && not (gone == n)) xs (λ x. elim (cases_Bool (p x)) [
       | inr fails ↦ rw fails refl
-      | inl passes ↦ (let same : number x ≡ n = eqb-true (number x) n (numbered x passes) in rw same (rw (swapped n gone) refl))
+      | inl passes ↦ (let same : number x ≡ n = eqb-true (number x) n (numbered x passes) in rw same (rw (eqb-swap n gone) refl))
     ])
     ∙ any-fixed p (not (gone == n)) xs
 
@@ -138,7 +129,7 @@ keeping-break v own level turn n id = elim (cases_Bool (has_read level)) [
       | inl here ↦ (let same : o.handle ≡ own = eqb-true o.handle own here in rw here (rw same (neither (is_breaking n o) (own == id))))
       | inr other ↦ rw other (elim (cases_Bool (o.handle == id)) [
         | inr differs ↦ rw differs (gone (is_breaking n o) (not (own == id)))
-        | inl of_it ↦ (let same : o.handle ≡ id = eqb-true o.handle id of_it in let apart : (own == id) ≡ false = swapped own id ∙ (rw same at other) in rw (of_it, apart) (and_true (is_breaking n o && true)))
+        | inl of_it ↦ (let same : o.handle ≡ id = eqb-true o.handle id of_it in let apart : (own == id) ≡ false = eqb-swap own id ∙ (rw same at other) in rw (of_it, apart) (and_true (is_breaking n o && true)))
       ])
     ]
       where

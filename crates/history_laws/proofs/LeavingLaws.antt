@@ -234,7 +234,7 @@ frame_of call v (Stay w interim) framed = framed.0
 frame_of call v (Hold w blockers interim) framed = framed.0
 
 -- once the call has ended or is pending
-answered_left : (call : Call) (turn : ℕ) (outcome : Outcome) → (answered call turn outcome).left ≡ (volume_after outcome).left
+pub answered_left : (call : Call) (turn : ℕ) (outcome : Outcome) → (answered call turn outcome).left ≡ (volume_after outcome).left
 answered_left call turn (Done w reply) = refl
 answered_left call turn (Stay w interim) = refl
 answered_left call turn (Hold w blockers interim) = refl
@@ -349,10 +349,6 @@ left_before v call turn client points gone =
 leave_isnt_wait : (what : What) → is_leave what ≡ true → is_wait what ≡ false
 leave_isnt_wait Leave is = refl
 leave_isnt_wait _ is = cc
-
-and_false : (b c : Bool) → c ≡ false → (b && c) ≡ false
-and_false true c is = is
-and_false false c is = refl
 
 -- after the try of its own call
 own-served : (v : Volume) (call : Call) (turn : ℕ) → HasOneOplockEach v → what_fits call.what ≡ true → IsServed v → IsServed (answered call turn (try v call turn))

@@ -2,8 +2,10 @@ pub mod AllByCalls
 pub mod AllByOpens
 pub mod AllOfSets
 pub mod AnyLaws
+pub mod AsAsked
 pub mod AsToldBreaks
 pub mod AsToldCalls
+pub mod AsTried
 pub mod AskedGrants
 pub mod BackedBreaks
 pub mod BackedCloses
@@ -17,7 +19,9 @@ pub mod CausesOfBreaks
 pub mod CausesOfCalls
 pub mod CursorLaws
 pub mod EndLines
+pub mod EndsAsFound
 pub mod EndsByBreaks
+pub mod FaultStatuses
 pub mod GrantedCalls
 pub mod GrantedEnds
 pub mod HeldTries
@@ -36,6 +40,11 @@ pub mod OwnGrants
 pub mod OwnReplies
 pub mod PendingNames
 pub mod PendingStay
+pub mod Pends
+pub mod PendsByOpens
+pub mod PendsByRenames
+pub mod PendsOnStreams
+pub mod PendsOtherwise
 pub mod PlaceLaws
 pub mod PlainOplocks
 pub mod PlainText
@@ -66,3 +75,5 @@ pub mod WaitRuns
 pub mod WaitedFor
 pub mod WaitsByCalls
 pub mod WholeLaws
+pub mod WhyPending
+pub mod WithoutOplocks

@@ -2,7 +2,7 @@
 use Rattle.std.proofs.Common.{◌≡◌, ℕ, ◌+◌, ◌<◌, ◌≤◌, zero, suc, List, [], ◌∷◌, ◌++◌, length, map, take, Bool, true, false, not, Some, None, refl, ap, sym, subst, ◌∙◌, arith, eq-eqb, inl, inr}
 use Rattle.std.specs.Prelude.{◌==◌, ◌&&◌, ◌||◌, find, slice_get}
 use Rattle.std.specs.List.{list_any, list_all, enumerate_from}
-use Rattle.std.proofs.lemmas.Bool.{cases_Bool, eqb-true}
+use Rattle.std.proofs.lemmas.Bool.{cases_Bool, eqb-true, not-false}
 use Rattle.std.proofs.lemmas.List.{length-map}
 use Rattle.std.proofs.lemmas.List.Elements.{All-nil, All-push}
 use Rattle.std.proofs.lemmas.Option.{get_or_from_slice_get, slice_get-get_or, slice_get_within}
@@ -23,10 +23,11 @@ use Rattle.fsa_model.proofs.CountLaws.{and_left, and_right, none-how_many}
 use Rattle.fsa_model.proofs.EngineLaws.{Scheduled-differ}
 use Rattle.fsa_model.proofs.OnceHistory.{MayTurn-fresh}
 use Rattle.fsa_model.proofs.OnceLaws.{is_same-refl}
-use Rattle.fsa_model.proofs.RowLaws.{option_cases}
+use Rattle.fsa_model.proofs.RowLaws.{option_cases, or_right}
 use Rattle.fsa_model.proofs.SettleLaws.{some_equal}
 use Rattle.fsa_model.proofs.TurnLaws.{MayTurn, Turns, turn-turns}
 use Rattle.fsa_model.proofs.WaitEnds.{run-goes_on}
+use Rattle.fsa_model.proofs.WaitLaws.{or_none}
 use Rattle.history_laws.proofs.LeavingLaws.{IsServed, TurnsLeft, turn-left}
 use Rattle.history_laws.proofs.PlaceLaws.{is_same-at}
 
@@ -158,7 +159,7 @@ made_leaves : (calls : List Call) (history : List HistoryEntry) (place : ℕ) (c
     → is_made history call ≡ true → leaves call.client history ≡ true
 made_leaves calls [] place call numbered among at leaving made = absurd (cc)
 made_leaves calls (entry ∷ history) place call numbered among at leaving made = elim (cases_Bool (is_same_call entry.call call)) [
-  | inr other ↦ (let rest = made_leaves calls history place call numbered among.1 at leaving (rw other at made) in or_true (entry.call.client == call.client && is_leave entry.call.what) (leaves call.client history) rest)
+  | inr other ↦ (let rest = made_leaves calls history place call numbered among.1 at leaving (rw other at made) in or_right (entry.call.client == call.client && is_leave entry.call.what) (leaves call.client history) rest)
   | inl is ↦ (let here : among.0.0 ≡ place = is_same-at calls among.0.0 place entry.call call numbered among.0.1 at is in
       let one : Some call ≡ Some entry.call = sym at ∙ ap (slice_get calls) (sym here) ∙ among.0.1 in
       let same : call ≡ entry.call = cc in
@@ -166,10 +167,6 @@ made_leaves calls (entry ∷ history) place call numbered among at leaving made 
       = subst (λ (c : Call). (c.client == call.client && is_leave c.what) ≡ true) same (rw (eq-eqb call.client call.client refl, leaving) refl) in
       rw both refl)
 ]
-  where
-    or_true : (b c : Bool) → c ≡ true → (b || c) ≡ true
-    or_true true c is = refl
-    or_true false c is = is
 
 -- ---- some call is next
 
@@ -195,17 +192,9 @@ none_enumerated test [] first none i x at = absurd (cc)
 none_enumerated {X} test (one ∷ xs) first none zero x at =
     let same : one ≡ x = cc in
     subst (λ (n : ℕ). test (n, x) ≡ false) (let e : first ≡ first + 0 = omega arith in e) (ap (λ (y : X). test (first, y)) (sym same) ∙ (or_none (test (first, one)) (list_any test (enumerate_from (first + 1) xs)) none).0)
-  where
-    or_none : (b c : Bool) → (b || c) ≡ false → (b ≡ false) × (c ≡ false)
-    or_none true c is = (is, cc)
-    or_none false c is = (refl, is)
 none_enumerated {X} test (one ∷ xs) first none (suc i) x at =
     subst (λ (n : ℕ). test (n, x) ≡ false) (let e : first + 1 + i ≡ first + suc i = omega arith in e)
     (none_enumerated test xs (first + 1) (or_none (test (first, one)) (list_any test (enumerate_from (first + 1) xs)) none).1 i x at)
-  where
-    or_none : (b c : Bool) → (b || c) ≡ false → (b ≡ false) × (c ≡ false)
-    or_none true c is = (is, cc)
-    or_none false c is = (refl, is)
 
 all_at : {X : Type 0} (test : X → Bool) (xs : List X) → ((place : ℕ) (x : X) → slice_get xs place ≡ Some x → test x ≡ true) → list_all test xs ≡ true
 all_at test [] each = refl
@@ -249,7 +238,7 @@ none_next-all script history r numbered fit scheduled runs none =
     gone_all client inside =
         let at : slice_get r.volume.left client ≡ Some (has_left r.volume client) = slice_get-get_or r.volume.left client false (omega (arith, long, inside)) in
         let fails : not (has_left r.volume client) ≡ false = none_enumerated (λ (c : ℕ × Bool). not c.1) r.volume.left 0 none_stays client (has_left r.volume client) at in
-        not_not (has_left r.volume client) fails
+        not-false (has_left r.volume client) fails
       where
         each : (i : ℕ) (x : Bool) → slice_get r.volume.left i ≡ Some x → (x || waits r.volume (0 + i)) ≡ true
         each i x at =
@@ -257,13 +246,9 @@ none_next-all script history r numbered fit scheduled runs none =
             let within : i < length r.volume.left = slice_get_within r.volume.left i x at in
             subst (λ (n : ℕ). (x || waits r.volume n) ≡ true) (let e : i ≡ 0 + i = omega arith in e)
             (elim (cases_Bool (waits r.volume i)) [
-              | inl waiting ↦ rw waiting (or_true x)
+              | inl waiting ↦ rw waiting (or_right x true refl)
               | inr free ↦ (let true_is : x ≡ true = sym is ∙ gone i (omega (arith, long, within)) free in rw true_is refl)
             ])
-          where
-            or_true : (b : Bool) → (b || true) ≡ true
-            or_true true = refl
-            or_true false = refl
 
         none_stays : list_any (λ (c : ℕ × Bool). not c.1) (enumerate_from 0 r.volume.left) ≡ false
         none_stays = (
@@ -274,10 +259,6 @@ none_next-all script history r numbered fit scheduled runs none =
             of : (b c : Bool) → c ≡ true → (b && c) ≡ false → b ≡ false
             of true c all goes = sym all ∙ goes
             of false c all goes = refl
-
-        not_not : (b : Bool) → not b ≡ false → b ≡ true
-        not_not true fails = refl
-        not_not false fails = cc
 
     quiet : (client : ℕ) → has_left r.volume client ≡ true → waits r.volume client ≡ false
     quiet client has_gone = none-how_many (λ (e : ℕ × Pending). e.1.call.client == client && is_wait e.1.call.what) r.volume.pending (left.served.quiet client has_gone)

@@ -31,13 +31,15 @@ use Rattle.fsa_model.specs.Rename.{rename_at, rename_below_closed, rename_by, re
 use Rattle.fsa_model.specs.Replacement.{Naming, replace_fault}
 use Rattle.fsa_model.specs.SetDisposition.{delete_by, delete_marked, set_disposition_at, set_disposition_by, try_set_disposition}
 use Rattle.fsa_model.specs.SetEnd.{set_end_at, set_end_by, set_end_grown, set_end_stream, set_end_to, try_set_end}
+use Rattle.fsa_model.specs.Settling.{may_be_held}
 use Rattle.fsa_model.specs.Try.{try_what}
 use Rattle.fsa_model.specs.Turn.{volume_after}
 use Rattle.fsa_model.specs.Volume.{Handle, Volume}
 use Rattle.fsa_model.specs.Walk.{Walked, Reached, Barred, Diverted}
 use Rattle.fsa_model.specs.Write.{try_write, write_at, write_at_place, write_by, write_bytes, write_grown, write_range, write_stream, write_unlocked}
 use Rattle.history_laws.specs.OplockChanges.{MayBreak, acts_on_directory, changes_own, may_end_behind_breaks}
-use Rattle.history_laws.proofs.SetsBroken.{BreaksSetsBy, breaks_some, may-some, with_sets_broken}
+use Rattle.history_laws.proofs.FaultStatuses.{Gives, giving}
+use Rattle.history_laws.proofs.SetsBroken.{BreaksSetsBy, may-some, with_sets_broken}
 use Rattle.history_laws.proofs.SetsByCalls.{rest-breaks}
 use Rattle.history_laws.proofs.SetsByOpens.{opens_so}
 
@@ -47,20 +49,6 @@ use Rattle.history_laws.proofs.SetsByOpens.{opens_so}
 -- oplocks are as they were
 record Early (directory : Bool) (what : What) (v : Volume) (outcome : Outcome) : Type 0 where
   so : Where (λ reply. not (may_end_behind_breaks directory what reply.status)) (λ (next : Volume). next.oplocks ≡ v.oplocks) outcome
-
--- a fault, where there is one, is a status that is listed
-record Lists (directory : Bool) (what : What) (fault : Option Status) : Type 0 where
-  so : option_map_or (may_end_behind_breaks directory what) fault true ≡ true
-
-lists-none : {directory : Bool} {what : What} → Lists directory what None
-lists-none = record { so = refl }
-
-lists-some : {directory : Bool} {what : What} {status : Status} → may_end_behind_breaks directory what status ≡ true → Lists directory what (Some status)
-lists-some is = record { so = is }
-
-lists-if : {directory : Bool} {what : What} (test : Bool) (one other : Option Status) → Lists directory what one → Lists directory what other → Lists directory what (if test then one else other)
-lists-if true one other holds fails = holds
-lists-if false one other holds fails = fails
 
 module _ {directory : Bool} {what : What} {v : Volume} where
   early-same : {reply : Reply} → Early directory what v (Done v reply)
@@ -87,15 +75,15 @@ module _ {directory : Bool} {what : What} {v : Volume} where
   early-stays (Hold w blockers interim) stays = record { so = tt }
 
   -- refused with a status that is listed, or on
-  early-fault : (w : Volume) (fault : Option Status) (other : Outcome) → Lists directory what fault → Early directory what v other → Early directory what v (option_map_or (λ status. refused w status) fault other)
-  early-fault w None other lists goes = goes
-  early-fault w (Some status) other lists goes = early-listed lists.so
+  early-fault : (w : Volume) (fault : Option Status) (other : Outcome) → Gives (may_end_behind_breaks directory what) fault → Early directory what v other → Early directory what v (option_map_or (λ status. refused w status) fault other)
+  early-fault w None other gives goes = goes
+  early-fault w (Some status) other gives goes = early-listed gives.so
 
 ruleset going = (early-if, early-option, early-same, early-held, early-listed, refl)
 
 -- why a stream can't grow
-lists-grown : {directory : Bool} {what : What} (w : Volume) (stream bytes : ℕ) → may_end_behind_breaks directory what QuotaExceeded ≡ true → may_end_behind_breaks directory what DiskFull ≡ true → Lists directory what (growth_fault w stream bytes)
-lists-grown w stream bytes quota full = search (lists-if, lists-none, lists-some, quota, full)
+growth-such : {such : Status → Bool} (w : Volume) (stream bytes : ℕ) → such QuotaExceeded ≡ true → such DiskFull ≡ true → Gives such (growth_fault w stream bytes)
+growth-such w stream bytes quota full = search (giving, quota, full)
 
 -- ---- reads, writes, new lengths, locks and marks for deletion
 
@@ -105,11 +93,11 @@ read v client number at count = search going depth 60 fits 4000
 
 write : {directory : Bool} (v : Volume) (client number : ℕ) (at : Option ℕ) (bytes : List ℕ) → Early directory (Ask (request.Write number at bytes)) v (try_write v client number at bytes)
 unfolding try_write write_at write_by write_stream write_at_place write_range write_unlocked write_grown write_bytes
-write v client number at bytes = search (early-fault, lists-grown, going) depth 60 fits 4000
+write v client number at bytes = search (early-fault, growth-such, going) depth 60 fits 4000
 
 set_end : {directory : Bool} (v : Volume) (client number end : ℕ) → Early directory (Ask (request.SetEnd number end)) v (try_set_end v client number end)
 unfolding try_set_end set_end_at set_end_by set_end_stream set_end_to set_end_grown
-set_end v client number end = search (early-fault, lists-grown, going) depth 60 fits 4000
+set_end v client number end = search (early-fault, growth-such, going) depth 60 fits 4000
 
 lock : {directory : Bool} (v : Volume) (client number at count : ℕ) (exclusive wait : Bool) → Early directory (Ask (request.Lock number at count exclusive wait)) v (try_lock v client number at count exclusive wait)
 unfolding try_lock lock_at lock_by lock_stream lock_range lock_free
@@ -142,12 +130,12 @@ link v client number path replace = search (going, link_walks) depth 60 fits 400
 -- ---- new names, of a file and of a directory
 
 -- behind the breaks below a directory, the lookup of its new name ends with listed statuses alone
-lists-replace : (number : ℕ) (path : List ℕ) (replace : Bool) (w : Volume) (naming : Naming) (link : ℕ) → Lists true (Ask (request.Rename number path replace)) (replace_fault w naming link)
-lists-replace number path replace w naming link = search (lists-if, lists-none, lists-some) depth 20
+replace-listed : (number : ℕ) (path : List ℕ) (replace : Bool) (w : Volume) (naming : Naming) (link : ℕ) → Gives (may_end_behind_breaks true (Ask (request.Rename number path replace))) (replace_fault w naming link)
+replace-listed number path replace w naming link = search giving depth 20
 
 directory_goes : (v : Volume) (number : ℕ) (path : List ℕ) (replace : Bool) (naming : Naming) (dir : ℕ) → Early true (Ask (request.Rename number path replace)) v (rename_directory v naming dir)
 unfolding rename_directory rename_below_closed rename_named rename_over rename_over_broken rename_over_closed rename_free rename_done
-directory_goes v number path replace naming dir = search (early-fault, lists-replace, going) depth 60 fits 4000
+directory_goes v number path replace naming dir = search (early-fault, replace-listed, going) depth 60 fits 4000
 
 -- a file's is looked up before any break
 file_goes : {directory : Bool} (v : Volume) (number : ℕ) (path : List ℕ) (replace : Bool) (naming : Naming) (dir : ℕ) → Early directory (Ask (request.Rename number path replace)) v (rename_named v naming dir)
@@ -213,7 +201,7 @@ create v asked = search (going, open_walks) depth 60 fits 4000
 -- ---- what breaks nothing
 
 -- where it may break no set, it breaks none
-none-stay : (v : Volume) (call : Call) (outcome : Outcome) → breaks_some call.what ≡ false → BreaksSetsBy v call outcome → (volume_after outcome).oplocks ≡ v.oplocks
+none-stay : (v : Volume) (call : Call) (outcome : Outcome) → may_be_held call.what ≡ false → BreaksSetsBy v call outcome → (volume_after outcome).oplocks ≡ v.oplocks
 none-stay v call outcome none breaks = go breaks.sets breaks.may breaks.oplocks
   where
     go : (sets : List HandleSet) → All (λ on. MayBreak v call breaks.class on) sets
@@ -221,14 +209,14 @@ none-stay v call outcome none breaks = go breaks.sets breaks.may breaks.oplocks
     go [] may same = same
     go (on ∷ sets) may same = (let some = may-some v call breaks.class on (All-head (λ on. MayBreak v call breaks.class on) on sets may) in let impossible = rw none at some in cc)
 
-quiet : {directory : Bool} (v : Volume) (client number turn : ℕ) (what : What) → breaks_some what ≡ false → changes_own what ≡ false → asks_create what ≡ false → Early directory what v (try_what v turn client number what)
+quiet : {directory : Bool} (v : Volume) (client number turn : ℕ) (what : What) → may_be_held what ≡ false → changes_own what ≡ false → asks_create what ≡ false → Early directory what v (try_what v turn client number what)
 quiet v client number turn what none others opens =
     let call : Call = record { client = client; number = number; what = what } in
     early-stays (try_what v turn client number what) (none-stay v call (try_what v turn client number what) none (rest-breaks v call turn what refl others opens))
 
 -- ---- any call but a few
 
-some-before : (v : Volume) (call : Call) (turn : ℕ) (what : What) → call.what ≡ what → breaks_some what ≡ true → Early (acts_on_directory v call) what v (try_what v turn call.client call.number what)
+some-before : (v : Volume) (call : Call) (turn : ℕ) (what : What) → call.what ≡ what → may_be_held what ≡ true → Early (acts_on_directory v call) what v (try_what v turn call.client call.number what)
 some-before v call turn (Ask (request.Create path wanted share disposition options attributes key)) is some = create v _
 some-before v call turn (Ask (request.Read handle at count)) is some = read v call.client handle at count
 some-before v call turn (Ask (request.Write handle at bytes)) is some = write v call.client handle at bytes
@@ -239,14 +227,14 @@ some-before v call turn (Ask (request.Rename handle path replace)) is some = ren
 some-before v call turn (Ask (request.Link handle path replace)) is some = link v call.client handle path replace
 some-before v call turn _ is some = cc
 
-none-otherwise : {directory : Bool} (v : Volume) (turn client number : ℕ) (what : What) → breaks_some what ≡ false → changes_own what ≡ false → Early directory what v (try_what v turn client number what)
+none-otherwise : {directory : Bool} (v : Volume) (turn client number : ℕ) (what : What) → may_be_held what ≡ false → changes_own what ≡ false → Early directory what v (try_what v turn client number what)
 none-otherwise v turn client number (Ask (request.Create path wanted share disposition options attributes key)) none others = cc
 none-otherwise v turn client number _ none others = quiet v client number turn _ none others refl
 
 -- a call that ends with a status that isn't listed has left oplocks as they were
 pub none-before : (v : Volume) (call : Call) (turn : ℕ) (what : What) → call.what ≡ what → changes_own what ≡ false
     → Where (λ reply. not (may_end_behind_breaks (acts_on_directory v call) what reply.status)) (λ (next : Volume). next.oplocks ≡ v.oplocks) (try_what v turn call.client call.number what)
-none-before v call turn what is others = elim (cases_Bool (breaks_some what)) [
+none-before v call turn what is others = elim (cases_Bool (may_be_held what)) [
   | inl some ↦ (some-before v call turn what is some).so
   | inr none ↦ (none-otherwise v turn call.client call.number what none others).so
 ]

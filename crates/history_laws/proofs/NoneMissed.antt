@@ -1,7 +1,7 @@
 -- After each turn of a run nothing has come that a pending wait or Notify waits for.
-use Rattle.std.proofs.Common.{◌≡◌, ℕ, Bool, true, false, List, refl, subst, arith, inl, inr, ◌⊎◌, None}
+use Rattle.std.proofs.Common.{◌≡◌, ℕ, true, false, List, refl, subst, arith, inl, inr, ◌⊎◌, None}
 use Rattle.std.specs.Prelude.{◌||◌}
-use Rattle.std.proofs.lemmas.Bool.{cases_Bool}
+use Rattle.std.proofs.lemmas.Bool.{cases_Bool, or_cases}
 use Rattle.fsa_types.specs.declared.request.Request.TheVariants.{Notify}
 use Rattle.fsa_types.specs.declared.request.What.{What}
 use Rattle.fsa_types.specs.declared.request.What.TheVariants.{Ask, WaitFor}
@@ -17,10 +17,6 @@ use Rattle.fsa_model.proofs.RowLaws.{or_right}
 use Rattle.fsa_model.proofs.SettleLaws.{is_unreported, lacks_report, none-ready, none-unreported}
 use Rattle.history_laws.specs.Awaited.{NothingHasCome, NothingIsMissed, has_come_to}
 use Rattle.history_laws.proofs.TurnByTurn.{differ-front}
-
-or_cases : (b c : Bool) → (b || c) ≡ true → (b ≡ true) ⊎ (c ≡ true)
-or_cases true c is = inl refl
-or_cases false c is = inr is
 
 -- a wait to which its end has come is over; a Notify lacks its report
 come-cases : (v : Volume) (client number : ℕ) (what : What) → has_come_to v client what ≡ true → ((has_come v client number what ≡ true) × (may_be_held what ≡ false)) ⊎ (lacks_report v client what ≡ true)

@@ -5,7 +5,7 @@
 use Rattle.std.proofs.Common.{◌≡◌, ℕ, ◌≤◌, Bool, true, false, not, List, [], ◌∷◌, ◌++◌, length, refl, subst, sym, ◌∙◌, arith, eq-eqb, inl, inr, Some}
 use Rattle.std.specs.List.{list_any}
 use Rattle.std.specs.Prelude.{◌==◌, ◌&&◌, if◌then◌else◌}
-use Rattle.std.proofs.lemmas.Bool.{cases_Bool, not-true}
+use Rattle.std.proofs.lemmas.Bool.{cases_Bool, not-true, not-false}
 use Rattle.fsa_types.specs.declared.reply.Blocker.{Blocker}
 use Rattle.fsa_types.specs.declared.reply.Blocker.TheVariants as blocker
 use Rattle.fsa_types.specs.declared.request.Call.{Call}
@@ -57,6 +57,10 @@ stays-answered p v call (Hold w blockers interim) tried new some = any-push p w.
 
 -- ---- a settlement that begins with this volume
 
+regrouped : (a b c : Bool) → ((a && b) && c) ≡ true → (a && (b && c)) ≡ true
+regrouped true b c all = all
+regrouped false b c all = all
+
 module _ (own : Volume) where
   -- what is held by a break or a lock that lived at its beginning, and passes
   abbrev blocked_if : (ℕ × Pending → Bool) → ℕ × Pending → Bool
@@ -77,65 +81,42 @@ module _ (own : Volume) where
         rw (held, none) refl)
   ]
 
-  -- a held call that is taken up is tried
+  -- a held call that is taken up is tried: what passes stays, and what passes and is such
+  go_on : (test : ℕ × Pending → Bool) (w v : Volume) → Leaves w v → IsOnce w → GrantsNoneHeld w → list_any (blocked_if test) w.pending ≡ true → list_any (blocked_if test) v.pending ≡ true
+  go_on test w v leaves once none_held some =
+      let there = how_many-some (blocked_if test) w.pending some in
+      let same = leaves.held once none_held (λ e. is_blocked (blocker_lives own) e.1 && test e) in some-how_many (blocked_if test) v.pending (omega arith)
+
+  no_more : (test such : ℕ × Pending → Bool) (w v : Volume) → Leaves w v → IsOnce w → GrantsNoneHeld w → list_any (λ e. blocked_if test e && such e) w.pending ≡ false
+      → list_any (λ e. blocked_if test e && such e) v.pending ≡ false
+  no_more test such w v leaves once none_held none =
+      let q : ℕ × Pending → Bool = λ e. (is_blocked (blocker_lives own) e.1 && test e) && such e in
+      let before = how_many-none (λ e. is_held e.1 && q e) w.pending (none-stronger (λ e. blocked_if test e && such e) (λ e. is_held e.1 && q e) w.pending
+      (λ e both. grouped (is_held e.1) (is_blocked (blocker_lives own) e.1 && test e) (such e) both) none) in
+      let same = leaves.held once none_held q in
+      none-stronger (λ e. is_held e.1 && q e) (λ e. blocked_if test e && such e) v.pending (λ e both. regrouped (is_held e.1) (is_blocked (blocker_lives own) e.1 && test e) (such e) both)
+      (none-how_many (λ e. is_held e.1 && q e) v.pending (omega arith))
+    where
+      grouped : (a b c : Bool) → (a && (b && c)) ≡ true → ((a && b) && c) ≡ true
+      grouped true b c both = both
+      grouped false b c both = both
+
   stays-tried : (test : ℕ × Pending → Bool) (w : Volume) (entry : ℕ × Pending) (outcome : Outcome) → TriesTo Leaves w outcome → IsOnce w → GrantsNoneHeld w
       → list_any (λ e. blocked_if test e && is_call_of entry.1.call.client entry.1.call.number e) w.pending ≡ false → list_any (λ e. blocked_if test e && is_under entry.0 e) w.pending ≡ false
       → list_any (blocked_if test) w.pending ≡ true → list_any (blocked_if test) (with_tried entry.0 entry.1 outcome).pending ≡ true
   stays-tried test w entry (Done v reply) tries once none_held calls turns some =
-      ends-stay (blocked_if test) v entry.1.call.client entry.1.call.number reply (no_more calls) (goes_on some)
-    where
-      leaves : Leaves w v
-      leaves = tries.0
-
-      goes_on : list_any (blocked_if test) w.pending ≡ true → list_any (blocked_if test) v.pending ≡ true
-      goes_on some = (let there = how_many-some (blocked_if test) w.pending some in let same = leaves.held once none_held (λ e. is_blocked (blocker_lives own) e.1 && test e) in some-how_many (blocked_if test) v.pending (omega arith))
-
-      no_more : list_any (λ e. blocked_if test e && is_call_of entry.1.call.client entry.1.call.number e) w.pending ≡ false → list_any (λ e. blocked_if test e && is_call_of entry.1.call.client entry.1.call.number e) v.pending ≡ false
-      no_more none =
-          let q : ℕ × Pending → Bool = λ e. (is_blocked (blocker_lives own) e.1 && test e) && is_call_of entry.1.call.client entry.1.call.number e in
-          let before = how_many-none (λ e. is_held e.1 && q e) w.pending (none-stronger (λ e. blocked_if test e && is_call_of entry.1.call.client entry.1.call.number e) (λ e. is_held e.1 && q e) w.pending (λ e both. grouped (is_held e.1) (is_blocked (blocker_lives own) e.1 && test e) (is_call_of entry.1.call.client entry.1.call.number e) both) none) in
-          let same = leaves.held once none_held q in
-          none-stronger (λ e. is_held e.1 && q e) (λ e. blocked_if test e && is_call_of entry.1.call.client entry.1.call.number e) v.pending (λ e both. ungrouped (is_held e.1) (is_blocked (blocker_lives own) e.1 && test e) (is_call_of entry.1.call.client entry.1.call.number e) both)
-          (none-how_many (λ e. is_held e.1 && q e) v.pending (omega arith))
-        where
-          grouped : (a b c : Bool) → (a && (b && c)) ≡ true → ((a && b) && c) ≡ true
-          grouped true b c both = both
-          grouped false b c both = both
-
-          ungrouped : (a b c : Bool) → ((a && b) && c) ≡ true → (a && (b && c)) ≡ true
-          ungrouped true b c both = both
-          ungrouped false b c both = both
+      ends-stay (blocked_if test) v entry.1.call.client entry.1.call.number reply
+      (no_more test (is_call_of entry.1.call.client entry.1.call.number) w v tries.0 once none_held calls) (go_on test w v tries.0 once none_held some)
   stays-tried test w entry (Stay v interim) tries once none_held calls turns some = absurd tries
   stays-tried test w entry (Hold v blockers interim) tries once none_held calls turns some =
       any-map (blocked_if test) (λ e. if e.0 == entry.0 then (e.0, record e.1 { blockers = blockers }) else e) v.pending
       ∙ any-where (blocked_if test) (λ e. blocked_if test e && is_under entry.0 e) (λ e. blocked_if test (if e.0 == entry.0 then (e.0, record e.1 { blockers = blockers }) else e)) v.pending
-      (λ e passes isnt. (let other : (e.0 == entry.0) ≡ false = left_over (blocked_if test e) (e.0 == entry.0) passes isnt in rw other passes)) (no_more turns) (goes_on some)
+      (λ e passes isnt. (let other : (e.0 == entry.0) ≡ false = left_over (blocked_if test e) (e.0 == entry.0) passes isnt in rw other passes))
+      (no_more test (is_under entry.0) w v tries.0 once none_held turns) (go_on test w v tries.0 once none_held some)
     where
-      leaves : Leaves w v
-      leaves = tries.0
-
       left_over : (a b : Bool) → a ≡ true → (a && b) ≡ false → b ≡ false
       left_over true b is isnt = isnt
       left_over false b is isnt = cc
-
-      goes_on : list_any (blocked_if test) w.pending ≡ true → list_any (blocked_if test) v.pending ≡ true
-      goes_on some = (let there = how_many-some (blocked_if test) w.pending some in let same = leaves.held once none_held (λ e. is_blocked (blocker_lives own) e.1 && test e) in some-how_many (blocked_if test) v.pending (omega arith))
-
-      no_more : list_any (λ e. blocked_if test e && is_under entry.0 e) w.pending ≡ false → list_any (λ e. blocked_if test e && is_under entry.0 e) v.pending ≡ false
-      no_more none =
-          let q : ℕ × Pending → Bool = λ e. (is_blocked (blocker_lives own) e.1 && test e) && is_under entry.0 e in
-          let before = how_many-none (λ e. is_held e.1 && q e) w.pending (none-stronger (λ e. blocked_if test e && is_under entry.0 e) (λ e. is_held e.1 && q e) w.pending (λ e both. grouped (is_held e.1) (is_blocked (blocker_lives own) e.1 && test e) (is_under entry.0 e) both) none) in
-          let same = leaves.held once none_held q in
-          none-stronger (λ e. is_held e.1 && q e) (λ e. blocked_if test e && is_under entry.0 e) v.pending (λ e both. ungrouped (is_held e.1) (is_blocked (blocker_lives own) e.1 && test e) (is_under entry.0 e) both)
-          (none-how_many (λ e. is_held e.1 && q e) v.pending (omega arith))
-        where
-          grouped : (a b c : Bool) → (a && (b && c)) ≡ true → ((a && b) && c) ≡ true
-          grouped true b c both = both
-          grouped false b c both = both
-
-          ungrouped : (a b c : Bool) → ((a && b) && c) ≡ true → (a && (b && c)) ≡ true
-          ungrouped true b c both = both
-          ungrouped false b c both = both
 
   stays-taken_up : (s : Settling) (entry : ℕ × Pending) → MaySettle s.volume → IsOnce s.volume → GrantsNoneHeld s.volume → IsNext s.volume entry → StaysSo s.volume → StaysSo (taken_up s entry).volume
   stays-taken_up s entry may once none_held next so = record {
@@ -192,12 +173,8 @@ module _ (own : Volume) where
       right : (e : ℕ × Pending) (test : ℕ × Pending → Bool) → blocked_if test e ≡ true → is_held_wrongly e ≡ false → (blocked_if test e && not (is_wait e.1.call.what)) ≡ true
       right e test passes rightly =
           let held : is_held e.1 ≡ true = and_left (is_held e.1) (is_blocked (blocker_lives own) e.1 && test e) passes in
-          let may_be : may_be_held e.1.call.what ≡ true = by (may_be_held e.1.call.what) (rw held at rightly) in
+          let may_be : may_be_held e.1.call.what ≡ true = not-false (may_be_held e.1.call.what) (rw held at rightly) in
           rw (passes, held-no_wait e.1.call.what may_be) refl
-        where
-          by : (b : Bool) → not b ≡ false → b ≡ true
-          by true is = refl
-          by false is = cc
 
 -- ---- in each turn of a run
 
@@ -268,10 +245,6 @@ module _ (setup : Setup) (history front later : List HistoryEntry) (entry : Hist
       only_held true true c all = all
       only_held true false c all = cc
       only_held false b c all = all
-
-      regrouped : (a b c : Bool) → ((a && b) && c) ≡ true → (a && (b && c)) ≡ true
-      regrouped true b c all = all
-      regrouped false b c all = all
 
 pub pending-stay : (setup : Setup) (history : List HistoryEntry) → CallsDiffer history → PendingStay setup history
 pending-stay setup history differ front later entry r is runs = turn-keeps_pending setup history front later entry r differ is runs

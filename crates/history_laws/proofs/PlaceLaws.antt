@@ -104,6 +104,16 @@ calls_of-first client (suc place) (call ∷ more) =
     ap (λ n. calls_of client (take n (call ∷ more))) (let e : suc place + first_of client (drop place more) ≡ suc (place + first_of client (drop place more)) = omega arith in e)
     ∙ omega (arith, rest)
 
+-- of two places one comes first, or they are one
+pub by_order : (i p : ℕ) → (i < p) ⊎ ((i ≡ p) ⊎ (p < i))
+by_order zero zero = inr (inl refl)
+by_order zero (suc p) = inl (omega arith)
+by_order (suc i) zero = inr (inr (omega arith))
+by_order (suc i) (suc p) = elim (by_order i p) [
+  | inl less ↦ inl (omega arith)
+  | inr rest ↦ elim rest [ inl same ↦ inr (inl (ap suc same)) | inr more ↦ inr (inr (omega arith)) ]
+]
+
 -- two calls of one client and number stand in one place
 pub one_place : (calls : List Call) (i j : ℕ) (one other : Call) → AreNumbered [] calls → slice_get calls i ≡ Some one → slice_get calls j ≡ Some other
     → one.client ≡ other.client → one.number ≡ other.number → i ≡ j
@@ -111,21 +121,12 @@ one_place calls i j one other numbered at there client number =
     let first : one.number ≡ calls_of one.client (take i calls) + 1 = number_at [] calls i one numbered at in
     let second : other.number ≡ calls_of other.client (take j calls) + 1 = number_at [] calls j other numbered there in
     let counts : calls_of one.client (take j calls) ≡ calls_of other.client (take j calls) = ap (λ (c : ℕ). calls_of c (take j calls)) client in
-    elim (trichotomy i j) [
+    elim (by_order i j) [
       | inl less ↦ (let rise : calls_of one.client (take i calls) + 1 ≤ calls_of one.client (take j calls) = calls_of-rise one.client calls i j one at refl less in absurd (omega arith))
       | inr rest ↦ elim rest [
         | inl same ↦ same
         | inr more ↦ (let rise : calls_of one.client (take j calls) + 1 ≤ calls_of one.client (take i calls) = calls_of-rise one.client calls j i other there (sym client) more in absurd (omega arith))
       ]
-    ]
-  where
-    trichotomy : (i j : ℕ) → (i < j) ⊎ ((i ≡ j) ⊎ (j < i))
-    trichotomy zero zero = inr (inl refl)
-    trichotomy zero (suc j) = inl (omega arith)
-    trichotomy (suc i) zero = inr (inr (omega arith))
-    trichotomy (suc i) (suc j) = elim (trichotomy i j) [
-      | inl less ↦ inl (omega arith)
-      | inr rest ↦ elim rest [ inl same ↦ inr (inl (ap suc same)) | inr more ↦ inr (inr (omega arith)) ]
     ]
 
 -- ---- what was made

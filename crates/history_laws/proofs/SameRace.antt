@@ -24,8 +24,8 @@ use Rattle.fsa_model.proofs.ScriptLaws.{length-filter_calls}
 use Rattle.fsa_model.proofs.SettleLaws.{some_equal}
 use Rattle.history_laws.specs.Named.{IsReadScript}
 use Rattle.history_laws.specs.Races.{Begun, Whole, made_by, own_calls}
-use Rattle.history_laws.proofs.CallsOfRuns.{calls_of-few, counted-ours, some-entry, turned-there}
-use Rattle.history_laws.proofs.EndLines.{AreOurs, FollowsTurn, name-ends_word, same_client, same_starved}
+use Rattle.history_laws.proofs.CallsOfRuns.{calls_of-few, counted-ours, some-entry, turned-there, entry-at}
+use Rattle.history_laws.proofs.EndLines.{AreOurs, FollowsTurn, name-ends_word, same_client, same_starved, tail_of}
 use Rattle.history_laws.proofs.ReadBack.{Free-decimal, ends_word, same_word}
 use Rattle.history_laws.proofs.SameText.{same_entry, text_on, text_on-whole, turn_head, turn_lines}
 use Rattle.history_laws.proofs.SettlePlain.{GivesStarved, turn-starved}
@@ -192,10 +192,6 @@ abbrev GoesOn : Script → Run → List HistoryEntry → Type 0
 GoesOn script r [] = Unit {0}
 GoesOn script r (entry ∷ rest) = (made : Made script r entry) × GoesOn script (with_turn r made.turned) rest
 
-entry_at : (history : List HistoryEntry) (entry : HistoryEntry) (rest : List HistoryEntry) → slice_get (history ++ entry ∷ rest) (length history) ≡ Some entry
-entry_at [] entry rest = refl
-entry_at (first ∷ history) entry rest = entry_at history entry rest
-
 turned-ours : (script : Script) (history : List HistoryEntry) (entry : HistoryEntry) (rest : List HistoryEntry) (r : Run) (t : Turned) → IsReadScript script → run script.setup history ≡ Some r
     → Whole script (history ++ entry ∷ rest) → turn r.volume entry.call entry.starved ≡ Some t → AreOurs script.setup.clients t.out.ended
 turned-ours script history entry rest r t read is whole turns = counted-ours script.setup.clients t.out.ended (λ client number some.
@@ -225,7 +221,7 @@ goes_on script history r [] read is whole = tt
 goes_on script history r (entry ∷ rest) read is whole =
     let there = turned-there script.setup history entry rest r is whole.runs in (
       record {
-        known = known_at script (history ++ entry ∷ rest) (length history) entry read whole (entry_at history entry rest);
+        known = known_at script (history ++ entry ∷ rest) (length history) entry read whole (entry-at history entry rest);
         turned = there.0;
         turns = there.1;
         ours = turned-ours script history entry rest r there.0 read is whole there.1;
@@ -255,9 +251,6 @@ head_tells script one other answer another back rest read known also alike =
     let numbers = same_word ends_word (decimal one.number) (decimal other.number) 32 32 _ _ (Free-decimal one.number) (Free-decimal other.number) refl refl (tail_of names.1) in
     same_call script one other known also (same_client clients one.client other.client read.named known.client also.client names.0) (decimal_injective one.number other.number known.few also.few numbers.0)
   where
-    tail_of : {front more : List ℕ} → 32 ∷ front ≡ 32 ∷ more → front ≡ more
-    tail_of alike = cc
-
     behind : {front more : List ℕ} → 62 ∷ 32 ∷ front ≡ 62 ∷ 32 ∷ more → front ≡ more
     behind alike = cc
 

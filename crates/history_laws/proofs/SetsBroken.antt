@@ -1,5 +1,5 @@
 -- What the parts of the proof give each other on why oplocks change: what a try breaks, and that each change has a cause.
-use Rattle.std.proofs.Common.{◌≡◌, ◌==◌, ◌⊎◌, ℕ, Bool, true, false, refl, List, [], ◌∷◌, Some, None}
+use Rattle.std.proofs.Common.{◌≡◌, ◌==◌, ◌⊎◌, ℕ, true, false, refl, List, [], ◌∷◌, Some, None}
 use Rattle.std.specs.Prelude.{AllPairs}
 use Rattle.fsa_types.specs.declared.oplock.Class.{Class}
 use Rattle.fsa_types.specs.declared.oplock.HandleSet.{HandleSet}
@@ -10,6 +10,7 @@ use Rattle.fsa_types.specs.declared.request.What.TheVariants.{Ask}
 use Rattle.fsa_model.specs.Coherence.{acting_handle, acting_key}
 use Rattle.fsa_model.specs.Grant.{oplock_of}
 use Rattle.fsa_model.specs.Outcome.{Outcome}
+use Rattle.fsa_model.specs.Settling.{may_be_held}
 use Rattle.fsa_model.specs.Turn.{volume_after}
 use Rattle.fsa_model.specs.Volume.{Oplock, Volume}
 pub use Rattle.history_laws.specs.OplockChanges.{with_sets_broken}
@@ -31,26 +32,15 @@ pub record BreaksSet (v : Volume) (call : Call) (class : Class) (on : HandleSet)
   pub is_one : IsOneOf on sets
   pub oplocks : next.oplocks ≡ (with_sets_broken class (acting_handle v call.client call.what) (acting_key v call.client call.what) sets v).oplocks
 
--- the requests that break oplocks, and no other may
-abbrev pub breaks_some : What → Bool
-breaks_some (Ask (request.Create path wanted share disposition options attributes key)) = true
-breaks_some (Ask (request.Read number at count)) = true
-breaks_some (Ask (request.Write number at bytes)) = true
-breaks_some (Ask (request.SetEnd number end)) = true
-breaks_some (Ask (request.Lock number at count exclusive wait)) = true
-breaks_some (Ask (request.SetDisposition number delete)) = true
-breaks_some (Ask (request.Rename number path replace)) = true
-breaks_some (Ask (request.Link number path replace)) = true
-breaks_some _ = false
-
-on_stream-some : (what : What) (number : ℕ) (kind : Class) → breaks_on_stream what ≡ Some (number, kind) → breaks_some what ≡ true
+-- the requests that may be held break oplocks, and no other may
+on_stream-some : (what : What) (number : ℕ) (kind : Class) → breaks_on_stream what ≡ Some (number, kind) → may_be_held what ≡ true
 on_stream-some (Ask (request.Read handle at count)) number kind is = refl
 on_stream-some (Ask (request.Write handle at bytes)) number kind is = refl
 on_stream-some (Ask (request.SetEnd handle end)) number kind is = refl
 on_stream-some (Ask (request.Lock handle at count exclusive wait)) number kind is = refl
 on_stream-some _ number kind is = cc
 
-pub may-some : (v : Volume) (call : Call) (kind : Class) (on : HandleSet) → MayBreak v call kind on → breaks_some call.what ≡ true
+pub may-some : (v : Volume) (call : Call) (kind : Class) (on : HandleSet) → MayBreak v call kind on → may_be_held call.what ≡ true
 may-some v call kind on (Opens path wanted share disposition options attributes key is named classed breaks) = rw is refl
 may-some v call kind on (OnStream number stream is under set_so) = on_stream-some call.what number kind is
 may-some v call kind on (Marks number handle is row classed set_so) = rw is refl

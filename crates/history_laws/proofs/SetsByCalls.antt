@@ -1,14 +1,13 @@
 -- What a try of any call but an open breaks, unless the call changes oplocks otherwise (`changes_own`): the oplocks of sets that
 -- it may break, and of these all, where it ends with a status that comes only behind its breaks, or is held and doesn't rename.
 -- The definitions of each request are followed once for both; what breaks nothing leaves oplocks as they are.
-use Rattle.std.proofs.Common.{◌≡◌, ℕ, ◌+◌, Bool, true, false, not, List, [], ◌∷◌, length, refl, sym, ap, ◌∙◌, inl, inr, Option, Some, None}
+use Rattle.std.proofs.Common.{◌≡◌, ℕ, Bool, true, false, not, List, [], ◌∷◌, length, refl, sym, ap, ◌∙◌, inl, inr, Option, Some, None}
 use Rattle.std.specs.Option.{option_map_or}
 use Rattle.std.specs.Prelude.{⊤, ◌==◌, is_some, All, option_and_then, if◌then◌else◌}
 use Rattle.std.proofs.lemmas.Bool.{cases_Bool, eqb-true}
-use Rattle.std.proofs.lemmas.List.Elements.{All-nil, All-cons, All-head}
-use Rattle.fsa_types.specs.Masks.{DELETE, FILE_ACTION_ADDED, FILE_NOTIFY_CHANGE_FILE_NAME, IO_REPARSE_TAG_SYMLINK}
+use Rattle.std.proofs.lemmas.List.Elements.{All-nil, All-cons}
 use Rattle.fsa_types.specs.Paths.{components}
-use Rattle.fsa_types.specs.Rows.{row_of, without_row}
+use Rattle.fsa_types.specs.Rows.{row_of}
 use Rattle.fsa_types.specs.declared.oplock.Class.{Class}
 use Rattle.fsa_types.specs.declared.oplock.Class.TheVariants.{NameChange, ReadOpen, Change}
 use Rattle.fsa_types.specs.declared.oplock.HandleSet.{HandleSet}
@@ -17,157 +16,45 @@ use Rattle.fsa_types.specs.declared.reply.Blocker.{Blocker}
 use Rattle.fsa_types.specs.declared.reply.Interim.{Interim}
 use Rattle.fsa_types.specs.declared.reply.Reply.{Reply}
 use Rattle.fsa_types.specs.declared.request.Call.{Call}
-use Rattle.fsa_types.specs.declared.request.DaclChange.{DaclChange}
-use Rattle.fsa_types.specs.declared.request.DaclChange.TheVariants.{Keep, Remove, Put}
-use Rattle.fsa_types.specs.declared.request.DirKind.{DirKind}
-use Rattle.fsa_types.specs.declared.request.InfoKind.{InfoKind}
-use Rattle.fsa_types.specs.declared.request.InfoKind.TheVariants.{Basic, Standard, Internal, Tag, Streams}
 use Rattle.fsa_types.specs.declared.request.Request.{Request}
 use Rattle.fsa_types.specs.declared.request.Request.TheVariants as request
 use Rattle.fsa_types.specs.declared.request.What.{What}
 use Rattle.fsa_types.specs.declared.request.What.TheVariants.{Ask, Tick, WaitFor, Leave}
 use Rattle.fsa_types.specs.declared.status.Status.{Status}
-use Rattle.fsa_types.specs.declared.status.Status.TheVariants.{Success, AccessDenied, DeletePending, InvalidHandle, ObjectNameCollision}
+use Rattle.fsa_types.specs.declared.status.Status.TheVariants.{Success, InvalidHandle}
 use Rattle.fsa_model.specs.Breaks.{with_breaks}
-use Rattle.fsa_model.specs.Changes.{with_change_noted}
 use Rattle.fsa_model.specs.Close.{named_stream}
 use Rattle.fsa_model.specs.Coherence.{acting_handle, acting_key, handle_asked, key_brought}
-use Rattle.fsa_model.specs.Edits.{with_cursor, with_limit, with_link, with_link_moved, with_lock, with_owner, with_point, with_watch, without_file_unless_linked, without_link, without_lock}
-use Rattle.fsa_model.specs.Flush.{flush_at, try_flush}
 use Rattle.fsa_model.specs.Frame.{asks_create}
-use Rattle.fsa_model.specs.Link.{link_at, link_by, link_file, link_into, link_over, link_over_broken, link_over_closed, link_over_other, link_walked, try_link, with_link_added, with_linked}
+use Rattle.fsa_model.specs.Link.{link_at, link_by, link_file, link_into, link_over, link_over_broken, link_over_closed, link_over_other, link_walked, try_link}
 use Rattle.fsa_model.specs.Locking.{lock_at, lock_by, lock_free, lock_range, lock_stream, try_lock, try_unlock, unlock_at, unlock_by, unlock_range}
-use Rattle.fsa_model.specs.Lookups.{child_of, handle_of, has_row, is_directory, is_link_marked, linked_file}
-use Rattle.fsa_model.specs.Open.{grants, is_readonly, stop_status, stopped}
+use Rattle.fsa_model.specs.Lookups.{child_of, handle_of, is_directory, linked_file}
+use Rattle.fsa_model.specs.Open.{stopped}
 use Rattle.fsa_model.specs.Outcome.{Outcome, Done, Stay, Hold, refused}
-use Rattle.fsa_model.specs.QueryDir.{list_entries, query_dir_at, query_dir_by, query_dir_in, try_query_dir}
-use Rattle.fsa_model.specs.QueryInfo.{query_file, query_info_at, query_info_by, query_streams, query_streams_by, try_query_info}
-use Rattle.fsa_model.specs.Quota.{try_query_quota, try_set_quota}
 use Rattle.fsa_model.specs.Read.{read_at, read_by, read_bytes, read_range, read_stream, read_unlocked, try_read}
-use Rattle.fsa_model.specs.Rename.{is_elsewhere, naming_by, rename_at, rename_below_closed, rename_by, rename_directory, rename_done, rename_free, rename_into, rename_link, rename_named, rename_over, rename_over_broken, rename_over_closed, rename_walked, replaced_link, try_rename, with_link_renamed, with_move_noted, with_renamed}
-use Rattle.fsa_model.specs.ReparsePoints.{delete_reparse_at, delete_reparse_by, delete_reparse_of, get_point, get_reparse_at, get_reparse_by, get_reparse_of, remove_point, set_buffer, set_point, set_reparse_at, set_reparse_by, try_delete_reparse, try_get_reparse, try_set_reparse, with_point_noted}
-use Rattle.fsa_model.specs.Replacement.{Naming, new_name, replace_fault, with_link_replaced, with_replaced}
-use Rattle.fsa_model.specs.Security.{asks_something, set_security_at, set_security_by, set_security_of, try_set_security, with_change_time, with_dacl_asked, with_owner_asked, with_security}
-use Rattle.fsa_model.specs.SetBasic.{Basics, basic_bits, set_basic_at, set_basic_by, set_basic_of, try_set_basic, with_basics, with_basics_noted}
-use Rattle.fsa_model.specs.SetDisposition.{delete_by, delete_marked, marked_handles, set_disposition_at, set_disposition_by, try_set_disposition, with_mark}
-use Rattle.fsa_model.specs.SetEnd.{set_end_at, set_end_by, set_end_grown, set_end_stream, set_end_to, try_set_end, with_end_set, with_resized}
+use Rattle.fsa_model.specs.Rename.{naming_by, rename_at, rename_below_closed, rename_by, rename_directory, rename_done, rename_free, rename_into, rename_link, rename_named, rename_over, rename_over_broken, rename_over_closed, rename_walked, replaced_link, try_rename}
+use Rattle.fsa_model.specs.Replacement.{Naming, new_name, replace_fault}
+use Rattle.fsa_model.specs.SetDisposition.{delete_by, delete_marked, marked_handles, set_disposition_at, set_disposition_by, try_set_disposition}
+use Rattle.fsa_model.specs.SetEnd.{set_end_at, set_end_by, set_end_grown, set_end_stream, set_end_to, try_set_end}
 use Rattle.fsa_model.specs.Try.{try_request, try_what}
 use Rattle.fsa_model.specs.Turn.{volume_after}
-use Rattle.fsa_model.specs.Volume.{Cursor, Handle, Link, Volume}
-use Rattle.fsa_model.specs.Waiting.{try_wait}
+use Rattle.fsa_model.specs.Volume.{Handle, Volume}
 use Rattle.fsa_model.specs.Waits.{waits_for, held_by}
-use Rattle.fsa_model.specs.Walk.{Walked, Reached, Barred, Diverted, by_link, into, last_name, point_of, then_walk, through, walk, walk_from}
-use Rattle.fsa_model.specs.Watching.{notify_at, try_notify, watch_of, with_watch_begun, with_watch_seen}
-use Rattle.fsa_model.specs.Write.{try_write, with_file_write_noted, with_stream_write_noted, with_write_noted, with_written, write_at, write_at_place, write_by, write_bytes, write_grown, write_range, write_stream, write_unlocked}
+use Rattle.fsa_model.specs.Walk.{Walked, Reached, Barred, Diverted, last_name, point_of, walk}
+use Rattle.fsa_model.specs.Write.{try_write, write_at, write_at_place, write_by, write_bytes, write_grown, write_range, write_stream, write_unlocked}
 use Rattle.fsa_model.proofs.BreakLaws.{with_breaks-rest}
 use Rattle.fsa_model.proofs.RowLaws.{option_cases}
 use Rattle.history_laws.specs.OplockChanges.{IsLinkAt, MayBreak, Opens, OnStream, Marks, Renames, RenamesAbove, RenamesOver, LinksOver, WherePast, breaks_on_stream, changes_own, ends_only_behind_breaks, handle_numbered, renames, stream_numbered}
 use Rattle.history_laws.specs.WaitEnds.{is_success}
+use Rattle.history_laws.proofs.ByBreaks.{ByAtMost, TriesByClass, by-same, none-breaks}
+use Rattle.history_laws.proofs.FaultStatuses.{IsUndone, replace-undone, stop-fails, walk-undone}
 use Rattle.history_laws.proofs.SetsBroken.{BreaksSetsBy, IsOneOf, with_sets_broken}
+use Rattle.history_laws.proofs.TriesByBreaks.{delete_reparse, end_set, flush, get_reparse, linked, locked, mark, notify, query_dir, query_info, query_quota, renamed, set_basic, set_quota, set_reparse, set_security, wait, written}
 
--- ---- edits: oplocks stay as they are
+-- ---- statuses of ends
 
-record OplocksStay (v w : Volume) : Type 0 where
-  so : w.oplocks ≡ v.oplocks
-
-stay-same : (v : Volume) → OplocksStay v v
-stay-same v = record { so = refl }
-
-stay-next : {u v w : Volume} → OplocksStay u v → OplocksStay v w → OplocksStay u w
-stay-next first second = record { so = second.so ∙ first.so }
-
-stay-if : {v : Volume} (test : Bool) (one other : Volume) → OplocksStay v one → OplocksStay v other → OplocksStay v (if test then one else other)
-stay-if true one other holds fails = holds
-stay-if false one other holds fails = fails
-
-stay-option : {X : Type 0} {v : Volume} (found : Option X) (some : X → Volume) (none : Volume) → ((x : X) → OplocksStay v (some x)) → OplocksStay v none → OplocksStay v (option_map_or some found none)
-stay-option None some none with_some with_none = with_none
-stay-option (Some x) some none with_some with_none = with_some x
-
-stay-noted : (v : Volume) (link action bits : ℕ) (stream : Option ℕ) → OplocksStay v (with_change_noted v link action bits stream)
-stay-noted v link action bits stream = elim (option_cases (row_of v.links link)) [
-  | inl none ↦ rw none (stay-same v)
-  | inr some ↦ rw some.1 (record { so = refl })
-]
-
-write_noted : (v : Volume) (link stream : ℕ) (longer : Bool) → OplocksStay v (with_write_noted v link stream longer)
-write_noted v link stream longer = stay-if _ (with_stream_write_noted v link stream longer) (with_file_write_noted v link longer) (stay-noted v link _ _ (Some stream)) (stay-noted v link _ _ None)
-
-written : (v : Volume) (link stream at : ℕ) (bytes : List ℕ) → OplocksStay v (with_written v link stream at bytes)
-written v link stream at bytes = stay-next (write_noted v link stream _) (record { so = refl })
-
-end_set : (v : Volume) (link stream end : ℕ) → OplocksStay v (with_end_set v link stream end)
-end_set v link stream end = stay-if _ v (with_resized v link stream end) (stay-same v) (stay-next (write_noted v link stream true) (record { so = refl }))
-
-locked : (v : Volume) (handle at count : ℕ) (exclusive : Bool) → OplocksStay v (with_lock v handle at count exclusive)
-locked v handle at count exclusive = record { so = refl }
-
-without : (v : Volume) (link : ℕ) → OplocksStay v (without_link v link)
-without v link =
-    stay-option (row_of v.links link) (λ (row : Link). without_file_unless_linked (record v { links = without_row v.links link }) row.file) v
-    (λ (row : Link). stay-if (has_row (λ (other : Link). other.file == row.file) (without_row v.links link)) _ _ (record { so = refl }) (record { so = refl })) (stay-same v)
-
-replaced : (v : Volume) (link : Option ℕ) → OplocksStay v (with_replaced v link)
-replaced v link = stay-option link (λ l. with_link_replaced v l) v (λ l. stay-next (stay-noted v l _ _ None) (without _ l)) (stay-same v)
-
-move_noted : (v : Volume) (naming : Naming) (dir old new : ℕ) → OplocksStay v (with_move_noted v naming dir old new)
-move_noted v naming dir old new =
-    let first : Volume = with_change_noted v naming.link old _ None in let second : Volume = with_link_moved first naming.link dir _ in
-    stay-next (stay-noted v naming.link old _ None) (stay-next {v = second} (record { so = refl }) (stay-noted _ naming.link new _ None))
-
-renamed : (v : Volume) (naming : Naming) (dir : ℕ) (over : Option ℕ) → OplocksStay v (with_renamed v naming dir over)
-renamed v naming dir over =
-    let first : Volume = with_replaced v over in let second : Volume = with_link_renamed first naming dir in
-    stay-next (replaced v over) (stay-next {v = second} (stay-if (is_elsewhere first naming dir) _ _ (move_noted first naming dir _ _) (move_noted first naming dir _ _)) (record { so = refl }))
-
-linked : (v : Volume) (naming : Naming) (dir : ℕ) (over : Option ℕ) → OplocksStay v (with_linked v naming dir over)
-linked v naming dir over =
-    let first : Volume = with_replaced v over in let second : Volume = with_link first dir (new_name naming) naming.file in let third : Volume = with_link_added first naming dir in
-    stay-next (replaced v over) (stay-next {v = second} (record { so = refl })
-    (stay-next {v = third} (stay-noted second (first.last_link + 1) FILE_ACTION_ADDED FILE_NOTIFY_CHANGE_FILE_NAME None) (record { so = refl })))
-
-mark : (v : Volume) (handle : Handle) (delete : Bool) → OplocksStay v (with_mark v handle delete)
-mark v handle delete = stay-option (named_stream v handle) _ _ (λ stream. record { so = refl }) (record { so = refl })
-
-cursor : (v : Volume) (handle : ℕ) (expression : List ℕ) (place : Cursor) → OplocksStay v (with_cursor v handle expression place)
-cursor v handle expression place = record { so = refl }
-
-basics : (v : Volume) (link file : ℕ) (asked : Basics) → OplocksStay v (with_basics_noted v link file asked)
-basics v link file asked = stay-if (basic_bits asked == 0) (with_basics v file asked) _ (record { so = refl }) (stay-next {v = with_basics v file asked} (record { so = refl }) (stay-noted _ link _ _ None))
-
-owned : (v : Volume) (file : ℕ) (owner : Option ℕ) → OplocksStay v (with_owner_asked v file owner)
-owned v file owner = stay-option owner (λ sid. with_owner v file sid) v (λ sid. record { so = refl }) (stay-same v)
-
-listed : (v : Volume) (file : ℕ) (dacl : DaclChange) → OplocksStay v (with_dacl_asked v file dacl)
-listed v file Keep = stay-same v
-listed v file Remove = record { so = refl }
-listed v file (Put dacl) = record { so = refl }
-
-secured : (v : Volume) (link file : ℕ) (owner : Option ℕ) (dacl : DaclChange) → OplocksStay v (with_security v link file owner dacl)
-secured v link file owner dacl =
-    let first : Volume = with_owner_asked v file owner in let second : Volume = with_dacl_asked first file dacl in let third : Volume = with_change_time second file in
-    stay-next (owned v file owner) (stay-next (listed first file dacl) (stay-next {v = third} (record { so = refl }) (stay-if (asks_something owner dacl) _ third (stay-noted third link _ _ None) (stay-same third))))
-
-pointed : (v : Volume) (link file : ℕ) (point : Option (ℕ × List ℕ)) → OplocksStay v (with_point_noted v link file point)
-pointed v link file point = stay-next {v = with_point v file point} (record { so = refl }) (stay-noted _ link _ _ None)
-
-limited : (v : Volume) (sid bytes : ℕ) → OplocksStay v (with_limit v sid bytes)
-limited v sid bytes = record { so = refl }
-
-unlocked : (v : Volume) (handle at count : ℕ) → OplocksStay v (without_lock v handle at count)
-unlocked v handle at count = record { so = refl }
-
-begun_watch : (v : Volume) (id asked : ℕ) (whole : Bool) → OplocksStay v (with_watch_begun v id asked whole)
-begun_watch v id asked whole = stay-if (is_some (watch_of v id)) v (with_watch v id asked whole (length v.changes)) (stay-same v) (record { so = refl })
-
-seen_watch : (u v : Volume) (id : ℕ) → OplocksStay u v → OplocksStay u (with_watch_seen v id)
-seen_watch u v id first = record { so = first.so }
-
--- ---- statuses of faults
-
--- of a rename, a link and a mark SUCCESS alone comes only behind their breaks; none of these faults is SUCCESS
-
-rename-success : (number : ℕ) (path : List ℕ) (replace : Bool) (status : Status) → ends_only_behind_breaks (Ask (request.Rename number path replace)) status ≡ true → is_success status ≡ true
+-- of a rename, a link and a mark SUCCESS alone comes only behind their breaks
+pub rename-success : (number : ℕ) (path : List ℕ) (replace : Bool) (status : Status) → ends_only_behind_breaks (Ask (request.Rename number path replace)) status ≡ true → is_success status ≡ true
 rename-success number path replace Success past = refl
 rename-success number path replace _ past = cc
 
@@ -178,52 +65,6 @@ link-success number path replace _ past = cc
 mark-success : (number : ℕ) (delete : Bool) (status : Status) → ends_only_behind_breaks (Ask (request.SetDisposition number delete)) status ≡ true → is_success status ≡ true
 mark-success number delete Success past = refl
 mark-success number delete _ past = cc
-
-replace-undone : (marked keeps directory moved readonly denied : Bool) (status : Status)
-    → (if marked then Some DeletePending else if keeps then Some ObjectNameCollision else if directory then Some AccessDenied
-    else if moved then Some AccessDenied else if readonly then Some AccessDenied else if denied then Some AccessDenied else None) ≡ Some status → is_success status ≡ false
-replace-undone true keeps directory moved readonly denied status is = (let same : DeletePending ≡ status = cc in rw (← same) refl)
-replace-undone false true directory moved readonly denied status is = (let same : ObjectNameCollision ≡ status = cc in rw (← same) refl)
-replace-undone false false true moved readonly denied status is = (let same : AccessDenied ≡ status = cc in rw (← same) refl)
-replace-undone false false false true readonly denied status is = (let same : AccessDenied ≡ status = cc in rw (← same) refl)
-replace-undone false false false false true denied status is = (let same : AccessDenied ≡ status = cc in rw (← same) refl)
-replace-undone false false false false false true status is = (let same : AccessDenied ≡ status = cc in rw (← same) refl)
-replace-undone false false false false false false status is = cc
-
--- what bars a walk
-abbrev IsUndone : Walked → Type 0
-IsUndone (Barred status) = is_success status ≡ false
-IsUndone _ = ⊤
-
-through-undone : (v : Volume) (file next : ℕ) → IsUndone (through v file next)
-through-undone v file next = elim (cases_Bool (is_some (point_of v file))) [
-  | inl point ↦ rw point tt
-  | inr none ↦ elim (cases_Bool (is_directory v.files file)) [ inl is ↦ rw (none, is) tt | inr isnt ↦ rw (none, isnt) refl ]
-]
-
-by_link-undone : (v : Volume) (link next : ℕ) → IsUndone (by_link v link next)
-by_link-undone v link next = elim (option_cases (row_of v.links link)) [
-  | inl none ↦ rw none refl
-  | inr some ↦ elim (cases_Bool some.0.deleted) [ inl is ↦ rw (some.1, is) refl | inr isnt ↦ rw (some.1, isnt) (through-undone v some.0.file next) ]
-]
-
-into-undone : (v : Volume) (dir : ℕ) (name : List ℕ) (next : ℕ) → IsUndone (into v dir name next)
-into-undone v dir name next = elim (option_cases (child_of v dir name)) [ inl none ↦ rw none refl | inr some ↦ rw some.1 (by_link-undone v some.0 next) ]
-
-then_walk-undone : (go_on : ℕ → Walked) (walked : Walked) → ((dir : ℕ) → IsUndone (go_on dir)) → IsUndone walked → IsUndone (then_walk go_on walked)
-then_walk-undone go_on (Reached dir) on before = on dir
-then_walk-undone go_on (Barred status) on before = before
-then_walk-undone go_on (Diverted file next) on before = tt
-
-walk-undone : (v : Volume) (names : List (List ℕ)) (dir place : ℕ) → IsUndone (walk_from v dir place names)
-walk-undone v [] dir place = tt
-walk-undone v (name ∷ names) dir place = elim (cases_Bool (length names == 0)) [
-  | inl last ↦ rw last tt
-  | inr inner ↦ rw inner (then_walk-undone (λ next. walk_from v next (place + 1) names) (into v dir name (place + 1)) (λ next. walk-undone v names next (place + 1)) (into-undone v dir name (place + 1)))
-]
-
-stop_status-undone : (tag : ℕ) → is_success (stop_status tag) ≡ false
-stop_status-undone tag = elim (cases_Bool (tag == IO_REPARSE_TAG_SYMLINK)) [ inl is ↦ rw is refl | inr isnt ↦ rw isnt refl ]
 
 -- ---- tries that break some sets
 
@@ -242,41 +83,38 @@ record Breaks (past : Status → Bool) (held : Bool) (class : Class) (acting : O
   enough : AtEnd past held (Enough sets) outcome
 
 module _ {past : Status → Bool} {held : Bool} {class : Class} {acting : Option ℕ} {key : ℕ} {May : HandleSet → Type 0} {Enough : List HandleSet → Type 0} where
-  breaks-done : {v w : Volume} {reply : Reply} → OplocksStay v w → Enough [] → Breaks past held class acting key May Enough v (Done w reply)
-  breaks-done stays enough = record { sets = []; may = All-nil _; oplocks = stays.so; enough = λ done. enough }
+  breaks-done : {v w : Volume} {reply : Reply} → ByAtMost None v w → Enough [] → Breaks past held class acting key May Enough v (Done w reply)
+  breaks-done stays enough = record { sets = []; may = All-nil _; oplocks = none-breaks stays; enough = λ done. enough }
 
   -- it is refused before the breaks, or ends otherwise without having come past them
   breaks-undone : {v : Volume} {reply : Reply} → past reply.status ≡ false → Breaks past held class acting key May Enough v (Done v reply)
   breaks-undone fails = record { sets = []; may = All-nil _; oplocks = refl; enough = λ done. (let impossible = rw fails at done in cc) }
 
-  breaks-stays : {v w : Volume} {interim : Interim} → OplocksStay v w → Breaks past held class acting key May Enough v (Stay w interim)
-  breaks-stays stays = record { sets = []; may = All-nil _; oplocks = stays.so; enough = tt }
-
   breaks-held : {v : Volume} {blockers : List Blocker} {interim : Interim} → Enough [] → Breaks past held class acting key May Enough v (Hold v blockers interim)
   breaks-held enough = record { sets = []; may = All-nil _; oplocks = refl; enough = λ so. enough }
 
-  breaks-if : {v : Volume} (test : Bool) (one other : Outcome) → Breaks past held class acting key May Enough v one → Breaks past held class acting key May Enough v other
+  breaks-if : {v : Volume} (test : Bool) (one other : Outcome) → (test ≡ true → Breaks past held class acting key May Enough v one) → (test ≡ false → Breaks past held class acting key May Enough v other)
       → Breaks past held class acting key May Enough v (if test then one else other)
-  breaks-if true one other holds fails = holds
-  breaks-if false one other holds fails = fails
+  breaks-if true one other holds fails = holds refl
+  breaks-if false one other holds fails = fails refl
 
-  breaks-option : {X : Type 0} {v : Volume} (found : Option X) (some : X → Outcome) (none : Outcome) → ((x : X) → Breaks past held class acting key May Enough v (some x))
-      → Breaks past held class acting key May Enough v none → Breaks past held class acting key May Enough v (option_map_or some found none)
-  breaks-option None some none with_some with_none = with_none
-  breaks-option (Some x) some none with_some with_none = with_some x
+  breaks-option : {X : Type 0} {v : Volume} (found : Option X) (some : X → Outcome) (none : Outcome) → ((x : X) → found ≡ Some x → Breaks past held class acting key May Enough v (some x))
+      → (found ≡ None → Breaks past held class acting key May Enough v none) → Breaks past held class acting key May Enough v (option_map_or some found none)
+  breaks-option None some none with_some with_none = with_none refl
+  breaks-option (Some x) some none with_some with_none = with_some x refl
 
   -- refused, or on
   breaks-unless : {v : Volume} (test : Bool) (status : Status) (other : Outcome) → past status ≡ false → Breaks past held class acting key May Enough v other
       → Breaks past held class acting key May Enough v (if test then refused v status else other)
-  breaks-unless {v} test status other fails goes = breaks-if test (refused v status) other (breaks-undone fails) goes
+  breaks-unless {v} test status other fails goes = breaks-if test (refused v status) other (λ holds. breaks-undone fails) (λ no. goes)
 
   -- held by breaks, or on after them
   breaks-first : (v : Volume) (on : HandleSet) (outcome : Outcome) → May on → (held ≡ true → Enough (on ∷ []))
       → Breaks past held class acting key May (λ sets. Enough (on ∷ sets)) (with_breaks v on class acting key) outcome
       → Breaks past held class acting key May Enough v (if waits_for v on class acting key then held_by v on class acting key else outcome)
   breaks-first v on outcome may enough goes = breaks-if (waits_for v on class acting key) (held_by v on class acting key) outcome
-      (record { sets = on ∷ []; may = All-cons May on [] may (All-nil _); oplocks = refl; enough = enough })
-      (record { sets = on ∷ goes.sets; may = All-cons May on goes.sets may goes.may; oplocks = goes.oplocks; enough = goes.enough })
+      (λ waits. record { sets = on ∷ []; may = All-cons May on [] may (All-nil _); oplocks = refl; enough = enough })
+      (λ free. record { sets = on ∷ goes.sets; may = All-cons May on goes.sets may goes.may; oplocks = goes.oplocks; enough = goes.enough })
 
   -- by those of one set
   breaks-set : (v : Volume) (on : HandleSet) (outcome : Outcome) → May on → Enough (on ∷ [])
@@ -284,18 +122,7 @@ module _ {past : Status → Bool} {held : Bool} {class : Class} {acting : Option
       → Breaks past held class acting key May Enough v (if waits_for v on class acting key then held_by v on class acting key else outcome)
   breaks-set v on outcome may enough goes = breaks-first v on outcome may (λ so. enough) goes
 
-  -- with what was found
-  breaks-found : {X : Type 0} {v : Volume} (found : Option X) (some : X → Outcome) (none : Outcome) → ((x : X) → found ≡ Some x → Breaks past held class acting key May Enough v (some x))
-      → (found ≡ None → Breaks past held class acting key May Enough v none) → Breaks past held class acting key May Enough v (option_map_or some found none)
-  breaks-found None some none with_some with_none = with_none refl
-  breaks-found (Some x) some none with_some with_none = with_some x refl
-
-  breaks-test : {v : Volume} (test : Bool) (one other : Outcome) → (test ≡ true → Breaks past held class acting key May Enough v one) → (test ≡ false → Breaks past held class acting key May Enough v other)
-      → Breaks past held class acting key May Enough v (if test then one else other)
-  breaks-test true one other holds fails = holds refl
-  breaks-test false one other holds fails = fails refl
-
-ruleset going = (breaks-set, breaks-if, breaks-option, breaks-undone, breaks-done, stay-same, refl)
+ruleset going = (breaks-set, breaks-if, breaks-option, breaks-undone, breaks-done, by-same, refl)
 
 -- the sets of which the call may break oplocks are all among these, and it breaks them by this class
 abbrev AreAll : Volume → Call → Class → List HandleSet → Type 0
@@ -314,12 +141,8 @@ sets-just : {v : Volume} {call : Call} {what : What} {outcome : Outcome} → Bre
 sets-just just = record { class = just.class; sets = just.sets; may = just.may; oplocks = just.oplocks }
 
 -- what breaks nothing
-sets-none : {v : Volume} {call : Call} {acting : Option ℕ} {key : ℕ} {outcome : Outcome} → Breaks is_success false Change acting key (λ on. ⊥) (λ sets. ⊤) v outcome → BreaksSetsBy v call outcome
-sets-none {v} {call} {acting} {key} {outcome} goes = record { class = Change; sets = []; may = All-nil _; oplocks = none goes.sets goes.may goes.oplocks }
-  where
-    none : (sets : List HandleSet) → All (λ on. ⊥) sets → (volume_after outcome).oplocks ≡ (with_sets_broken Change acting key sets v).oplocks → (volume_after outcome).oplocks ≡ v.oplocks
-    none [] may same = same
-    none (on ∷ sets) may same = absurd (All-head (λ on. ⊥) on sets may)
+sets-none : {v : Volume} {call : Call} {outcome : Outcome} → TriesByClass None v outcome → BreaksSetsBy v call outcome
+sets-none goes = record { class = Change; sets = []; may = All-nil _; oplocks = none-breaks goes.so }
 
 -- such ends are among those that count
 at-end : {past : Status → Bool} {held : Bool} (what : What) (Such : Type 0) (outcome : Outcome) → ((status : Status) → ends_only_behind_breaks what status ≡ true → past status ≡ true)
@@ -381,7 +204,7 @@ read-stream : {May : HandleSet → Type 0} {Enough : List HandleSet → Type 0} 
     → Breaks (ends_only_behind_breaks (Ask (request.Read number at count))) true ReadOpen (Some id) handle.key May Enough v (read_stream v id handle stream at count)
 unfolding read_stream read_range read_unlocked read_bytes
 read-stream v number id handle stream at count may nothing enough = elim (cases_Bool (count == 0)) [
-  | inl none ↦ rw none (let so = nothing none in search (breaks-if, breaks-undone, breaks-done, stay-same, so) depth 60 fits 4000)
+  | inl none ↦ rw none (let so = nothing none in search (breaks-if, breaks-undone, breaks-done, by-same, so) depth 60 fits 4000)
   | inr some ↦ rw some (let so = may some in let all = enough some in search (going, so, all) depth 60 fits 4000)
 ]
 
@@ -389,7 +212,7 @@ pub read : (v : Volume) (call : Call) (number at count : ℕ) → call.what ≡ 
     → BreaksJust v call (Ask (request.Read number at count)) (try_read v call.client number at count)
 unfolding try_read read_at read_by
 read v call number at count is = of-handle {held = true} {class = ReadOpen} _ is refl refl refl (λ status so. so) (λ so. refl) (λ id handle opened row.
-    breaks-found handle.stream (λ stream. read_stream v id handle stream at count) _ (λ stream has.
+    breaks-option handle.stream (λ stream. read_stream v id handle stream at count) _ (λ stream has.
     read-stream v number id handle stream at count (λ some. OnStream number stream (rw (is, some) refl) (rw (opened, row, has) refl) refl)
     (λ none. bytes-none v call ReadOpen (rw is refl) (rw (is, none) refl)) (λ some. stream-all v call ReadOpen number stream (rw (is, some) refl) (rw (opened, row, has) refl)))
     (λ without. breaks-undone refl))
@@ -399,7 +222,7 @@ write-stream : {May : HandleSet → Type 0} {Enough : List HandleSet → Type 0}
     → Breaks (ends_only_behind_breaks (Ask (request.Write number at bytes))) true Change (Some id) handle.key May Enough v (write_stream v id handle stream at bytes)
 unfolding write_stream write_at_place write_range write_unlocked write_grown write_bytes
 write-stream v number id handle stream at bytes may nothing enough = elim (cases_Bool (length bytes == 0)) [
-  | inl none ↦ rw none (let so = nothing none in search (breaks-if, breaks-undone, breaks-done, stay-same, so) depth 60 fits 4000)
+  | inl none ↦ rw none (let so = nothing none in search (breaks-if, breaks-undone, breaks-done, by-same, so) depth 60 fits 4000)
   | inr some ↦ rw some (let so = may some in let all = enough some in search (going, written, so, all) depth 60 fits 4000)
 ]
 
@@ -407,7 +230,7 @@ pub write : (v : Volume) (call : Call) (number : ℕ) (at : Option ℕ) (bytes :
     → BreaksJust v call (Ask (request.Write number at bytes)) (try_write v call.client number at bytes)
 unfolding try_write write_at write_by
 write v call number at bytes is = of-handle {held = true} {class = Change} _ is refl refl refl (λ status so. so) (λ so. refl) (λ id handle opened row.
-    breaks-found handle.stream (λ stream. write_stream v id handle stream at bytes) _ (λ stream has.
+    breaks-option handle.stream (λ stream. write_stream v id handle stream at bytes) _ (λ stream has.
     write-stream v number id handle stream at bytes (λ some. OnStream number stream (rw (is, some) refl) (rw (opened, row, has) refl) refl)
     (λ none. bytes-none v call Change (rw is refl) (rw (is, none) refl)) (λ some. stream-all v call Change number stream (rw (is, some) refl) (rw (opened, row, has) refl)))
     (λ without. breaks-undone refl))
@@ -421,7 +244,7 @@ pub set_end : (v : Volume) (call : Call) (number end : ℕ) → call.what ≡ As
     → BreaksJust v call (Ask (request.SetEnd number end)) (try_set_end v call.client number end)
 unfolding try_set_end set_end_at set_end_by
 set_end v call number end is = of-handle {held = true} {class = Change} _ is refl refl refl (λ status so. so) (λ so. refl) (λ id handle opened row.
-    breaks-found handle.stream (λ stream. set_end_stream v id handle stream end) _ (λ stream has.
+    breaks-option handle.stream (λ stream. set_end_stream v id handle stream end) _ (λ stream has.
     set_end-stream v number id handle stream end (OnStream number stream (rw is refl) (rw (opened, row, has) refl) refl) (stream-all v call Change number stream (rw is refl) (rw (opened, row, has) refl)))
     (λ without. breaks-undone refl))
 
@@ -434,7 +257,7 @@ pub lock : (v : Volume) (call : Call) (number at count : ℕ) (exclusive wait : 
     → BreaksJust v call (Ask (request.Lock number at count exclusive wait)) (try_lock v call.client number at count exclusive wait)
 unfolding try_lock lock_at lock_by
 lock v call number at count exclusive wait is = of-handle {held = true} {class = Change} _ is refl refl refl (λ status so. so) (λ so. refl) (λ id handle opened row.
-    breaks-found handle.stream (λ stream. lock_stream v id handle stream at count exclusive wait) _ (λ stream has.
+    breaks-option handle.stream (λ stream. lock_stream v id handle stream at count exclusive wait) _ (λ stream has.
     lock-stream v number id handle stream at count exclusive wait (OnStream number stream (rw is refl) (rw (opened, row, has) refl) refl)
     (stream-all v call Change number stream (rw is refl) (rw (opened, row, has) refl))) (λ without. breaks-undone refl))
 
@@ -484,14 +307,13 @@ set_disposition v call number delete is = of-handle {past = is_success} {held = 
 stops : {held : Bool} {class : Class} {acting : Option ℕ} {key : ℕ} {May : HandleSet → Type 0} {Enough : List HandleSet → Type 0} (v : Volume) (file : ℕ) (rest : List ℕ)
     → Breaks is_success held class acting key May Enough v (stopped v file rest)
 unfolding stopped
-stops v file rest = breaks-option (point_of v file) _ _ (λ point. breaks-undone (stop_status-undone point.0)) (breaks-undone refl)
+stops v file rest = breaks-option (point_of v file) _ _ (λ point is. breaks-undone (stop-fails is_success point.0 refl refl)) (λ isnt. breaks-undone refl)
 
 -- what stands there is replaced, or is not, for a fault
 fault-undone : {held : Bool} {class : Class} {acting : Option ℕ} {key : ℕ} {May : HandleSet → Type 0} {Enough : List HandleSet → Type 0} (v : Volume) (naming : Naming) (link : ℕ) (other : Outcome)
     → (replace_fault v naming link ≡ None → Breaks is_success held class acting key May Enough v other)
     → Breaks is_success held class acting key May Enough v (option_map_or (λ status. refused v status) (replace_fault v naming link) other)
-fault-undone v naming link other goes = breaks-found (replace_fault v naming link) _ other (λ status is. breaks-undone (replace-undone (is_link_marked v link) (not naming.replace) (is_directory v.files (linked_file v link))
-    (is_directory v.files naming.file) (is_readonly v (linked_file v link)) (not (grants v (linked_file v link) naming.client DELETE)) status is)) goes
+fault-undone v naming link other goes = breaks-option (replace_fault v naming link) _ other (λ status is. breaks-undone (replace-undone v naming link status is)) goes
 
 -- the walk reaches one directory
 pub at_link : (v : Volume) (path : List ℕ) (dir link : ℕ) → walk v (components path) ≡ Reached dir → IsLinkAt v path link → child_of v dir (last_name (components path)) ≡ Some link
@@ -529,7 +351,7 @@ link-over : {May : HandleSet → Type 0} {Enough : List HandleSet → Type 0} (v
     → Breaks is_success true NameChange (Some naming.handle) naming.key May Enough v (link_over v naming dir link)
 unfolding link_over link_over_other
 link-over v naming dir link may enough = elim (cases_Bool (linked_file v link == naming.file)) [
-  | inl same ↦ rw same (let so = rw same at enough in search (breaks-if, breaks-undone, breaks-done, stay-same, so))
+  | inl same ↦ rw same (let so = rw same at enough in search (breaks-if, breaks-undone, breaks-done, by-same, so))
   | inr differs ↦ rw differs (let so = rw differs at enough in fault-undone v naming link _ (λ free. link-over_closed v naming dir link (may differs free) so))
 ]
 
@@ -538,7 +360,7 @@ link-into : {May : HandleSet → Type 0} {Enough : List HandleSet → Type 0} (v
     → Enough (others_set v naming.file (child_of v dir (new_name naming))) → Breaks is_success true NameChange (Some naming.handle) naming.key May Enough v (link_into v naming dir)
 unfolding link_into
 link-into v naming dir may enough = breaks-unless _ _ _ refl
-    (breaks-found (child_of v dir (new_name naming)) _ _ (λ link there. link-over v naming dir link (may link there) (rw there at enough)) (λ none. breaks-done (linked v naming dir None) (rw none at enough)))
+    (breaks-option (child_of v dir (new_name naming)) _ _ (λ link there. link-over v naming dir link (may link there) (rw there at enough)) (λ none. breaks-done (linked v naming dir None) (rw none at enough)))
 
 link-walked : {May : HandleSet → Type 0} {Enough : List HandleSet → Type 0} (v : Volume) (naming : Naming) (walked : Walked) → IsUndone walked
     → ((dir link : ℕ) → walked ≡ Reached dir → child_of v dir (new_name naming) ≡ Some link → (linked_file v link == naming.file) ≡ false → replace_fault v naming link ≡ None → May (set.Link link))
@@ -636,7 +458,7 @@ rename-free : {May : HandleSet → Type 0} {Enough : List HandleSet → Type 0} 
     → Breaks is_success false NameChange (Some naming.handle) naming.key May Enough v (rename_free v naming dir over)
 unfolding rename_free rename_done
 rename-free v naming dir over own enough =
-    breaks-first v (set.Link naming.link) _ own (λ so. enough) (search (breaks-if, breaks-done, stay-same, renamed, enough) depth 60 fits 4000)
+    breaks-first v (set.Link naming.link) _ own (λ so. enough) (search (breaks-if, breaks-done, by-same, renamed, enough) depth 60 fits 4000)
 
 rename-over_broken : {May : HandleSet → Type 0} {Enough : List HandleSet → Type 0} (v : Volume) (naming : Naming) (dir link : ℕ) → May (set.Link naming.link) → May (set.Link link)
     → Enough (set.Link link ∷ set.Link naming.link ∷ []) → Breaks is_success false NameChange (Some naming.handle) naming.key May Enough v (rename_over_broken v naming dir link)
@@ -652,7 +474,7 @@ rename-named : {May : HandleSet → Type 0} {Enough : List HandleSet → Type 0}
     → ((link : ℕ) → child_of v dir (new_name naming) ≡ Some link → (link == naming.link) ≡ false → replace_fault v naming link ≡ None → May (set.Link link))
     → Enough (named_sets naming.link (replaced_link v naming dir)) → Breaks is_success false NameChange (Some naming.handle) naming.key May Enough v (rename_named v naming dir)
 unfolding rename_named
-rename-named v naming dir own may enough = breaks-unless _ _ _ refl (breaks-found (replaced_link v naming dir) _ _
+rename-named v naming dir own may enough = breaks-unless _ _ _ refl (breaks-option (replaced_link v naming dir) _ _
     (λ link there. let other = other-found _ naming.link link there in rename-over v naming dir link own (may link other.0 other.1) (rw there at enough)) (λ none. rename-free v naming dir None own (rw none at enough)))
 
 rename-below : {May : HandleSet → Type 0} {Enough : List HandleSet → Type 0} (v : Volume) (naming : Naming) (dir : ℕ) → May (set.Link naming.link) → May (set.Below naming.file)
@@ -671,7 +493,7 @@ rename-into : {May : HandleSet → Type 0} {Enough : List HandleSet → Type 0} 
     → Enough (moved_sets v naming.link naming.file (replaced_link v naming dir)) → Breaks is_success false NameChange (Some naming.handle) naming.key May Enough v (rename_into v naming dir)
 unfolding rename_into
 rename-into v naming dir own below may enough =
-    breaks-test (is_directory v.files naming.file) _ _ (λ is. rename-below v naming dir own (below is) may (rw is at enough)) (λ no. rename-named v naming dir own may (rw no at enough))
+    breaks-if (is_directory v.files naming.file) _ _ (λ is. rename-below v naming dir own (below is) may (rw is at enough)) (λ no. rename-named v naming dir own may (rw no at enough))
 
 rename-walked : {May : HandleSet → Type 0} {Enough : List HandleSet → Type 0} (v : Volume) (naming : Naming) (walked : Walked) → IsUndone walked → May (set.Link naming.link)
     → (is_directory v.files naming.file ≡ true → May (set.Below naming.file))
@@ -708,71 +530,22 @@ rename v call number path replace is = of-handle {past = is_success} {held = fal
     (λ dir over reached there apart free. RenamesOver number id path replace over handle is opened row (dir, reached, there) apart free refl refl)
     (λ dir reached. renames-all v call number dir path replace handle is (rw opened row) reached))
 
--- ---- what breaks nothing
+-- ---- an unlock
 
--- no set is one that it breaks
-abbrev StaysSo : Volume → Outcome → Type 0
-StaysSo v outcome = Breaks is_success false Change None 0 (λ on. ⊥) (λ sets. ⊤) v outcome
+-- a try that comes to this leaves oplocks as they are
+record Stays (v : Volume) (outcome : Outcome) : Type 0 where
+  so : (volume_after outcome).oplocks ≡ v.oplocks
 
-flush : (v : Volume) (client handle : ℕ) → StaysSo v (try_flush v client handle)
-unfolding try_flush flush_at
-flush v client handle = search going depth 60 fits 4000
+stays-done : {v w : Volume} {reply : Reply} → w.oplocks ≡ v.oplocks → Stays v (Done w reply)
+stays-done same = record { so = same }
 
-query_dir : (v : Volume) (client handle : ℕ) (kind : DirKind) (expression : List ℕ) (restart : Bool) (room : ℕ) → StaysSo v (try_query_dir v client handle kind expression restart room)
-unfolding try_query_dir query_dir_at query_dir_by query_dir_in list_entries
-query_dir v client handle kind expression restart room = search (going, cursor) depth 60 fits 4000
+stays-option : {X : Type 0} {v : Volume} (found : Option X) (some : X → Outcome) (none : Outcome) → ((x : X) → Stays v (some x)) → Stays v none → Stays v (option_map_or some found none)
+stays-option None some none with_some with_none = with_none
+stays-option (Some x) some none with_some with_none = with_some x
 
-query_kind : (v : Volume) (handle : Handle) (file : ℕ) (kind : InfoKind) (room : ℕ) → StaysSo v (query_file v handle file kind room)
-unfolding query_file query_streams_by query_streams
-query_kind v handle file Basic room = breaks-done (stay-same v) tt
-query_kind v handle file Standard room = breaks-done (stay-same v) tt
-query_kind v handle file Internal room = breaks-done (stay-same v) tt
-query_kind v handle file Tag room = breaks-done (stay-same v) tt
-query_kind v handle file Streams room = search going depth 60 fits 4000
-
-query_info : (v : Volume) (client handle : ℕ) (kind : InfoKind) (room : ℕ) → StaysSo v (try_query_info v client handle kind room)
-unfolding try_query_info query_info_at query_info_by
-query_info v client handle kind room = search (going, query_kind) depth 60 fits 4000
-
-set_basic : (v : Volume) (client handle : ℕ) (asked : Basics) → StaysSo v (try_set_basic v client handle asked)
-unfolding try_set_basic set_basic_at set_basic_by set_basic_of
-set_basic v client handle asked = search (going, basics) depth 60 fits 4000
-
-set_security : (v : Volume) (client handle : ℕ) (owner : Option ℕ) (dacl : DaclChange) → StaysSo v (try_set_security v client handle owner dacl)
-unfolding try_set_security set_security_at set_security_by set_security_of
-set_security v client handle owner dacl = search (going, secured) depth 60 fits 4000
-
-set_reparse : (v : Volume) (client handle : ℕ) (bytes : List ℕ) → StaysSo v (try_set_reparse v client handle bytes)
-unfolding try_set_reparse set_reparse_at set_reparse_by set_buffer set_point
-set_reparse v client handle bytes = search (going, pointed) depth 60 fits 4000
-
-get_reparse : (v : Volume) (client handle room : ℕ) → StaysSo v (try_get_reparse v client handle room)
-unfolding try_get_reparse get_reparse_at get_reparse_by get_reparse_of get_point
-get_reparse v client handle room = search going depth 60 fits 4000
-
-delete_reparse : (v : Volume) (client handle tag : ℕ) → StaysSo v (try_delete_reparse v client handle tag)
-unfolding try_delete_reparse delete_reparse_at delete_reparse_by delete_reparse_of remove_point
-delete_reparse v client handle tag = search (going, pointed) depth 60 fits 4000
-
-set_quota : (v : Volume) (client sid bytes : ℕ) → StaysSo v (try_set_quota v client sid bytes)
-unfolding try_set_quota
-set_quota v client sid bytes = search (going, limited) depth 60 fits 4000
-
-query_quota : (v : Volume) (sid : ℕ) → StaysSo v (try_query_quota v sid)
-unfolding try_query_quota
-query_quota v sid = search going depth 60 fits 4000
-
-notify : (v : Volume) (client handle asked : ℕ) (whole : Bool) (room : ℕ) → StaysSo v (try_notify v client handle asked whole room)
-unfolding try_notify notify_at
-notify v client handle asked whole room = search (going, breaks-stays, begun_watch, seen_watch) depth 40 fits 4000
-
-unlock : (v : Volume) (client handle at count : ℕ) → StaysSo v (try_unlock v client handle at count)
+unlock : (v : Volume) (client handle at count : ℕ) → Stays v (try_unlock v client handle at count)
 unfolding try_unlock unlock_at unlock_by unlock_range
-unlock v client handle at count = search (going, unlocked) depth 60 fits 4000
-
-wait : (v : Volume) (client earlier : ℕ) → StaysSo v (try_wait v client earlier)
-unfolding try_wait
-wait v client earlier = search (going, breaks-stays) depth 20
+unlock v client handle at count = search (stays-option, stays-done)
 
 -- ---- any call that changes oplocks by breaks alone
 
@@ -783,7 +556,7 @@ request-breaks v call turn (request.Write handle at bytes) is others opens = set
 request-breaks v call turn (request.Flush handle) is others opens = sets-none (flush v call.client handle)
 request-breaks v call turn (request.SetEnd handle end) is others opens = sets-just (set_end v call handle end is)
 request-breaks v call turn (request.Lock handle at count exclusive wait) is others opens = sets-just (lock v call handle at count exclusive wait is)
-request-breaks v call turn (request.Unlock handle at count) is others opens = sets-none (unlock v call.client handle at count)
+request-breaks v call turn (request.Unlock handle at count) is others opens = record { class = Change; sets = []; may = All-nil _; oplocks = Stays.so (unlock v call.client handle at count) }
 request-breaks v call turn (request.SetSecurity handle owner dacl) is others opens = sets-none (set_security v call.client handle owner dacl)
 request-breaks v call turn (request.QueryDir handle kind expression restart room) is others opens = sets-none (query_dir v call.client handle kind expression restart room)
 request-breaks v call turn (request.SetDisposition handle delete) is others opens = sets-just (set_disposition v call handle delete is)

@@ -6,10 +6,10 @@ use Rattle.std.proofs.Common.{◌≡◌, ℕ, ◌+◌, Bool, true, false, ◌==�
 use Rattle.std.specs.Option.{option_map_or}
 use Rattle.std.specs.Prelude.{if◌then◌else◌, is_some}
 use Rattle.std.specs.Int.RustNames.{bit_or}
-use Rattle.std.proofs.lemmas.Bool.{or_parts}
+use Rattle.std.proofs.lemmas.Bool.{or_parts, not-false, not-true}
 use Rattle.std.proofs.lemmas.List.Elements.{All-nil, All-cons}
 use Rattle.fsa_types.specs.Access.{has_any}
-use Rattle.fsa_types.specs.Masks.{APPEND_DATA, FILE_ACTION_ADDED, FILE_ACTION_ADDED_STREAM, FILE_ACTION_MODIFIED, FILE_ACTION_MODIFIED_STREAM, FILE_NOTIFY_CHANGE_DIR_NAME, FILE_NOTIFY_CHANGE_FILE_NAME, FILE_NOTIFY_CHANGE_STREAM_NAME, IO_REPARSE_TAG_SYMLINK, READONLY, WRITE_DATA}
+use Rattle.fsa_types.specs.Masks.{APPEND_DATA, FILE_ACTION_ADDED, FILE_ACTION_ADDED_STREAM, FILE_ACTION_MODIFIED, FILE_ACTION_MODIFIED_STREAM, FILE_NOTIFY_CHANGE_DIR_NAME, FILE_NOTIFY_CHANGE_FILE_NAME, FILE_NOTIFY_CHANGE_STREAM_NAME, READONLY, WRITE_DATA}
 use Rattle.fsa_types.specs.Paths.{components, path_fault, rest_of}
 use Rattle.fsa_types.specs.Rows.{row_of}
 use Rattle.fsa_types.specs.declared.oplock.Class.{Class}
@@ -22,13 +22,12 @@ use Rattle.fsa_types.specs.declared.request.Request.TheVariants as request
 use Rattle.fsa_types.specs.declared.request.What.{What}
 use Rattle.fsa_types.specs.declared.request.What.TheVariants.{Ask}
 use Rattle.fsa_types.specs.declared.status.Status.{Status}
-use Rattle.fsa_types.specs.declared.status.Status.TheVariants.{Reparse, StoppedOnSymlink}
 use Rattle.fsa_model.specs.Breaks.{with_breaks}
 use Rattle.fsa_model.specs.Changes.{with_change_noted}
 use Rattle.fsa_model.specs.Coherence.{Where, set_of_file, set_of_link, set_of_path}
 use Rattle.fsa_model.specs.Edits.{with_stream}
 use Rattle.fsa_model.specs.Lookups.{attributes_of, child_of, clashes_on, is_directory, is_marked, stream_of}
-use Rattle.fsa_model.specs.Open.{Asked, access_of, asks_for_file, clashed, completes_if_oplocked, create_at, create_by_link, create_found, create_in_file, create_missing, create_named, create_on_stream, create_stream, create_there, create_walked, deletes_on_close, grants, has_stream_part, is_invalid, is_other_kind, is_readonly, lacks_delete, make_directory, make_file, names_stream, only_makes, only_opens, open_directory, open_existing, open_granted, open_stream, open_waits, opens_point, overwrite_existing, overwrite_filters, overwrites, parent_right, replacing_right, stop_status, stopped, stream_name, stream_overwrite_filters, try_create, uncovers, wants_directory, wants_file, wants_more, wants_no_right, with_directory_made, with_file_made, with_open, with_overwrite_noted, with_overwritten}
+use Rattle.fsa_model.specs.Open.{Asked, access_of, asks_for_file, clashed, completes_if_oplocked, create_at, create_by_link, create_found, create_in_file, create_missing, create_named, create_on_stream, create_stream, create_there, create_walked, deletes_on_close, grants, has_stream_part, is_invalid, is_other_kind, is_readonly, lacks_delete, make_directory, make_file, names_stream, only_makes, only_opens, open_directory, open_existing, open_granted, open_stream, open_waits, opens_point, overwrite_existing, overwrite_filters, overwrites, parent_right, replacing_right, stopped, stream_name, stream_overwrite_filters, try_create, uncovers, wants_directory, wants_file, wants_more, wants_no_right, with_directory_made, with_file_made, with_open, with_overwrite_noted, with_overwritten}
 use Rattle.fsa_model.specs.Outcome.{Outcome, refused}
 use Rattle.fsa_model.specs.Turn.{volume_after}
 use Rattle.fsa_model.specs.Volume.{Link, Volume}
@@ -36,10 +35,11 @@ use Rattle.fsa_model.specs.Waits.{waits_for}
 use Rattle.fsa_model.specs.Walk.{Walked, Reached, Barred, Diverted, last_name, point_of, walk}
 use Rattle.fsa_model.proofs.CoherenceTied.{IsUntouched, IsUntouched-noted}
 use Rattle.history_laws.specs.OplockChanges.{MayBreak, Opens, WherePast, breaks_by_open, class_of_open, ends_only_behind_breaks, ends_unawaited}
+use Rattle.history_laws.proofs.FaultStatuses.{stop-fails}
 use Rattle.history_laws.proofs.SetsBroken.{BreaksSetsBy}
 
 -- the open clashes with a handle of these
-abbrev clashes : Volume → Asked → HandleSet → Bool
+abbrev pub clashes : Volume → Asked → HandleSet → Bool
 clashes v asked on = clashes_on v on (access_of asked) asked.share
 
 -- the open may break no oplock: its path names no such set, or it breaks none of it
@@ -92,14 +92,7 @@ overwritten v asked link file stream = go (names_stream asked.path)
 
 stops : (v : Volume) (asked : Asked) (file : ℕ) (rest : List ℕ) → BreaksNamed v asked (stopped v file rest)
 unfolding stopped
-stops v asked file rest = named-option (point_of v file) _ _ (λ point is. Nothing refl (λ done. let no : false ≡ true = sym (other point.0) ∙ done in cc)) (λ isnt. refuses refl)
-  where
-    otherwise : (test : Bool) → ends_only_behind_breaks (opens_so asked) (if test then StoppedOnSymlink else Reparse) ≡ false
-    otherwise true = refl
-    otherwise false = refl
-
-    other : (tag : ℕ) → ends_only_behind_breaks (opens_so asked) (stop_status tag) ≡ false
-    other tag = otherwise (tag == IO_REPARSE_TAG_SYMLINK)
+stops v asked file rest = named-option (point_of v file) _ _ (λ point is. Nothing refl (λ done. let no : false ≡ true = sym (stop-fails (ends_only_behind_breaks (opens_so asked)) point.0 refl refl) ∙ done in cc)) (λ isnt. refuses refl)
 
 makes_directory : (v : Volume) (asked : Asked) (dir : ℕ) (name : List ℕ) → set_of_path v asked.path ≡ None → BreaksNamed v asked (make_directory v asked dir name)
 unfolding make_directory
@@ -141,27 +134,19 @@ existing : (v : Volume) (asked : Asked) (link : ℕ) (stream : Option ℕ) (on :
 unfolding open_existing
 existing v asked link stream on named free keeps =
     named-if (not (wants_more asked)) _ _ (λ less. Nothing refl (λ done. none less))
-    (λ more. named-if (not (open_waits v on ReadOpen asked.key)) _ _ (λ is. Named on ReadOpen named class (breaks more) refl (λ ends. less (open_waits v on ReadOpen asked.key) is))
+    (λ more. named-if (not (open_waits v on ReadOpen asked.key)) _ _ (λ is. Named on ReadOpen named class (breaks more) refl (λ ends. not-true (open_waits v on ReadOpen asked.key) is))
     (λ isnt. named-if (completes_if_oplocked asked) _ _ (λ is. Named on ReadOpen named class (breaks more) refl (λ beside. (let impossible = rw is at beside in cc))) (λ isnt. Named on ReadOpen named class (breaks more) refl tt)))
   where
     class : ReadOpen ≡ class_of_open (clashes v asked on) asked.disposition
     class = rw (free, keeps) refl
 
-    wanted : (b : Bool) → not b ≡ false → b ≡ true
-    wanted true is = refl
-    wanted false is = cc
-
     breaks : not (wants_more asked) ≡ false → breaks_by_open (clashes v asked on) asked.disposition (access_of asked) ≡ true
-    breaks more = rw (free, keeps) (wanted (wants_more asked) more)
-
-    less : (b : Bool) → not b ≡ true → b ≡ false
-    less true is = cc
-    less false is = refl
+    breaks more = rw (free, keeps) (not-false (wants_more asked) more)
 
     none : not (wants_more asked) ≡ true → MayBreakNone v asked
     none fewer other named_so =
         let both : Some other ≡ Some on = sym named_so ∙ named in let same : other ≡ on = cc in
-        rw (same, free, keeps) (less (wants_more asked) fewer)
+        rw (same, free, keeps) (not-true (wants_more asked) fewer)
 
 -- it is overwritten
 overwrites_so : (v : Volume) (asked : Asked) (link file stream : ℕ) → set_of_path v asked.path ≡ Some (set.Stream stream) → clashes v asked (set.Stream stream) ≡ false

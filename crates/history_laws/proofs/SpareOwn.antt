@@ -32,6 +32,7 @@ use Rattle.fsa_model.specs.Volume.{Handle, Oplock, Pending, Volume}
 use Rattle.fsa_model.specs.Waiting.{is_granted_under, is_wait, try_cancel, with_oplock_given_up}
 use Rattle.fsa_model.proofs.CountLaws.{and_left, and_right, how_many-filter, how_many-filter_le, how_many-in_order, how_many-weaker}
 use Rattle.fsa_model.proofs.RowLaws.{option_cases}
+use Rattle.fsa_model.proofs.OnceLaws.{fewer-calls_ended}
 use Rattle.history_laws.proofs.ByBreaks.{TriesByBreaks}
 use Rattle.history_laws.proofs.SpareLaws.{IsBareWait, IsBareWait-fewer, Spares, Spares-by, Spares-end, Spares-next, Spares-same, Spares-still, filter-other_end, other_under}
 use Rattle.history_laws.specs.WaitEnds.{cancels, is_cancel_of}
@@ -39,12 +40,6 @@ use Rattle.history_laws.proofs.TriesByBreaks.{changes_otherwise, marked_on_close
 
 module _ (who number : ℕ) where
   -- ---- calls that end, but not this one
-
-  pending-calls : (status_of : What → Status) (calls : List (ℕ × Pending)) (v : Volume) (test : ℕ × Pending → Bool) → how_many test (with_calls_ended status_of calls v).pending ≤ how_many test v.pending
-  pending-calls status_of [] v test = omega arith
-  pending-calls status_of (entry ∷ calls) v test =
-      let rest = pending-calls status_of calls (with_end v entry.1.call.client entry.1.call.number (record { status = status_of entry.1.call.what; body = Nothing })) test in
-      let few = how_many-filter_le test (λ e. not (is_call entry.1.call.client entry.1.call.number e.1)) v.pending in omega arith
 
   oplocks-calls : (status_of : What → Status) (calls : List (ℕ × Pending)) (v : Volume) → (with_calls_ended status_of calls v).oplocks ≡ v.oplocks
   oplocks-calls status_of [] v = refl
@@ -66,7 +61,7 @@ module _ (who number : ℕ) where
 
   pub IsBareWait-calls : (status_of : What → Status) (calls : List (ℕ × Pending)) (v : Volume) → IsBareWait who number v → IsBareWait who number (with_calls_ended status_of calls v)
   IsBareWait-calls status_of calls v bare =
-      IsBareWait-fewer who number {v = v} {w = with_calls_ended status_of calls v} (λ turn. rw (oplocks-calls status_of calls v) (omega arith)) (pending-calls status_of calls v) bare
+      IsBareWait-fewer who number {v = v} {w = with_calls_ended status_of calls v} (λ turn. rw (oplocks-calls status_of calls v) (omega arith)) (fewer-calls_ended status_of calls v) bare
 
   pub Spares-calls : (status_of : What → Status) (test : Pending → Bool) (v : Volume) → ((p : Pending) → test p ≡ true → is_call who number p ≡ true → is_wait p.call.what ≡ true → ⊥)
       → Spares who number v (with_calls_ended status_of (pending_by_turn test v) v)

@@ -120,6 +120,27 @@ kept-same NameChange level within = both-within level RW within
 kept-same ReadOpen level within = both-within level RH within
 kept-same Change level within = both-within level Nil within
 
+-- where a pending call has this turn, it is what is found under the turn
+pub record IsUnder (turn client number : ℕ) (u : Volume) : Type 0 where
+  pub entry : ℕ × Pending
+  pub found : find (λ (e : ℕ × Pending). e.0 == turn) u.pending ≡ Some entry
+  pub its : is_call client number entry.1 ≡ true
+
+pub under-turn : (turn client number : ℕ) (u : Volume) → TurnsDiffer u → list_any (λ (e : ℕ × Pending). e.0 == turn && is_call client number e.1) u.pending ≡ true → IsUnder turn client number u
+under-turn turn client number u turns pends = elim (option_cases (find (λ (e : ℕ × Pending). e.0 == turn) u.pending)) [
+  | inl missing ↦ absurd (
+      let none = how_many-none (is_under turn) u.pending (find-none (is_under turn) u.pending missing) in
+      let there = how_many-some (λ (e : ℕ × Pending). e.0 == turn && is_call client number e.1) u.pending pends in
+      let weaker = how_many-weaker (λ (e : ℕ × Pending). e.0 == turn && is_call client number e.1) (is_under turn) u.pending (λ e both. and_left (e.0 == turn) (is_call client number e.1) both) in omega arith)
+  | inr entry ↦ elim (cases_Bool (is_call client number entry.0.1)) [
+    | inl is ↦ record { entry = entry.0; found = entry.1; its = is }
+    | inr isnt ↦ (
+        let there = find-any (is_under turn) (λ x. is_under turn x && not (is_call client number x.1)) u.pending entry.0 entry.1 (rw (find-passes (is_under turn) u.pending entry.0 entry.1, isnt) refl) in
+        let none = only-one (is_under turn) (λ x. is_call client number x.1) u.pending (turns turn) pends in
+        let impossible : true ≡ false = sym there ∙ none in cc)
+  ]
+]
+
 module _ (handle turn client number : ℕ) where
   -- the call was told just this level, of which breaks of the class take nothing
   abbrev pub is_fixed : Class → List EndOf → Level → Bool
@@ -257,23 +278,8 @@ module _ (handle turn client number : ℕ) where
   -- the call that is pending under the turn is told
   begins-tells : (u : Volume) (level : Level) → TurnsDiffer u → list_any (λ (e : ℕ × Pending). e.0 == turn && is_call client number e.1) u.pending ≡ true
       → is_told_level client number level (with_told u (Some turn) level true).ended ≡ true
-  begins-tells u level turns pends = elim (option_cases (find (λ (entry : ℕ × Pending). entry.0 == turn) u.pending)) [
-    | inl missing ↦ absurd (
-        let none = how_many-none (is_under turn) u.pending (find-none (is_under turn) u.pending missing) in
-        let there = how_many-some (λ (e : ℕ × Pending). e.0 == turn && is_call client number e.1) u.pending pends in
-        let weaker = how_many-weaker (λ (e : ℕ × Pending). e.0 == turn && is_call client number e.1) (is_under turn) u.pending (λ e both. and_left (e.0 == turn) (is_call client number e.1) both) in omega arith)
-    | inr entry ↦ rw entry.1 (of_entry entry.0 (its entry.0 entry.1))
-  ]
+  begins-tells u level turns pends = (let under = under-turn turn client number u turns pends in rw under.found (of_entry under.entry under.its))
     where
-      its : (e : ℕ × Pending) → find (λ (entry : ℕ × Pending). entry.0 == turn) u.pending ≡ Some e → is_call client number e.1 ≡ true
-      its e found = elim (cases_Bool (is_call client number e.1)) [
-        | inl is ↦ is
-        | inr isnt ↦ (
-            let there = find-any (is_under turn) (λ x. is_under turn x && not (is_call client number x.1)) u.pending e found (rw (find-passes (is_under turn) u.pending e found, isnt) refl) in
-            let none = only-one (is_under turn) (λ x. is_call client number x.1) u.pending (turns turn) pends in
-            let impossible : true ≡ false = sym there ∙ none in cc)
-      ]
-
       of_entry : (e : ℕ × Pending) → is_call client number e.1 ≡ true → is_told_level client number level (with_end u e.1.call.client e.1.call.number (telling level true)).ended ≡ true
       of_entry e is =
           let all = how_many-append (λ (end : EndOf). is_end client number end && tells_level level end.reply) u.ended (record { client = e.1.call.client; number = e.1.call.number; reply = telling level true } ∷ []) in

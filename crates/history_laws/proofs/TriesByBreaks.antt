@@ -1,6 +1,6 @@
 -- A try changes oplocks, pending calls and ends by breaks of one class alone, but for that of an oplock's request, an
 -- acknowledgement, an unlock, a close, a cancellation or a leaving: each request's definition is followed once. What breaks
--- nothing stands here with class Change; any would do.
+-- nothing stands here for any class, and for none.
 use Rattle.std.proofs.Common.{◌≡◌, ℕ, ◌+◌, Bool, true, false, not, List, length, refl, Option, Some, None}
 use Rattle.std.specs.Option.{option_map_or}
 use Rattle.std.specs.Prelude.{◌==◌, is_some}
@@ -36,6 +36,7 @@ use Rattle.fsa_model.specs.Security.{asks_something, set_security_at, set_securi
 use Rattle.fsa_model.specs.SetBasic.{Basics, basic_bits, set_basic_at, set_basic_by, set_basic_of, try_set_basic, with_basics, with_basics_noted}
 use Rattle.fsa_model.specs.SetDisposition.{delete_by, delete_marked, set_disposition_at, set_disposition_by, try_set_disposition, with_mark}
 use Rattle.fsa_model.specs.SetEnd.{set_end_at, set_end_by, set_end_grown, set_end_stream, set_end_to, try_set_end, with_end_set, with_resized}
+use Rattle.fsa_model.specs.Settling.{may_be_held}
 use Rattle.fsa_model.specs.Try.{try_request, try_what}
 use Rattle.fsa_model.specs.Volume.{Cursor, Handle, Link, Volume}
 use Rattle.fsa_model.specs.Close.{is_link_of_parent, is_link_over, is_stream_over, name_bit, named_stream, with_link_swept, with_mark_on_close, with_stream_swept, with_swept}
@@ -43,110 +44,110 @@ use Rattle.fsa_model.specs.Walk.{Walked, Reached, Barred, Diverted}
 use Rattle.fsa_model.specs.Write.{try_write, with_file_write_noted, with_stream_write_noted, with_write_noted, with_written, write_at, write_at_place, write_by, write_bytes, write_grown, write_range, write_stream, write_unlocked}
 use Rattle.fsa_model.specs.Waiting.{try_wait}
 use Rattle.fsa_model.specs.Watching.{notify_at, try_notify, watch_of, with_watch_begun, with_watch_seen}
-use Rattle.history_laws.proofs.ByBreaks.{ByBreaks, Locked, Still, TriesByBreaks, TriesByClass, by-breaks, by-if, by-next, by-noted, by-option, by-same, one-class, one-done, one-if, one-option, tries-breaks, tries-done, tries-held, tries-if, tries-option, tries-stays}
+use Rattle.history_laws.proofs.ByBreaks.{ByAtMost, ByBreaks, Locked, Still, TriesByBreaks, TriesByClass, by-breaks, by-if, by-next, by-noted, by-option, by-same, one-class, one-done, one-if, one-option, tries-breaks, tries-done, tries-held, tries-if, tries-option, tries-stays}
 
 ruleset going = (tries-breaks, tries-if, tries-option, tries-done, by-same)
 
 -- ---- edits
 
-write_noted : {kind : Class} (v : Volume) (link stream : ℕ) (longer : Bool) → ByBreaks kind v (with_write_noted v link stream longer)
+write_noted : {kind : Option Class} (v : Volume) (link stream : ℕ) (longer : Bool) → ByAtMost kind v (with_write_noted v link stream longer)
 write_noted v link stream longer = by-if _ (with_stream_write_noted v link stream longer) (with_file_write_noted v link longer) (by-noted v link _ _ (Some stream)) (by-noted v link _ _ None)
 
-written : {kind : Class} (v : Volume) (link stream at : ℕ) (bytes : List ℕ) → ByBreaks kind v (with_written v link stream at bytes)
+pub written : {kind : Option Class} (v : Volume) (link stream at : ℕ) (bytes : List ℕ) → ByAtMost kind v (with_written v link stream at bytes)
 written v link stream at bytes = by-next (write_noted v link stream _) (Still _ _ refl refl refl refl refl refl refl)
 
-pub without : {kind : Class} (v : Volume) (link : ℕ) → ByBreaks kind v (without_link v link)
+pub without : {kind : Option Class} (v : Volume) (link : ℕ) → ByAtMost kind v (without_link v link)
 without v link =
     by-option (row_of v.links link) (λ (row : Link). without_file_unless_linked (record v { links = without_row v.links link }) row.file) v
     (λ (row : Link). by-if (has_row (λ (other : Link). other.file == row.file) (without_row v.links link)) _ _ (Still v _ refl refl refl refl refl refl refl) (Still v _ refl refl refl refl refl refl refl)) (by-same v)
 
-replaced_link : {kind : Class} (v : Volume) (replaced : Option ℕ) → ByBreaks kind v (with_replaced v replaced)
+replaced_link : {kind : Option Class} (v : Volume) (replaced : Option ℕ) → ByAtMost kind v (with_replaced v replaced)
 replaced_link v replaced =
     by-option replaced (λ link. with_link_replaced v link) v (λ link. by-next (by-noted v link _ _ None) (without _ link)) (by-same v)
 
-move_noted : {kind : Class} (v : Volume) (naming : Naming) (dir old new : ℕ) → ByBreaks kind v (with_move_noted v naming dir old new)
+move_noted : {kind : Option Class} (v : Volume) (naming : Naming) (dir old new : ℕ) → ByAtMost kind v (with_move_noted v naming dir old new)
 move_noted v naming dir old new =
     by-next (by-noted v naming.link old _ None) (by-next (Still _ (with_link_moved (with_change_noted v naming.link old _ None) naming.link dir _) refl refl refl refl refl refl refl) (by-noted _ naming.link new _ None))
 
-link_renamed : {kind : Class} (v : Volume) (naming : Naming) (dir : ℕ) → ByBreaks kind v (with_link_renamed v naming dir)
+link_renamed : {kind : Option Class} (v : Volume) (naming : Naming) (dir : ℕ) → ByAtMost kind v (with_link_renamed v naming dir)
 link_renamed v naming dir = by-if (is_elsewhere v naming dir) _ _ (move_noted v naming dir _ _) (move_noted v naming dir _ _)
 
-renamed : {kind : Class} (v : Volume) (naming : Naming) (dir : ℕ) (replaced : Option ℕ) → ByBreaks kind v (with_renamed v naming dir replaced)
+pub renamed : {kind : Option Class} (v : Volume) (naming : Naming) (dir : ℕ) (replaced : Option ℕ) → ByAtMost kind v (with_renamed v naming dir replaced)
 renamed v naming dir replaced =
     let first : Volume = with_replaced v replaced in let second : Volume = with_link_renamed first naming dir in
     by-next (replaced_link v replaced) (by-next (link_renamed first naming dir) (Still second (with_renamed v naming dir replaced) refl refl refl refl refl refl refl))
 
-linked : {kind : Class} (v : Volume) (naming : Naming) (dir : ℕ) (replaced : Option ℕ) → ByBreaks kind v (with_linked v naming dir replaced)
+pub linked : {kind : Option Class} (v : Volume) (naming : Naming) (dir : ℕ) (replaced : Option ℕ) → ByAtMost kind v (with_linked v naming dir replaced)
 linked v naming dir replaced =
     let first : Volume = with_replaced v replaced in let second : Volume = with_link first dir (new_name naming) naming.file in let third : Volume = with_link_added first naming dir in
     by-next (replaced_link v replaced) (by-next (Still first second refl refl refl refl refl refl refl)
     (by-next (by-noted second (first.last_link + 1) FILE_ACTION_ADDED FILE_NOTIFY_CHANGE_FILE_NAME None) (Still third (with_linked v naming dir replaced) refl refl refl refl refl refl refl)))
 
-end_set : {kind : Class} (v : Volume) (link stream end : ℕ) → ByBreaks kind v (with_end_set v link stream end)
+pub end_set : {kind : Option Class} (v : Volume) (link stream end : ℕ) → ByAtMost kind v (with_end_set v link stream end)
 end_set v link stream end =
     by-if _ v (with_resized v link stream end) (by-same v) (by-next (write_noted v link stream true) (Still (with_write_noted v link stream true) (with_resized v link stream end) refl refl refl refl refl refl refl))
 
-locked : {kind : Class} (v : Volume) (handle at count : ℕ) (exclusive : Bool) → ByBreaks kind v (with_lock v handle at count exclusive)
+pub locked : {kind : Option Class} (v : Volume) (handle at count : ℕ) (exclusive : Bool) → ByAtMost kind v (with_lock v handle at count exclusive)
 locked v handle at count exclusive = Locked v handle at count exclusive
 
-mark : {kind : Class} (v : Volume) (handle : Handle) (delete : Bool) → ByBreaks kind v (with_mark v handle delete)
+pub mark : {kind : Option Class} (v : Volume) (handle : Handle) (delete : Bool) → ByAtMost kind v (with_mark v handle delete)
 mark v handle delete =
     by-option (named_stream v handle) (λ stream. with_stream_marked v stream delete) (with_link_marked v handle.link delete)
     (λ stream. Still v (with_stream_marked v stream delete) refl refl refl refl refl refl refl) (Still v (with_link_marked v handle.link delete) refl refl refl refl refl refl refl)
 
-cursor : {kind : Class} (v : Volume) (handle : ℕ) (expression : List ℕ) (place : Cursor) → ByBreaks kind v (with_cursor v handle expression place)
+cursor : {kind : Option Class} (v : Volume) (handle : ℕ) (expression : List ℕ) (place : Cursor) → ByAtMost kind v (with_cursor v handle expression place)
 cursor v handle expression place = Still v (with_cursor v handle expression place) refl refl refl refl refl refl refl
 
-basics : {kind : Class} (v : Volume) (link file : ℕ) (asked : Basics) → ByBreaks kind v (with_basics_noted v link file asked)
+basics : {kind : Option Class} (v : Volume) (link file : ℕ) (asked : Basics) → ByAtMost kind v (with_basics_noted v link file asked)
 basics {kind} v link file asked =
-    let set : ByBreaks kind v (with_basics v file asked) = Still v (with_basics v file asked) refl refl refl refl refl refl refl in
+    let set : ByAtMost kind v (with_basics v file asked) = Still v (with_basics v file asked) refl refl refl refl refl refl refl in
     by-if (basic_bits asked == 0) (with_basics v file asked) _ set (by-next set (by-noted (with_basics v file asked) link _ _ None))
 
-owned : {kind : Class} (v : Volume) (file : ℕ) (owner : Option ℕ) → ByBreaks kind v (with_owner_asked v file owner)
+owned : {kind : Option Class} (v : Volume) (file : ℕ) (owner : Option ℕ) → ByAtMost kind v (with_owner_asked v file owner)
 owned v file owner = by-option owner (λ sid. with_owner v file sid) v (λ sid. Still v (with_owner v file sid) refl refl refl refl refl refl refl) (by-same v)
 
-listed : {kind : Class} (v : Volume) (file : ℕ) (dacl : DaclChange) → ByBreaks kind v (with_dacl_asked v file dacl)
+listed : {kind : Option Class} (v : Volume) (file : ℕ) (dacl : DaclChange) → ByAtMost kind v (with_dacl_asked v file dacl)
 listed v file Keep = by-same v
 listed v file Remove = Still v (with_dacl_asked v file Remove) refl refl refl refl refl refl refl
 listed v file (Put dacl) = Still v (with_dacl_asked v file (Put dacl)) refl refl refl refl refl refl refl
 
-secured : {kind : Class} (v : Volume) (link file : ℕ) (owner : Option ℕ) (dacl : DaclChange) → ByBreaks kind v (with_security v link file owner dacl)
+secured : {kind : Option Class} (v : Volume) (link file : ℕ) (owner : Option ℕ) (dacl : DaclChange) → ByAtMost kind v (with_security v link file owner dacl)
 secured v link file owner dacl =
     let first : Volume = with_owner_asked v file owner in let second : Volume = with_dacl_asked first file dacl in let third : Volume = with_change_time second file in
     by-next (owned v file owner) (by-next (listed first file dacl) (by-next (Still second third refl refl refl refl refl refl refl)
     (by-if (asks_something owner dacl) _ third (by-noted third link _ _ None) (by-same third))))
 
-pointed : {kind : Class} (v : Volume) (link file : ℕ) (point : Option (ℕ × List ℕ)) → ByBreaks kind v (with_point_noted v link file point)
+pointed : {kind : Option Class} (v : Volume) (link file : ℕ) (point : Option (ℕ × List ℕ)) → ByAtMost kind v (with_point_noted v link file point)
 pointed v link file point = by-next (Still v (with_point v file point) refl refl refl refl refl refl refl) (by-noted (with_point v file point) link _ _ None)
 
-limited : {kind : Class} (v : Volume) (sid bytes : ℕ) → ByBreaks kind v (with_limit v sid bytes)
+limited : {kind : Option Class} (v : Volume) (sid bytes : ℕ) → ByAtMost kind v (with_limit v sid bytes)
 limited v sid bytes = Still v (with_limit v sid bytes) refl refl refl refl refl refl refl
 
-opened_so : {kind : Class} (u v : Volume) (asked : Asked) (link : ℕ) (stream : Option ℕ) → ByBreaks kind u v → ByBreaks kind u (with_open v asked link stream)
+opened_so : {kind : Option Class} (u v : Volume) (asked : Asked) (link : ℕ) (stream : Option ℕ) → ByAtMost kind u v → ByAtMost kind u (with_open v asked link stream)
 opened_so u v asked link stream first = by-next first (Still v (with_open v asked link stream) refl refl refl refl refl refl refl)
 
-overwritten : {kind : Class} (u v : Volume) (asked : Asked) (link file stream : ℕ) → ByBreaks kind u v → ByBreaks kind u (with_overwritten v asked link file stream)
+overwritten : {kind : Option Class} (u v : Volume) (asked : Asked) (link file stream : ℕ) → ByAtMost kind u v → ByAtMost kind u (with_overwritten v asked link file stream)
 overwritten u v asked link file stream first =
     let noted : Volume = with_overwrite_noted v link stream (names_stream asked.path) in
     by-next first (by-next (by-if (names_stream asked.path) _ _ (by-noted v link _ _ (Some stream)) (by-noted v link _ _ None))
     (Still noted (with_overwritten v asked link file stream) refl refl refl refl refl refl refl))
 
-new_stream : {kind : Class} (v : Volume) (asked : Asked) (link file : ℕ) → ByBreaks kind v (with_new_stream v asked link file)
+new_stream : {kind : Option Class} (v : Volume) (asked : Asked) (link file : ℕ) → ByAtMost kind v (with_new_stream v asked link file)
 new_stream v asked link file =
     let opened : Volume = with_open (with_stream v file (stream_name asked.path)) asked link (Some (v.last_stream + 1)) in
     by-next (Still v opened refl refl refl refl refl refl refl) (by-noted opened link _ _ (Some (v.last_stream + 1)))
 
-new_file : {kind : Class} (v : Volume) (asked : Asked) (dir : ℕ) (name : List ℕ) → ByBreaks kind v (with_new_file v asked dir name)
+new_file : {kind : Option Class} (v : Volume) (asked : Asked) (dir : ℕ) (name : List ℕ) → ByAtMost kind v (with_new_file v asked dir name)
 new_file v asked dir name =
     let opened : Volume = with_open (with_file_made v asked dir name) asked (v.last_link + 1) (Some (v.last_stream + 1)) in
     by-next (Still v opened refl refl refl refl refl refl refl) (by-noted opened (v.last_link + 1) FILE_ACTION_ADDED FILE_NOTIFY_CHANGE_FILE_NAME None)
 
-new_directory : {kind : Class} (v : Volume) (asked : Asked) (dir : ℕ) (name : List ℕ) → ByBreaks kind v (with_new_directory v asked dir name)
+new_directory : {kind : Option Class} (v : Volume) (asked : Asked) (dir : ℕ) (name : List ℕ) → ByAtMost kind v (with_new_directory v asked dir name)
 new_directory v asked dir name =
     let opened : Volume = with_open (with_directory_made v asked dir name) asked (v.last_link + 1) None in
     by-next (Still v opened refl refl refl refl refl refl refl) (by-noted opened (v.last_link + 1) FILE_ACTION_ADDED FILE_NOTIFY_CHANGE_DIR_NAME None)
 
-new_both : {kind : Class} (v : Volume) (asked : Asked) (dir : ℕ) (name : List ℕ) → ByBreaks kind v (with_new_file_and_stream v asked dir name)
+new_both : {kind : Option Class} (v : Volume) (asked : Asked) (dir : ℕ) (name : List ℕ) → ByAtMost kind v (with_new_file_and_stream v asked dir name)
 new_both v asked dir name =
     let opened : Volume = with_open (with_stream (with_file_made v asked dir name) (v.last_file + 1) (stream_name asked.path)) asked (v.last_link + 1) (Some (v.last_stream + 2)) in
     let noted : Volume = with_change_noted opened (v.last_link + 1) FILE_ACTION_ADDED FILE_NOTIFY_CHANGE_FILE_NAME None in
@@ -155,71 +156,71 @@ new_both v asked dir name =
 
 -- ---- reads, writes, flushes, new lengths and locks
 
-read : (v : Volume) (client handle at count : ℕ) → TriesByClass ReadOpen v (try_read v client handle at count)
+read : (v : Volume) (client handle at count : ℕ) → TriesByClass (Some ReadOpen) v (try_read v client handle at count)
 unfolding try_read read_at read_by read_stream read_range read_unlocked read_bytes
 read v client handle at count = search going depth 60 fits 4000
 
-write : (v : Volume) (client handle : ℕ) (at : Option ℕ) (bytes : List ℕ) → TriesByClass Change v (try_write v client handle at bytes)
+write : (v : Volume) (client handle : ℕ) (at : Option ℕ) (bytes : List ℕ) → TriesByClass (Some Change) v (try_write v client handle at bytes)
 unfolding try_write write_at write_by write_stream write_at_place write_range write_unlocked write_grown write_bytes
 write v client handle at bytes = search (going, written) depth 60 fits 4000
 
-flush : (v : Volume) (client handle : ℕ) → TriesByClass Change v (try_flush v client handle)
+pub flush : {kind : Option Class} (v : Volume) (client handle : ℕ) → TriesByClass kind v (try_flush v client handle)
 unfolding try_flush flush_at
 flush v client handle = search going depth 60 fits 4000
 
-set_end : (v : Volume) (client handle end : ℕ) → TriesByClass Change v (try_set_end v client handle end)
+set_end : (v : Volume) (client handle end : ℕ) → TriesByClass (Some Change) v (try_set_end v client handle end)
 unfolding try_set_end set_end_at set_end_by set_end_stream set_end_to set_end_grown
 set_end v client handle end = search (going, end_set) depth 60 fits 4000
 
-lock : (v : Volume) (client handle at count : ℕ) (exclusive wait : Bool) → TriesByClass Change v (try_lock v client handle at count exclusive wait)
+lock : (v : Volume) (client handle at count : ℕ) (exclusive wait : Bool) → TriesByClass (Some Change) v (try_lock v client handle at count exclusive wait)
 unfolding try_lock lock_at lock_by lock_stream lock_range lock_free
 lock v client handle at count exclusive wait = search (going, tries-held, locked) depth 60 fits 4000
 
 -- ---- names
 
-stops : {kind : Class} (v : Volume) (file : ℕ) (rest : List ℕ) → TriesByClass kind v (stopped v file rest)
+stops : {kind : Option Class} (v : Volume) (file : ℕ) (rest : List ℕ) → TriesByClass kind v (stopped v file rest)
 unfolding stopped
 stops v file rest = search going depth 60 fits 4000
 
-rename_goes : (v : Volume) (naming : Naming) (dir : ℕ) → TriesByClass NameChange v (rename_into v naming dir)
+rename_goes : (v : Volume) (naming : Naming) (dir : ℕ) → TriesByClass (Some NameChange) v (rename_into v naming dir)
 unfolding rename_into rename_directory rename_below_closed rename_named rename_over rename_over_broken rename_over_closed rename_free rename_done
 rename_goes v naming dir = search (going, renamed) depth 60 fits 4000
 
-rename_walks : (v : Volume) (naming : Naming) (walked : Walked) → TriesByClass NameChange v (rename_walked v naming walked)
+rename_walks : (v : Volume) (naming : Naming) (walked : Walked) → TriesByClass (Some NameChange) v (rename_walked v naming walked)
 unfolding rename_walked
 rename_walks v naming (Reached dir) = rename_goes v naming dir
 rename_walks v naming (Barred status) = tries-done (by-same v)
 rename_walks v naming (Diverted file next) = stops v file _
 
-rename : (v : Volume) (client handle : ℕ) (path : List ℕ) (replace : Bool) → TriesByClass NameChange v (try_rename v client handle path replace)
+rename : (v : Volume) (client handle : ℕ) (path : List ℕ) (replace : Bool) → TriesByClass (Some NameChange) v (try_rename v client handle path replace)
 unfolding try_rename rename_at rename_by rename_link
 rename v client handle path replace = search (going, rename_walks) depth 60 fits 4000
 
-link_goes : (v : Volume) (naming : Naming) (dir : ℕ) → TriesByClass NameChange v (link_into v naming dir)
+link_goes : (v : Volume) (naming : Naming) (dir : ℕ) → TriesByClass (Some NameChange) v (link_into v naming dir)
 unfolding link_into link_over link_over_other link_over_broken link_over_closed
 link_goes v naming dir = search (going, linked) depth 60 fits 4000
 
-link_walks : (v : Volume) (naming : Naming) (walked : Walked) → TriesByClass NameChange v (link_walked v naming walked)
+link_walks : (v : Volume) (naming : Naming) (walked : Walked) → TriesByClass (Some NameChange) v (link_walked v naming walked)
 unfolding link_walked
 link_walks v naming (Reached dir) = link_goes v naming dir
 link_walks v naming (Barred status) = tries-done (by-same v)
 link_walks v naming (Diverted file next) = stops v file _
 
-link : (v : Volume) (client handle : ℕ) (path : List ℕ) (replace : Bool) → TriesByClass NameChange v (try_link v client handle path replace)
+link : (v : Volume) (client handle : ℕ) (path : List ℕ) (replace : Bool) → TriesByClass (Some NameChange) v (try_link v client handle path replace)
 unfolding try_link link_at link_by link_file
 link v client handle path replace = search (going, link_walks) depth 60 fits 4000
 
-set_disposition : (v : Volume) (client handle : ℕ) (delete : Bool) → TriesByClass NameChange v (try_set_disposition v client handle delete)
+set_disposition : (v : Volume) (client handle : ℕ) (delete : Bool) → TriesByClass (Some NameChange) v (try_set_disposition v client handle delete)
 unfolding try_set_disposition set_disposition_at set_disposition_by delete_by delete_marked
 set_disposition v client handle delete = search (going, mark) depth 60 fits 4000
 
 -- ---- listings, information, security, reparse points and quotas
 
-query_dir : (v : Volume) (client handle : ℕ) (kind : DirKind) (expression : List ℕ) (restart : Bool) (room : ℕ) → TriesByClass Change v (try_query_dir v client handle kind expression restart room)
+pub query_dir : {class : Option Class} (v : Volume) (client handle : ℕ) (kind : DirKind) (expression : List ℕ) (restart : Bool) (room : ℕ) → TriesByClass class v (try_query_dir v client handle kind expression restart room)
 unfolding try_query_dir query_dir_at query_dir_by query_dir_in list_entries
 query_dir v client handle kind expression restart room = search (going, cursor) depth 60 fits 4000
 
-query_kind : (v : Volume) (handle : Handle) (file : ℕ) (kind : InfoKind) (room : ℕ) → TriesByClass Change v (query_file v handle file kind room)
+query_kind : {class : Option Class} (v : Volume) (handle : Handle) (file : ℕ) (kind : InfoKind) (room : ℕ) → TriesByClass class v (query_file v handle file kind room)
 unfolding query_file query_streams_by query_streams
 query_kind v handle file Basic room = tries-done (by-same v)
 query_kind v handle file Standard room = tries-done (by-same v)
@@ -227,35 +228,35 @@ query_kind v handle file Internal room = tries-done (by-same v)
 query_kind v handle file Tag room = tries-done (by-same v)
 query_kind v handle file Streams room = search going depth 60 fits 4000
 
-query_info : (v : Volume) (client handle : ℕ) (kind : InfoKind) (room : ℕ) → TriesByClass Change v (try_query_info v client handle kind room)
+pub query_info : {class : Option Class} (v : Volume) (client handle : ℕ) (kind : InfoKind) (room : ℕ) → TriesByClass class v (try_query_info v client handle kind room)
 unfolding try_query_info query_info_at query_info_by
 query_info v client handle kind room = search (going, query_kind) depth 60 fits 4000
 
-set_basic : (v : Volume) (client handle : ℕ) (asked : Basics) → TriesByClass Change v (try_set_basic v client handle asked)
+pub set_basic : {kind : Option Class} (v : Volume) (client handle : ℕ) (asked : Basics) → TriesByClass kind v (try_set_basic v client handle asked)
 unfolding try_set_basic set_basic_at set_basic_by set_basic_of
 set_basic v client handle asked = search (going, basics) depth 60 fits 4000
 
-set_security : (v : Volume) (client handle : ℕ) (owner : Option ℕ) (dacl : DaclChange) → TriesByClass Change v (try_set_security v client handle owner dacl)
+pub set_security : {kind : Option Class} (v : Volume) (client handle : ℕ) (owner : Option ℕ) (dacl : DaclChange) → TriesByClass kind v (try_set_security v client handle owner dacl)
 unfolding try_set_security set_security_at set_security_by set_security_of
 set_security v client handle owner dacl = search (going, secured) depth 60 fits 4000
 
-set_reparse : (v : Volume) (client handle : ℕ) (bytes : List ℕ) → TriesByClass Change v (try_set_reparse v client handle bytes)
+pub set_reparse : {kind : Option Class} (v : Volume) (client handle : ℕ) (bytes : List ℕ) → TriesByClass kind v (try_set_reparse v client handle bytes)
 unfolding try_set_reparse set_reparse_at set_reparse_by set_buffer set_point
 set_reparse v client handle bytes = search (going, pointed) depth 60 fits 4000
 
-get_reparse : (v : Volume) (client handle room : ℕ) → TriesByClass Change v (try_get_reparse v client handle room)
+pub get_reparse : {kind : Option Class} (v : Volume) (client handle room : ℕ) → TriesByClass kind v (try_get_reparse v client handle room)
 unfolding try_get_reparse get_reparse_at get_reparse_by get_reparse_of get_point
 get_reparse v client handle room = search going depth 60 fits 4000
 
-delete_reparse : (v : Volume) (client handle tag : ℕ) → TriesByClass Change v (try_delete_reparse v client handle tag)
+pub delete_reparse : {kind : Option Class} (v : Volume) (client handle tag : ℕ) → TriesByClass kind v (try_delete_reparse v client handle tag)
 unfolding try_delete_reparse delete_reparse_at delete_reparse_by delete_reparse_of remove_point
 delete_reparse v client handle tag = search (going, pointed) depth 60 fits 4000
 
-set_quota : (v : Volume) (client sid bytes : ℕ) → TriesByClass Change v (try_set_quota v client sid bytes)
+pub set_quota : {kind : Option Class} (v : Volume) (client sid bytes : ℕ) → TriesByClass kind v (try_set_quota v client sid bytes)
 unfolding try_set_quota
 set_quota v client sid bytes = search (going, limited) depth 60 fits 4000
 
-query_quota : (v : Volume) (sid : ℕ) → TriesByClass Change v (try_query_quota v sid)
+pub query_quota : {kind : Option Class} (v : Volume) (sid : ℕ) → TriesByClass kind v (try_query_quota v sid)
 unfolding try_query_quota
 query_quota v sid = search going depth 60 fits 4000
 
@@ -309,12 +310,12 @@ marked_on_close v handle =
     (by-option (named_stream v handle) (λ stream. with_stream_marked v stream true) _ (λ stream. Still v (with_stream_marked v stream true) refl refl refl refl refl refl refl)
     (by-if (is_link_of_parent v handle.link) v (with_link_marked v handle.link true) (by-same v) (Still v (with_link_marked v handle.link true) refl refl refl refl refl refl refl)))
 
-stream_swept : {kind : Class} (v : Volume) (link stream : ℕ) → ByBreaks kind v (with_stream_swept v link stream)
+stream_swept : {kind : Option Class} (v : Volume) (link stream : ℕ) → ByAtMost kind v (with_stream_swept v link stream)
 stream_swept v link stream =
     let noted : Volume = with_change_noted v link FILE_ACTION_REMOVED_STREAM FILE_NOTIFY_CHANGE_STREAM_NAME (Some stream) in
     by-if (is_stream_over v stream) (without_stream noted stream) v (by-next (by-noted v link _ _ (Some stream)) (Still noted (without_stream noted stream) refl refl refl refl refl refl refl)) (by-same v)
 
-link_swept : {kind : Class} (v : Volume) (link : ℕ) → ByBreaks kind v (with_link_swept v link)
+link_swept : {kind : Option Class} (v : Volume) (link : ℕ) → ByAtMost kind v (with_link_swept v link)
 link_swept v link = by-if (is_link_over v link) _ v (by-next (by-noted v link FILE_ACTION_REMOVED (name_bit v link) None) (without (with_change_noted v link FILE_ACTION_REMOVED (name_bit v link) None) link)) (by-same v)
 
 pub swept : {kind : Class} (v : Volume) (handle : Handle) → ByBreaks kind v (with_swept v handle)
@@ -324,17 +325,17 @@ swept v handle =
 
 -- ---- watches and waits
 
-begun_watch : {kind : Class} (v : Volume) (id asked : ℕ) (whole : Bool) → ByBreaks kind v (with_watch_begun v id asked whole)
+begun_watch : {kind : Option Class} (v : Volume) (id asked : ℕ) (whole : Bool) → ByAtMost kind v (with_watch_begun v id asked whole)
 begun_watch v id asked whole = by-if (is_some (watch_of v id)) v _ (by-same v) (Still v (with_watch v id asked whole (length v.changes)) refl refl refl refl refl refl refl)
 
-seen_watch : {kind : Class} (u v : Volume) (id : ℕ) → ByBreaks kind u v → ByBreaks kind u (with_watch_seen v id)
+seen_watch : {kind : Option Class} (u v : Volume) (id : ℕ) → ByAtMost kind u v → ByAtMost kind u (with_watch_seen v id)
 seen_watch u v id first = by-next first (Still v (with_watch_seen v id) refl refl refl refl refl refl refl)
 
-notify : (v : Volume) (client handle asked : ℕ) (whole : Bool) (room : ℕ) → TriesByClass Change v (try_notify v client handle asked whole room)
+pub notify : {kind : Option Class} (v : Volume) (client handle asked : ℕ) (whole : Bool) (room : ℕ) → TriesByClass kind v (try_notify v client handle asked whole room)
 unfolding try_notify notify_at
 notify v client handle asked whole room = search (going, tries-stays, begun_watch, seen_watch) depth 40 fits 4000
 
-wait : (v : Volume) (client earlier : ℕ) → TriesByClass Change v (try_wait v client earlier)
+pub wait : {kind : Option Class} (v : Volume) (client earlier : ℕ) → TriesByClass kind v (try_wait v client earlier)
 unfolding try_wait
 wait v client earlier = search (going, tries-stays) depth 20
 
@@ -350,30 +351,40 @@ changes_otherwise (Ask (request.Cancel number)) = true
 changes_otherwise Leave = true
 changes_otherwise _ = false
 
+-- what can be held doesn't
+pub held-by_breaks : (what : What) → may_be_held what ≡ true → changes_otherwise what ≡ false
+held-by_breaks (Ask (request.Oplock handle level)) can = cc
+held-by_breaks (Ask (request.Ack handle level)) can = cc
+held-by_breaks (Ask (request.Unlock handle at count)) can = cc
+held-by_breaks (Ask (request.Close handle)) can = cc
+held-by_breaks (Ask (request.Cancel number)) can = cc
+held-by_breaks Leave can = cc
+held-by_breaks _ can = refl
+
 request-by_breaks : (v : Volume) (turn client call : ℕ) (asked : Request) → changes_otherwise (Ask asked) ≡ false → TriesByBreaks v (try_request v turn client call asked)
 request-by_breaks v turn client call (request.Create path wanted share disposition options attributes key) more = create v _
 request-by_breaks v turn client call (request.Read handle at count) more = one-class (read v client handle at count)
 request-by_breaks v turn client call (request.Write handle at bytes) more = one-class (write v client handle at bytes)
-request-by_breaks v turn client call (request.Flush handle) more = one-class (flush v client handle)
+request-by_breaks v turn client call (request.Flush handle) more = one-class {kind = Change} (flush v client handle)
 request-by_breaks v turn client call (request.SetEnd handle length) more = one-class (set_end v client handle length)
 request-by_breaks v turn client call (request.Lock handle at count exclusive wait) more = one-class (lock v client handle at count exclusive wait)
-request-by_breaks v turn client call (request.SetSecurity handle owner dacl) more = one-class (set_security v client handle owner dacl)
-request-by_breaks v turn client call (request.QueryDir handle kind expression restart room) more = one-class (query_dir v client handle kind expression restart room)
+request-by_breaks v turn client call (request.SetSecurity handle owner dacl) more = one-class {kind = Change} (set_security v client handle owner dacl)
+request-by_breaks v turn client call (request.QueryDir handle kind expression restart room) more = one-class {kind = Change} (query_dir v client handle kind expression restart room)
 request-by_breaks v turn client call (request.SetDisposition handle delete) more = one-class (set_disposition v client handle delete)
 request-by_breaks v turn client call (request.Rename handle path replace) more = one-class (rename v client handle path replace)
 request-by_breaks v turn client call (request.Link handle path replace) more = one-class (link v client handle path replace)
-request-by_breaks v turn client call (request.QueryInfo handle kind room) more = one-class (query_info v client handle kind room)
-request-by_breaks v turn client call (request.SetBasic handle creation access write change attributes) more = one-class (set_basic v client handle _)
-request-by_breaks v turn client call (request.SetReparse handle bytes) more = one-class (set_reparse v client handle bytes)
-request-by_breaks v turn client call (request.GetReparse handle room) more = one-class (get_reparse v client handle room)
-request-by_breaks v turn client call (request.DeleteReparse handle tag) more = one-class (delete_reparse v client handle tag)
-request-by_breaks v turn client call (request.SetQuota sid bytes) more = one-class (set_quota v client sid bytes)
-request-by_breaks v turn client call (request.QueryQuota sid) more = one-class (query_quota v sid)
-request-by_breaks v turn client call (request.Notify handle asked whole room) more = one-class (notify v client handle asked whole room)
+request-by_breaks v turn client call (request.QueryInfo handle kind room) more = one-class {kind = Change} (query_info v client handle kind room)
+request-by_breaks v turn client call (request.SetBasic handle creation access write change attributes) more = one-class {kind = Change} (set_basic v client handle _)
+request-by_breaks v turn client call (request.SetReparse handle bytes) more = one-class {kind = Change} (set_reparse v client handle bytes)
+request-by_breaks v turn client call (request.GetReparse handle room) more = one-class {kind = Change} (get_reparse v client handle room)
+request-by_breaks v turn client call (request.DeleteReparse handle tag) more = one-class {kind = Change} (delete_reparse v client handle tag)
+request-by_breaks v turn client call (request.SetQuota sid bytes) more = one-class {kind = Change} (set_quota v client sid bytes)
+request-by_breaks v turn client call (request.QueryQuota sid) more = one-class {kind = Change} (query_quota v sid)
+request-by_breaks v turn client call (request.Notify handle asked whole room) more = one-class {kind = Change} (notify v client handle asked whole room)
 request-by_breaks v turn client call _ more = cc
 
 pub what-by_breaks : (v : Volume) (turn client call : ℕ) (what : What) → changes_otherwise what ≡ false → TriesByBreaks v (try_what v turn client call what)
 what-by_breaks v turn client call (Ask asked) more = request-by_breaks v turn client call asked more
 what-by_breaks v turn client call (Tick ticks) more = one-done (Still v (with_ticks v ticks) refl refl refl refl refl refl refl)
-what-by_breaks v turn client call (WaitFor earlier) more = one-class (wait v client earlier)
+what-by_breaks v turn client call (WaitFor earlier) more = one-class {kind = Change} (wait v client earlier)
 what-by_breaks v turn client call Leave more = cc

@@ -129,7 +129,7 @@ differ-before history front later entry is differ client number =
     let first = how_many-append (is_entry_of client number) front (entry ∷ []) in
     omega arith
 
-steps-append : {S E : Type 0} (step : S → E → Option S) (s : S) (items more : List E) → steps step s (items ++ more) ≡ option_and_then (λ after. steps step after more) (steps step s items)
+pub steps-append : {S E : Type 0} (step : S → E → Option S) (s : S) (items more : List E) → steps step s (items ++ more) ≡ option_and_then (λ after. steps step after more) (steps step s items)
 steps-append step s [] more = refl
 steps-append {S} {E} step s (first ∷ items) more =
     elim (step s first) as (λ o. option_and_then (λ after. steps step after (items ++ more)) o ≡ option_and_then (λ after. steps step after more) (option_and_then (λ after. steps step after items) o)) [

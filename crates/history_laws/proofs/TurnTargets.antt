@@ -19,7 +19,7 @@ use Rattle.fsa_model.specs.Close.{close_at, handles_of_client, is_left_behind, p
 use Rattle.fsa_model.specs.Edits.{is_call, is_lock_on, with_end, without_oplock}
 use Rattle.fsa_model.specs.Engine.{CallsDiffer, own_tried}
 use Rattle.fsa_model.specs.Grant.{ack_at, ack_keeping, is_not_granted, oplock_at, oplock_by, oplock_on, switched, target_of, try_ack, try_oplock, with_granted, with_level_kept, with_switched}
-use Rattle.fsa_model.specs.History.{HistoryEntry}
+use Rattle.fsa_model.specs.History.{HistoryEntry, Run, run}
 use Rattle.fsa_model.specs.Locking.{try_unlock, unlock_at, unlock_by, unlock_range}
 use Rattle.fsa_model.specs.Lookups.{handle_of, has_left, number_of}
 use Rattle.fsa_model.specs.Once.{IsOnce, how_many, is_end, times}
@@ -32,7 +32,7 @@ use Rattle.fsa_model.specs.Try.{try, try_what}
 use Rattle.fsa_model.specs.Turn.{answered, settlement, turn_number, volume_after}
 use Rattle.fsa_model.specs.Volume.{Handle, Oplock, Pending, Volume}
 use Rattle.fsa_model.specs.Waiting.{is_granted_under, is_held, next_ready, try_cancel}
-use Rattle.fsa_model.proofs.CountLaws.{how_many-append, how_many-filter_le, how_many-map, how_many-weaker}
+use Rattle.fsa_model.proofs.CountLaws.{how_many-append, how_many-filter_le, how_many-map, how_many-weaker, and_left}
 use Rattle.fsa_model.proofs.EngineLaws.{new-before, run-before}
 use Rattle.fsa_model.proofs.GrantLaws.{oplocks-call_ended}
 use Rattle.fsa_model.proofs.OnceLaws.{SameBlockers, blockers-calls_ended}
@@ -176,15 +176,11 @@ later-targets u v w more oplocks ended told handle turn client number held pends
     by o is = elim (option_cases o.target) [
       | inl none ↦ rw none (rw none at is)
       | inr target ↦ elim (cases_Bool (is_told_level client number target.0 v.ended)) [
-        | inr untold ↦ rw (target.1, untold) (let here : (o.handle == handle) ≡ true = left (o.handle == handle) _ is in rw here refl)
+        | inr untold ↦ rw (target.1, untold) (let here : (o.handle == handle) ≡ true = and_left (o.handle == handle) _ is in rw here refl)
         | inl tells ↦ (let still = any-push (λ (end : EndOf). is_end client number end && tells_level target.0 end.reply) v.ended more tells in
             let impossible : false ≡ true = sym (and_none (o.handle == handle) false refl) ∙ rw (target.1, still) at is in cc)
       ]
     ]
-      where
-        left : (a b : Bool) → (a && b) ≡ true → a ≡ true
-        left true b is = refl
-        left false b is = is
 
 same-targets : (v w : Volume) → HasOneOplockEach v → w.oplocks ≡ v.oplocks → TellsTarget v w
 same-targets v w one_each same = unbroken-tells v w one_each (BeginsNone.fewer (begins-same v w same))
@@ -223,7 +219,7 @@ step-targets (suc steps) s apart = elim (option_cases (next_ready s.volume)) [
 ]
 
 -- between turns, and in a settlement
-pub apart-back : (v : Volume) → MaySettle v → IsOnce v → MayBack v → AreApart v
+apart-back : (v : Volume) → MaySettle v → IsOnce v → MayBack v → AreApart v
 apart-back v may once back = record {
   one = may.oplocks;
   grants = one v may back;
@@ -231,12 +227,16 @@ apart-back v may once back = record {
   calls = λ client number. (let few : times client number v ≤ 1 = once client number in omega arith);
 }
 
-pub told-targets : (setup : Setup) (history : List HistoryEntry) → CallsDiffer history → ToldTargets setup history
-told-targets setup history differ front later entry r is runs = record {
-  tried = own-targets r.volume entry.call (apart-back r.volume may.take_up.may may.take_up.once back);
-  stepped = λ steps. step-targets steps (record { volume = own_tried r.volume entry.call; starved = entry.starved; taken = [] }) so_far;
-  stalled = same-targets (taken_up_all (own_tried r.volume entry.call) entry.starved).volume (settlement r.volume entry.call entry.starved).volume (so_far (length (own_tried r.volume entry.call).pending)).one
-      (SameBlockers.oplocks (blockers-stalled (taken_up_all (own_tried r.volume entry.call) entry.starved).volume));
+-- in a turn of a history, as it begins and in its settlement
+pub record ApartIn (v : Volume) (entry : HistoryEntry) : Type 0 where
+  pub before : AreApart v
+  pub so_far : (steps : ℕ) → AreApart (settling_after v entry.call entry.starved steps).volume
+
+pub turn-apart : (setup : Setup) (history front later : List HistoryEntry) (entry : HistoryEntry) (r : Run) → CallsDiffer history → history ≡ front ++ entry ∷ later → run setup front ≡ Some r
+    → ApartIn r.volume entry
+turn-apart setup history front later entry r differ is runs = record {
+  before = apart-back r.volume may.take_up.may may.take_up.once back;
+  so_far = λ steps. (let come = goes r.volume entry.call entry.starved may new back steps in apart-back (settling_after r.volume entry.call entry.starved steps).volume come.0.may come.0.once come.1);
 }
   where
     differ_to : CallsDiffer (front ++ entry ∷ [])
@@ -251,5 +251,12 @@ told-targets setup history differ front later entry r is runs = record {
     back : MayBack r.volume
     back = run-may_back setup front r (differ-front front (entry ∷ []) differ_to) runs
 
-    so_far : (steps : ℕ) → AreApart (settling_after r.volume entry.call entry.starved steps).volume
-    so_far steps = (let come = goes r.volume entry.call entry.starved may new back steps in apart-back (settling_after r.volume entry.call entry.starved steps).volume come.0.may come.0.once come.1)
+pub told-targets : (setup : Setup) (history : List HistoryEntry) → CallsDiffer history → ToldTargets setup history
+told-targets setup history differ front later entry r is runs =
+    let apart = turn-apart setup history front later entry r differ is runs in
+    record {
+      tried = own-targets r.volume entry.call apart.before;
+      stepped = λ steps. step-targets steps (record { volume = own_tried r.volume entry.call; starved = entry.starved; taken = [] }) apart.so_far;
+      stalled = same-targets (taken_up_all (own_tried r.volume entry.call) entry.starved).volume (settlement r.volume entry.call entry.starved).volume (apart.so_far (length (own_tried r.volume entry.call).pending)).one
+          (SameBlockers.oplocks (blockers-stalled (taken_up_all (own_tried r.volume entry.call) entry.starved).volume));
+    }

@@ -2,7 +2,7 @@
 use Rattle.std.proofs.Common.{◌≡◌, ℕ, zero, suc, ◌+◌, ◌≤◌, Bool, true, false, not, List, [], ◌∷◌, ◌++◌, refl, ap, sym, ◌∙◌, arith, inl, inr, Some}
 use Rattle.std.specs.List.{filter, list_any}
 use Rattle.std.specs.Prelude.{◌==◌, ◌&&◌, ◌||◌, map, nat_le, nat_lt, slice_index_or}
-use Rattle.std.proofs.lemmas.Bool.{cases_Bool, eqb-true, lt-ltb}
+use Rattle.std.proofs.lemmas.Bool.{cases_Bool, eqb-true, lt-ltb, or_right}
 use Rattle.fsa_types.specs.declared.reply.Blocker.{Blocker}
 use Rattle.fsa_types.specs.declared.reply.Body.TheVariants.{Nothing}
 use Rattle.fsa_types.specs.declared.reply.EndOf.{EndOf}
@@ -38,14 +38,11 @@ use Rattle.fsa_model.proofs.TryLaws.{Tries, TriesTo, Leaves}
 use Rattle.fsa_model.proofs.TurnLaws.{TriedTo, Turns, try-keeps}
 use Rattle.fsa_model.proofs.WatchLaws.{comes_over}
 use Rattle.history_laws.specs.WaitEnds.{cancels, cancels_in, ends_otherwise, is_cancel_of, is_wait_end, leaves, leaves_in}
-use Rattle.history_laws.proofs.LeavingLaws.{leave_isnt_held}
+use Rattle.history_laws.proofs.LeavingLaws.{leave_isnt_held, answered_left}
 use Rattle.history_laws.proofs.SpareLaws.{IsBareWait, IsBareWait-fewer, Spares}
 use Rattle.history_laws.proofs.SpareOwn.{IsBareWait-calls, all_closed, left-calls, KeepsEnds, TriesKeep, try-keeps_ends}
 use Rattle.history_laws.proofs.TurnByTurn.{Differ, Parts, differ-front, from-keeps, new-call, own-may, parts, run-keeps, settled-keeps, taken_up-keeps}
-
-or_true : (b : Bool) → (b || true) ≡ true
-or_true true = refl
-or_true false = refl
+use Rattle.history_laws.proofs.AnyLaws.{and_none}
 
 module _ (who number : ℕ) (fine : Reply → Bool) where
   -- each end of the call is one of these
@@ -105,10 +102,6 @@ module _ (who number : ℕ) (fine : Reply → Bool) where
     none = λ turn some. (let many = granted turn in let few = fewer (λ under call. under == turn && (call.client == who && call.number == number)) in let none = bare.none turn (omega arith) in omega arith);
   }
 
-  never : (b : Bool) → (b && false) ≡ false
-  never true = refl
-  never false = refl
-
   held-goes_on : (what : What) → may_be_held what ≡ true → (is_leave what || is_cancel_of number what) ≡ false
   held-goes_on (Ask (Cancel other)) held = (let impossible : false ≡ true = held in cc)
   held-goes_on Leave held = (let impossible : false ≡ true = held in cc)
@@ -149,7 +142,7 @@ module _ (who number : ℕ) (fine : Reply → Bool) where
           | inl starving ↦ rw starving (fine-more s.volume.ended (record { client = entry.1.call.client; number = entry.1.call.number; reply = record { status = NoMemory; body = Nothing } })
               (λ is. (let impossible : true ≡ false = sym is ∙ other in cc)) well.ended)
           | inr plenty ↦ rw plenty (fine-tried entry.0 entry.1 (try s.volume entry.1.call entry.0) other
-              (fine-try s.volume entry.1.call entry.0 well (rw (held-goes_on entry.1.call.what (next-may_be_held s.volume entry may next held)) (never (entry.1.call.client == who)))))
+              (fine-try s.volume entry.1.call entry.0 well (rw (held-goes_on entry.1.call.what (next-may_be_held s.volume entry may next held)) (and_none (entry.1.call.client == who) false refl))))
         ]))
   ]
 
@@ -186,7 +179,7 @@ module _ (who number : ℕ) (fine : Reply → Bool) where
         let few = fewer (λ e. is_call who number e.1 && not (is_wait e.1.call.what)) in let none = bare.waits in omega arith);
     none = λ turn some.
         (let pushed = how_many-append (λ e. is_under turn e && is_call who number e.1) w.pending ((turn_number v, record { call = call; blockers = blockers }) ∷ []) in
-        let gone : (is_under turn (turn_number v, record { call = call; blockers = blockers }) && is_call who number (record { call = call; blockers = blockers })) ≡ false = rw other (never (turn_number v == turn)) in
+        let gone : (is_under turn (turn_number v, record { call = call; blockers = blockers }) && is_call who number (record { call = call; blockers = blockers })) ≡ false = rw other (and_none (turn_number v == turn) false refl) in
         let all : how_many (λ e. is_under turn e && is_call who number e.1) (w.pending ++ (turn_number v, record { call = call; blockers = blockers }) ∷ []) ≡ how_many (λ e. is_under turn e && is_call who number e.1) w.pending + (0 + 0) = rw gone at pushed in
         let few = fewer (λ e. is_under turn e && is_call who number e.1) in
         elim (cases_Bool (turn_number v == turn)) [
@@ -269,7 +262,7 @@ module _ (who number : ℕ) (fine : Reply → Bool) where
     bare = record {
       waits =
           (let pushed = how_many-append (λ e. is_call who number e.1 && not (is_wait e.1.call.what)) v.pending ((turn_number v, record { call = call; blockers = [] }) ∷ []) in
-          let right : (is_call who number (record { call = call; blockers = [] }) && not (is_wait call.what)) ≡ false = rw waits (never (is_call who number (record { call = call; blockers = [] }))) in
+          let right : (is_call who number (record { call = call; blockers = [] }) && not (is_wait call.what)) ≡ false = rw waits (and_none (is_call who number (record { call = call; blockers = [] })) false refl) in
           let all : how_many (λ e. is_call who number e.1 && not (is_wait e.1.call.what)) (v.pending ++ (turn_number v, record { call = call; blockers = [] }) ∷ []) ≡ how_many (λ e. is_call who number e.1 && not (is_wait e.1.call.what)) v.pending + (0 + 0) = rw right at pushed in
           let before = (well-new v none).bare.waits in omega arith);
       none = λ turn some. elim (cases_Bool (turn_number v == turn)) [
@@ -342,7 +335,7 @@ module _ (who number : ℕ) (fine : Reply → Bool) where
         → WellOn (settlement v entry.call entry.starved).volume later
     well-on v entry later may differ turns on = record {
       there = (let one = turns.times who number in let same_times : times who number (settlement v entry.call entry.starved).volume ≡ times who number v + 0 = rw other at one in let there = on.there in omega arith);
-      cancelled = λ behind. on.cancelled (rw behind (or_true (cancels who number entry.call)));
+      cancelled = λ behind. on.cancelled (rw behind (or_right (cancels who number entry.call) true refl));
       well = well-settled v entry.call entry.starved (own-may v entry.call may (new-call v entry later differ)) (well-own success v entry.call may on.well other (λ here. on.cancelled (rw here refl)));
     }
       where
@@ -413,13 +406,9 @@ module _ (who : ℕ) where
     | inl held ↦ rw held (elim (cases_Bool (starves s.starved entry.1)) [
       | inl starving ↦ rw starving refl
       | inr plenty ↦ rw plenty (rw (left-tried entry.0 entry.1 (try s.volume entry.1.call entry.0))
-          (left-try s.volume entry.1.call entry.0 (rw (leave_isnt_held entry.1.call.what (next-may_be_held s.volume entry may next held)) (never (entry.1.call.client == who)))))
+          (left-try s.volume entry.1.call entry.0 (rw (leave_isnt_held entry.1.call.what (next-may_be_held s.volume entry may next held)) (and_none (entry.1.call.client == who) false refl))))
     ])
   ]
-    where
-      never : (b : Bool) → (b && false) ≡ false
-      never true = refl
-      never false = refl
 
   pub left-stalled : (v : Volume) → (with_stalled v).left ≡ v.left
   left-stalled v = elim (cases_Bool (all_wait v)) [
@@ -427,16 +416,11 @@ module _ (who : ℕ) where
     | inr some ↦ rw some refl
   ]
 
-  left-answered : (call : Call) (turn : ℕ) (outcome : Outcome) → (answered call turn outcome).left ≡ (volume_after outcome).left
-  left-answered call turn (Done v reply) = refl
-  left-answered call turn (Stay v interim) = refl
-  left-answered call turn (Hold v blockers interim) = refl
-
   left-turn : (v : Volume) (call : Call) (starved : List CallId) → MaySettle (own_tried v call) → leaves who call ≡ false → has_left (settlement v call starved).volume who ≡ has_left v who
   left-turn v call starved may stays =
       settled-keeps (λ w. has_left w who ≡ has_left v who) (λ s entry may next same. left-taken_up s entry may next ∙ same) v call starved may
       (λ same. ap (λ (left : List Bool). slice_index_or left who false) (left-stalled (taken_up_all (own_tried v call) starved).volume) ∙ same)
-      (ap (λ (left : List Bool). slice_index_or left who false) (left-answered call (turn_number v) (try v call (turn_number v))) ∙ left-try v call (turn_number v) stays)
+      (ap (λ (left : List Bool). slice_index_or left who false) (answered_left call (turn_number v) (try v call (turn_number v))) ∙ left-try v call (turn_number v) stays)
 
 -- none has left at first
 fresh-left : (setup : Setup) (who : ℕ) → has_left (fresh setup) who ≡ false
@@ -459,7 +443,7 @@ leaves-on who entries v entry later may differ on = record {
     | inl now ↦ on.goes (rw now refl)
     | inr stays ↦ on.gone (sym (left-turn who v entry.call entry.starved (own-may v entry.call may (new-call v entry later differ)) stays) ∙ gone)
   ];
-  goes = λ behind. on.goes (rw behind (or_true (leaves who entry.call)));
+  goes = λ behind. on.goes (rw behind (or_right (leaves who entry.call) true refl));
 }
 
 left-run : (setup : Setup) (who : ℕ) (front : List HistoryEntry) (r : Run) → CallsDiffer front → run setup front ≡ Some r → has_left r.volume who ≡ true → leaves_in who front ≡ true

@@ -40,6 +40,7 @@ use Rattle.history_laws.proofs.SpareLaws.{IsBareWait, IsBareWait-fewer}
 use Rattle.history_laws.proofs.SpareOwn.{IsBareWait-calls}
 use Rattle.history_laws.proofs.WaitRuns.{AreFine, bare-answered, bare-onward, fine-answered, fine-any, fine-calls, fine-more, fine-taken_up, granted-taken_up, held_other, well-new, well-stays}
 use Rattle.history_laws.proofs.TurnByTurn.{Differ, Parts, from-keeps, new-call, own-may, parts, settled-keeps}
+use Rattle.history_laws.proofs.AnyLaws.{and_none}
 
 -- ---- ends are only added
 
@@ -200,16 +201,12 @@ module _ (who number awaited : ℕ) where
         ];
       }
 
-  never_both : (b : Bool) → (b && false) ≡ false
-  never_both true = refl
-  never_both false = refl
-
   waited-stays : (v : Volume) (call : Call) → MayTurn v → times who number v ≡ 0 → is_wait call.what ≡ true → is_wait_for awaited call.what ≡ true → IsAwaited (with_pending v (turn_number v) call [])
   waited-stays v call may none waits for = record {
     bare = (well-stays who number unsuccessful v call may none waits).bare;
     only =
         (let pushed = how_many-append (λ e. is_call who number e.1 && not (is_wait_for awaited e.1.call.what)) v.pending ((turn_number v, record { call = call; blockers = [] }) ∷ []) in
-        let right : (is_call who number (record { call = call; blockers = [] }) && not (is_wait_for awaited call.what)) ≡ false = rw for (never_both (is_call who number (record { call = call; blockers = [] }))) in
+        let right : (is_call who number (record { call = call; blockers = [] }) && not (is_wait_for awaited call.what)) ≡ false = rw for (and_none (is_call who number (record { call = call; blockers = [] })) false refl) in
         let all : how_many (λ e. is_call who number e.1 && not (is_wait_for awaited e.1.call.what)) (v.pending ++ (turn_number v, record { call = call; blockers = [] }) ∷ []) ≡ how_many (λ e. is_call who number e.1 && not (is_wait_for awaited e.1.call.what)) v.pending + (0 + 0) = rw right at pushed in
         let before = (waited-new v none).only in omega arith);
     so = (waited-new v none).so;

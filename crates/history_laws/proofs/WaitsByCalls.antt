@@ -3,11 +3,10 @@
 -- definition. A rename has up to three sets: one that goes on past those below a directory and of the link that it replaces has
 -- found no handle of them open, so it has broken nothing there, and tests the set of its own link in the volume that it began
 -- with.
-use Rattle.std.proofs.Common.{◌≡◌, ℕ, ◌+◌, Bool, true, false, not, List, [], ◌∷◌, length, refl, ap, inl, inr, Option, Some, None}
+use Rattle.std.proofs.Common.{◌≡◌, ℕ, Bool, true, false, not, List, [], ◌∷◌, length, refl, ap, inl, inr, Option, Some, None}
 use Rattle.std.specs.Option.{option_map_or}
 use Rattle.std.specs.Prelude.{◌==◌, filter, fold, if◌then◌else◌}
-use Rattle.std.proofs.lemmas.Bool.{cases_Bool}
-use Rattle.fsa_types.specs.Masks.{IO_REPARSE_TAG_SYMLINK}
+use Rattle.std.proofs.lemmas.Bool.{cases_Bool, not-true}
 use Rattle.fsa_types.specs.OplockLists.{effect_on}
 use Rattle.fsa_types.specs.Paths.{components}
 use Rattle.fsa_types.specs.Rows.{row_of}
@@ -31,7 +30,7 @@ use Rattle.fsa_model.specs.Frame.{asks_create}
 use Rattle.fsa_model.specs.Link.{link_at, link_by, link_file, link_into, link_over, link_over_broken, link_over_other, link_walked, try_link}
 use Rattle.fsa_model.specs.Locking.{lock_at, lock_by, lock_range, lock_stream, try_lock}
 use Rattle.fsa_model.specs.Lookups.{handle_of, has_row, is_directory, is_on, linked_file}
-use Rattle.fsa_model.specs.Open.{stop_status, stopped}
+use Rattle.fsa_model.specs.Open.{stopped}
 use Rattle.fsa_model.specs.Outcome.{Outcome, Done, Stay, Hold, refused}
 use Rattle.fsa_model.specs.Read.{read_at, read_by, read_range, read_stream, try_read}
 use Rattle.fsa_model.specs.Rename.{naming_by, rename_at, rename_below_closed, rename_by, rename_directory, rename_free, rename_into, rename_link, rename_named, rename_over, rename_over_broken, rename_over_closed, rename_walked, replaced_link, try_rename}
@@ -41,13 +40,15 @@ use Rattle.fsa_model.specs.SetEnd.{set_end_at, set_end_by, set_end_stream, set_e
 use Rattle.fsa_model.specs.Try.{try_what}
 use Rattle.fsa_model.specs.Volume.{Handle, Oplock, Volume}
 use Rattle.fsa_model.specs.Waits.{waits_for, held_by}
-use Rattle.fsa_model.specs.Walk.{Walked, Reached, Barred, Diverted, into, point_of, then_walk, walk, walk_from}
+use Rattle.fsa_model.specs.Walk.{Walked, Reached, Barred, Diverted, point_of, walk}
 use Rattle.fsa_model.specs.Write.{try_write, write_at, write_at_place, write_by, write_range, write_stream}
 use Rattle.fsa_model.proofs.CountLaws.{and_left}
 use Rattle.fsa_model.proofs.BreakLaws.{with_breaks-rest}
 use Rattle.fsa_model.proofs.RowLaws.{option_cases}
 use Rattle.history_laws.specs.OplockChanges.{IsLinkAt, MayBreak, Opens, OnStream, Marks, Renames, RenamesAbove, RenamesOver, LinksOver, breaks_on_stream, ends_only_behind_breaks, ends_unawaited, may_go_beside, handle_numbered, stream_numbered}
-use Rattle.history_laws.proofs.SetsByCalls.{at_link}
+use Rattle.history_laws.specs.WaitEnds.{is_success}
+use Rattle.history_laws.proofs.FaultStatuses.{Gives, IsUndone, giving, stop-fails, walk-undone}
+use Rattle.history_laws.proofs.SetsByCalls.{at_link, rename-success}
 
 -- ---- ends
 
@@ -76,10 +77,10 @@ module _ {what : What} {So : Type 0} where
   past-option (Some x) some none with_some with_none = with_some x
 
   -- what is refused for a fault, or goes on
-  past-fault : (w : Volume) (fault : Option Status) (other : Outcome) → option_map_or (ends_only_behind_breaks what) fault false ≡ false → Past what So other
+  past-fault : (w : Volume) (fault : Option Status) (other : Outcome) → Gives (λ status. not (ends_only_behind_breaks what status)) fault → Past what So other
       → Past what So (option_map_or (λ status. refused w status) fault other)
-  past-fault w None other fails goes = goes
-  past-fault w (Some status) other fails goes = past-other fails
+  past-fault w None other gives goes = goes
+  past-fault w (Some status) other gives goes = past-other (not-true _ gives.so)
 
 -- held by breaks, or on after them: then there were none to wait for
 past-waits : {what : What} (v : Volume) (on : HandleSet) (kind : Class) (acting : Option ℕ) (key : ℕ) (outcome : Outcome)
@@ -184,12 +185,12 @@ fails-filter : {X : Type 0} (test : X → Bool) (items : List X) → ((x : X) �
 fails-filter test [] fails = refl
 fails-filter test (x ∷ items) fails = rw (fails x) (fails-filter test items fails)
 
-none-broken : (v : Volume) (on : HandleSet) (kind : Class) (acting : Option ℕ) (key : ℕ) → is_any_open v on ≡ false → with_breaks v on kind acting key ≡ v
+pub none-broken : (v : Volume) (on : HandleSet) (kind : Class) (acting : Option ℕ) (key : ℕ) → is_any_open v on ≡ false → with_breaks v on kind acting key ≡ v
 none-broken v on kind acting key none =
     ap (λ (oplocks : List Oplock). fold (λ w oplock. with_effect w oplock (effect_on kind oplock)) v (in_order (is_broken_before v) oplocks))
     (fails-filter (is_chosen v on acting key) v.oplocks (λ oplock. rw (fails-row (is_on v on) v.handles oplock.handle none) refl))
 
-open-after_breaks : (v : Volume) (on : HandleSet) (kind : Class) (acting : Option ℕ) (key : ℕ) → is_any_open (with_breaks v on kind acting key) on ≡ is_any_open v on
+pub open-after_breaks : (v : Volume) (on : HandleSet) (kind : Class) (acting : Option ℕ) (key : ℕ) → is_any_open (with_breaks v on kind acting key) on ≡ is_any_open v on
 open-after_breaks v on kind acting key = ap (λ (w : Volume). is_any_open w on) (with_breaks-rest v on kind acting key)
 
 -- so it goes on in the volume that it began with, or is refused
@@ -203,83 +204,29 @@ past-closed v on kind acting key status next fails goes = elim (cases_Bool (is_a
 
 -- ---- why a rename is refused
 
--- never with SUCCESS: for a fault of the link that would be replaced
+-- never with SUCCESS: for what bars the walk, or for a reparse point
 module _ (number : ℕ) (path : List ℕ) (replace : Bool) where
-  abbrev renames_past : Status → Bool
-  renames_past status = ends_only_behind_breaks (Ask (request.Rename number path replace)) status
-
-  record Fails (fault : Option Status) : Type 0 where
-    so : option_map_or renames_past fault false ≡ false
-
-  fails-none : Fails None
-  fails-none = record { so = refl }
-
-  fails-some : {status : Status} → renames_past status ≡ false → Fails (Some status)
-  fails-some is = record { so = is }
-
-  fails-if : (test : Bool) (one other : Option Status) → Fails one → Fails other → Fails (if test then one else other)
-  fails-if true one other holds fails = holds
-  fails-if false one other holds fails = fails
-
-  fails-replace : (v : Volume) (naming : Naming) (link : ℕ) → Fails (replace_fault v naming link)
-  fails-replace v naming link = search (fails-if, fails-none, fails-some) depth 20
-
-  -- for what bars the walk
-  record Bars (walked : Walked) : Type 0 where
-    so : (status : Status) → walked ≡ Barred status → renames_past status ≡ false
-
-  bars-reached : (dir : ℕ) → Bars (Reached dir)
-  bars-reached dir = record { so = λ status is. cc }
-
-  bars-diverted : (file next : ℕ) → Bars (Diverted file next)
-  bars-diverted file next = record { so = λ status is. cc }
-
-  bars-barred : (why : Status) → renames_past why ≡ false → Bars (Barred why)
-  bars-barred why fails = record { so = λ status is. (let same : why ≡ status = cc in rw (← same) fails) }
-
-  bars-if : (test : Bool) (one other : Walked) → Bars one → Bars other → Bars (if test then one else other)
-  bars-if true one other holds fails = holds
-  bars-if false one other holds fails = fails
-
-  bars-option : {X : Type 0} (found : Option X) (some : X → Walked) (none : Walked) → ((x : X) → Bars (some x)) → Bars none → Bars (option_map_or some found none)
-  bars-option None some none with_some with_none = with_none
-  bars-option (Some x) some none with_some with_none = with_some x
-
-  bars-into : (v : Volume) (dir : ℕ) (name : List ℕ) (next : ℕ) → Bars (into v dir name next)
-  bars-into v dir name next = search (bars-if, bars-option, bars-reached, bars-diverted, bars-barred) depth 20
-
-  bars-then : (go_on : ℕ → Walked) (walked : Walked) → ((dir : ℕ) → Bars (go_on dir)) → Bars walked → Bars (then_walk go_on walked)
-  bars-then go_on (Reached dir) on before = on dir
-  bars-then go_on (Barred status) on before = before
-  bars-then go_on (Diverted file next) on before = bars-diverted file next
-
-  bars-walk : (v : Volume) (names : List (List ℕ)) (dir place : ℕ) → Bars (walk_from v dir place names)
-  bars-walk v [] dir place = bars-reached dir
-  bars-walk v (name ∷ names) dir place =
-      bars-if (length names == 0) _ _ (bars-reached dir) (bars-then (λ next. walk_from v next (place + 1) names) _ (λ next. bars-walk v names next (place + 1)) (bars-into v dir name (place + 1)))
-
-  -- for a reparse point
-  stop-fails : (tag : ℕ) → renames_past (stop_status tag) ≡ false
-  stop-fails tag = elim (cases_Bool (tag == IO_REPARSE_TAG_SYMLINK)) [ inl is ↦ rw is refl | inr isnt ↦ rw isnt refl ]
+  past-undone : {So : Type 0} {w : Volume} {reply : Reply} → is_success reply.status ≡ false → Past (Ask (request.Rename number path replace)) So (Done w reply)
+  past-undone {reply} undone = record { so = λ past. (let done = rename-success number path replace reply.status past in let impossible = rw undone at done in cc) }
 
   stops : {So : Type 0} (v : Volume) (file : ℕ) (rest : List ℕ) → Past (Ask (request.Rename number path replace)) So (stopped v file rest)
   unfolding stopped
-  stops v file rest = past-option (point_of v file) _ _ (λ point. past-other (stop-fails point.0)) (past-other refl)
+  stops v file rest = past-option (point_of v file) _ _ (λ point. past-undone (stop-fails is_success point.0 refl refl)) (past-other refl)
 
   -- so it comes to the directory of the new name
-  rename-walked : {So : Type 0} (v : Volume) (naming : Naming) (walked : Walked) → Bars walked
+  rename-walked : {So : Type 0} (v : Volume) (naming : Naming) (walked : Walked) → IsUndone walked
       → ((dir : ℕ) → walked ≡ Reached dir → Past (Ask (request.Rename number path replace)) So (rename_into v naming dir))
       → Past (Ask (request.Rename number path replace)) So (rename_walked v naming walked)
   unfolding rename_walked
-  rename-walked v naming (Reached dir) bars goes = goes dir refl
-  rename-walked v naming (Barred status) bars goes = past-other (bars.so status refl)
-  rename-walked v naming (Diverted file next) bars goes = stops v file _
+  rename-walked v naming (Reached dir) undone goes = goes dir refl
+  rename-walked v naming (Barred status) undone goes = past-undone undone
+  rename-walked v naming (Diverted file next) undone goes = stops v file _
 
   rename-link : {So : Type 0} (v : Volume) (naming : Naming) (access : ℕ)
       → ((dir : ℕ) → walk v (components naming.path) ≡ Reached dir → Past (Ask (request.Rename number path replace)) So (rename_into v naming dir))
       → Past (Ask (request.Rename number path replace)) So (rename_link v naming access)
   unfolding rename_link
-  rename-link v naming access goes = (let bars = bars-walk v (components naming.path) 1 0 in search (past-if, past-other, rename-walked, bars, goes) depth 60 fits 4000)
+  rename-link v naming access goes = (let undone = walk-undone v (components naming.path) 1 0 in search (past-if, past-other, rename-walked, undone, goes) depth 60 fits 4000)
 
   rename-by : {So : Type 0} (v : Volume) (id : ℕ) (handle : Handle)
       → ((dir : ℕ) → walk v (components path) ≡ Reached dir → Past (Ask (request.Rename number path replace)) So (rename_into v (naming_by v id handle path replace) dir))
@@ -298,7 +245,7 @@ module _ (number : ℕ) (path : List ℕ) (replace : Bool) where
   rename-over : (v : Volume) (naming : Naming) (dir link : ℕ)
       → Past (Ask (request.Rename number path replace)) (waits_to_name v naming (set.Link naming.link) ≡ false) (rename_over v naming dir link)
   unfolding rename_over rename_over_broken rename_over_closed
-  rename-over v naming dir link = past-fault v _ _ (fails-replace v naming link).so (past-if _ _ _ past-held
+  rename-over v naming dir link = past-fault v _ _ (search giving depth 20) (past-if _ _ _ past-held
       (past-closed v (set.Link link) NameChange (Some naming.handle) naming.key AccessDenied (λ w. rename_free w naming dir (Some link)) refl (rename-free v naming dir (Some link))))
 
   rename-named : (v : Volume) (naming : Naming) (dir : ℕ)

@@ -21,7 +21,7 @@ use Rattle.fsa_model.specs.Volume.{Pending, Volume}
 use Rattle.fsa_model.specs.Waiting.{is_held, next_ready, waits}
 use Rattle.fsa_model.proofs.CountLaws.{and_left, how_many-split, how_many-weaker, how_many-some}
 use Rattle.fsa_model.proofs.HistoryLaws.{run-push, shown_turns-push}
-use Rattle.fsa_model.proofs.RowLaws.{option_cases}
+use Rattle.fsa_model.proofs.RowLaws.{option_cases, or_right}
 use Rattle.fsa_model.proofs.ScheduleLaws.{Scheduled-push}
 use Rattle.fsa_model.proofs.ScriptLaws.{all_calls-numbered}
 use Rattle.fsa_model.proofs.WaitLaws.{find-passes}
@@ -81,11 +81,7 @@ left_falls script history entry v is =
     any_at : (test : Call → Bool) (calls : List Call) (place : ℕ) (call : Call) → slice_get calls place ≡ Some call → test call ≡ true → list_any test calls ≡ true
     any_at test [] place call at passes = absurd (cc)
     any_at test (first ∷ calls) zero call at passes = (let same : first ≡ call = cc in rw (ap test same ∙ passes) refl)
-    any_at test (first ∷ calls) (suc place) call at passes = or_true (test first) (list_any test calls) (any_at test calls place call at passes)
-      where
-        or_true : (b c : Bool) → c ≡ true → (b || c) ≡ true
-        or_true true c is = refl
-        or_true false c is = is
+    any_at test (first ∷ calls) (suc place) call at passes = or_right (test first) (list_any test calls) (any_at test calls place call at passes)
 
     both : (b c : Bool) → not (b || c) ≡ true → (not b && not c) ≡ true
     both true c is = is

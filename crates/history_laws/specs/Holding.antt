@@ -1,24 +1,29 @@
--- How long a pending call stays so, and that what is called off ends.
-use Rattle.std.specs.List.{list_any}
+-- How long a pending call stays so, and that what is called off ends, and with which status.
+use Rattle.std.specs.List.{All, filter, list_any}
 use Rattle.std.specs.Option.{option_map_or}
-use Rattle.std.specs.Prelude.{◌≡◌, ◌==◌, ◌&&◌, not, ℕ, suc, Bool, true, false, List, ◌∷◌, ◌++◌, Some, is_some}
+use Rattle.std.specs.Prelude.{◌≡◌, ◌==◌, ◌&&◌, not, ℕ, suc, Bool, true, false, List, [], ◌∷◌, ◌++◌, Some, is_some}
 use Rattle.fsa_types.specs.Rows.{row_of}
+use Rattle.fsa_types.specs.declared.reply.Body.TheVariants.{Nothing}
+use Rattle.fsa_types.specs.declared.reply.EndOf.{EndOf}
 use Rattle.fsa_types.specs.declared.request.Call.{Call}
 use Rattle.fsa_types.specs.declared.request.CallId.{CallId}
-use Rattle.fsa_types.specs.declared.request.Request.TheVariants.{Cancel, Close}
+use Rattle.fsa_types.specs.declared.request.Request.TheVariants.{Ack, Cancel, Close, Notify, Oplock as OplockRequest}
 use Rattle.fsa_types.specs.declared.request.What.{What}
 use Rattle.fsa_types.specs.declared.request.What.TheVariants.{Ask, Leave}
+use Rattle.fsa_types.specs.declared.status.Status.{Status}
+use Rattle.fsa_types.specs.declared.status.Status.TheVariants.{Cancelled, NotifyCleanup, OplockHandleClosed}
 use Rattle.fsa_model.specs.Close.{is_call_on}
 use Rattle.fsa_model.specs.Edits.{is_call}
 use Rattle.fsa_model.specs.Engine.{handle_granted, own_tried}
 use Rattle.fsa_model.specs.History.{HistoryEntry, Run, run}
 use Rattle.fsa_model.specs.Lookups.{handle_of}
+use Rattle.fsa_model.specs.Once.{is_end}
 use Rattle.fsa_model.specs.Reports.{settling_after}
 use Rattle.fsa_model.specs.Settle.{taken_up_all}
 use Rattle.fsa_model.specs.Setup.{Setup}
 use Rattle.fsa_model.specs.Turn.{settlement}
 use Rattle.fsa_model.specs.Volume.{Pending, Volume}
-use Rattle.fsa_model.specs.Waiting.{all_wait, blocker_lives, has_ended, is_blocked, is_held, is_ready, is_wait, next_ready}
+use Rattle.fsa_model.specs.Waiting.{all_wait, blocker_lives, is_blocked, is_held, is_ready, is_wait, next_ready}
 
 -- what the client asks calls off the pending call, which is its own: it is a cancellation of that call, a close of the handle
 -- that the call names, or the client's leaving
@@ -77,10 +82,30 @@ abbrev pub PendingStay : Setup → List HistoryEntry → Type 0
 PendingStay setup history = (front later : List HistoryEntry) (entry : HistoryEntry) (r : Run) → history ≡ front ++ entry ∷ later → run setup front ≡ Some r
     → KeepsPending r.volume entry.call entry.starved
 
--- each pending call that the turn's call calls off, held or not, has ended once the turn's call has been tried; and none is
--- pending then, nor at the turn's end
+-- the status with which a pending call ends that is called off, for what calls it off and what it asks. A cancellation ends
+-- each CANCELLED. A close, and a leaving, which closes all its client's handles, ends a Notify NOTIFY_CLEANUP, a call that asks
+-- for an oplock or answers a break OPLOCK_HANDLE_CLOSED, and any other CANCELLED; a leaving also its opens and waits, which
+-- name no handle
+abbrev pub called_off_status : What → What → Status
+called_off_status (Ask (Cancel number)) asked = Cancelled
+called_off_status by (Ask (Notify handle filter tree room)) = NotifyCleanup
+called_off_status by (Ask (OplockRequest handle level)) = OplockHandleClosed
+called_off_status by (Ask (Ack handle level)) = OplockHandleClosed
+called_off_status by asked = Cancelled
+
+-- the end of the pending call that this one calls off: with that status, and no body
+abbrev pub called_off_end : What → Pending → EndOf
+called_off_end by pending = record {
+  client = pending.call.client;
+  number = pending.call.number;
+  reply = record { status = called_off_status by pending.call.what; body = Nothing };
+}
+
+-- each pending call that the turn's call calls off, held or not, has just one end once the turn's call has been tried: with the
+-- status for what calls it off and what it asks, and with no body. And none of these calls is pending then, nor at the turn's end
 pub record EndsWhatItCallsOff (v : Volume) (call : Call) (starved : List CallId) : Type 0 where
-  pub ended : list_any (λ entry. calls_off v call entry.1 && not (has_ended (own_tried v call) entry.1.call.client entry.1.call.number)) v.pending ≡ false
+  pub ended : All (λ entry. calls_off v call entry.1 ≡ true
+      → filter (is_end entry.1.call.client entry.1.call.number) (own_tried v call).ended ≡ called_off_end call.what entry.1 ∷ []) v.pending
   pub tried : list_any (λ entry. calls_off v call entry.1) (own_tried v call).pending ≡ false
   pub settled : list_any (λ entry. calls_off v call entry.1) (settlement v call starved).volume.pending ≡ false
 

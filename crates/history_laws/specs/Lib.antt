@@ -13,3 +13,7 @@ pub mod Telling
 pub mod GrantedEnds
 pub mod OplockChanges
 pub mod TurnParts
+pub mod WhyPending
+pub mod EndsAsFound
+pub mod AsTried
+pub mod AsAsked

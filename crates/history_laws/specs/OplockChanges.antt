@@ -1,8 +1,9 @@
 -- Why a handle has the oplock that it has after a try of a call, and why one is gone: the call broke it, asked for it, took its
 -- place, kept it, gave it up, cancelled the call that it was granted to, or closed its handle; or it is as it was. Which oplocks
--- a call may break, by which class, when it has broken none or all of them, and that it doesn't end while it has to wait for
--- these breaks. After [MS-FSA] 'Algorithm to Check for an Oplock Break', 'Server Requests an Oplock', 'Server Acknowledges an
--- Oplock Break', 'Server Requests Canceling an Operation' and 'Server Requests Closing an Open'.
+-- a call may break, by which class, when it has broken none or all of them, and that where it ends with a status that comes only
+-- behind these breaks it has to wait for none of them, but for an open that goes on beside them. After [MS-FSA] 'Algorithm to
+-- Check for an Oplock Break', 'Server Requests an Oplock', 'Server Acknowledges an Oplock Break', 'Server Requests Canceling an
+-- Operation' and 'Server Requests Closing an Open'.
 use Rattle.std.specs.Option.{option_map_or}
 use Rattle.std.specs.Prelude.{◌≡◌, ◌==◌, ◌&&◌, ◌||◌, not, ℕ, Bool, true, false, List, length, Option, Some, None, All, option_and_then, unwrap_or, fold, if◌then◌else◌}
 use Rattle.fsa_types.specs.Access.{has_any, has_other, map_generic}

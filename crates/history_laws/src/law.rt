@@ -14,8 +14,11 @@ ghost use Rattle.fsa_model.specs.Text.{shows_no_memory, text};
 ghost use Rattle.fsa_model.specs.Turn.{Turned, try, turn};
 ghost use Rattle.fsa_model.specs.Volume.{Volume};
 ghost use Rattle.fsa_model.specs.Waiting.{has_ended, is_wait, waits};
+ghost use Rattle.history_laws.specs.AsAsked.{OpensAndLocksAsAsked};
 ghost use Rattle.history_laws.specs.AsMade.{PendsAsMade};
+ghost use Rattle.history_laws.specs.AsTried.{CallsPendAsTried};
 ghost use Rattle.history_laws.specs.Awaited.{NothingIsMissed};
+ghost use Rattle.history_laws.specs.EndsAsFound.{CallsEndAsFound};
 ghost use Rattle.history_laws.specs.GrantedEnds.{GrantedCallsEndForCause};
 ghost use Rattle.history_laws.specs.Granting.{GrantedCallsPend};
 ghost use Rattle.history_laws.specs.Holding.{CalledOffEnd, PendingStay};
@@ -24,6 +27,7 @@ ghost use Rattle.history_laws.specs.OplockChanges.{OplocksChangeForCause};
 ghost use Rattle.history_laws.specs.Races.{AllComeAfterWaits, Begun, NoneMadeWaiting, Whole};
 ghost use Rattle.history_laws.specs.Releasing.{HoldersRelease, OthersReleaseNone};
 ghost use Rattle.history_laws.specs.Telling.{LeftAsTold, ToldOfOplocks, ToldTargets};
+ghost use Rattle.history_laws.specs.WhyPending.{CallsPendForCause};
 ghost use Rattle.history_laws.specs.WaitEnds.{IsOver, SettlesWaits, StallsExactly, cancels_in, ends_otherwise, has_succeeded, is_wait_end, leaves_in};
 ghost use Rattle.fsa_model.specs.Starving.{TriesPlain, starved_of};
 
@@ -122,8 +126,11 @@ pub fn pending_calls_stay()
     ensures stay { (setup : Setup) (history : List HistoryEntry) → CallsDiffer history → PendingStay setup history }
 {}
 
-/// In a history that makes no call twice each pending call, held or not, that the call of a turn calls off has ended once the
-/// turn's call has been tried, and is pending no more.
+/// In a history that makes no call twice each pending call, held or not, that the call of a turn calls off has just one end
+/// once the turn's call has been tried, and is pending no more. A cancellation ends it CANCELLED. A close of the handle that it
+/// names ends a Notify NOTIFY_CLEANUP, a call that asks for an oplock or answers a break OPLOCK_HANDLE_CLOSED, and any other
+/// CANCELLED. A leaving closes all its client's handles, and so ends each call that names one as a close does; it ends the
+/// client's opens and waits CANCELLED. The end has no body.
 pub fn called_off_calls_end()
     ensures end { (setup : Setup) (history : List HistoryEntry) → CallsDiffer history → CalledOffEnd setup history }
 {}
@@ -188,4 +195,57 @@ pub fn holders_are_told_what_breaks_leave()
 /// its client leaves.
 pub fn oplocks_change_for_a_cause()
     ensures cause { (setup : Setup) (history : List HistoryEntry) → OplocksChangeForCause setup history }
+{}
+
+/// In each try of every history a call is pending afterwards for a cause alone, and shows it. It is held for breaks only where
+/// it comes to them, as far as statuses tell (without any oplock it would end with a status that may come behind them or, as
+/// a lock, wait for locks), and by just the breaks of one set of handles for which its rule has it wait, one or more; it has
+/// broken that set, as the rule says, and changed nothing else but the calls that this tells. An open with
+/// COMPLETE_IF_OPLOCKED isn't held by breaks of class ReadOpen, and a rename not by those of a set while a handle is open of
+/// a set that comes before. A call is held for locks only where it is a lock that is to wait and had to wait for no break,
+/// and by just the locks in conflict with it, one or more. A call that isn't held is pending where it asks for an oplock that
+/// can be granted, and shows the level that its handle has then; where it acknowledges a break in progress so that something
+/// of its oplock stays, and shows that; where it is a Notify that passes its checks, and nothing is due to its handle's
+/// watch; and where it waits for a call that is pending.
+pub fn calls_pend_for_a_cause()
+    ensures cause { (setup : Setup) (history : List HistoryEntry) → CallsPendForCause setup history }
+{}
+
+/// In a history that makes no call twice what is pending of a call, once it has been tried, is what that try left. After the
+/// try of a turn's call it's pending under the turn with just the blockers by which the try held it, or with none where it
+/// stays pending otherwise; where the try ended it, nothing is pending under the turn. And where a step of the settlement
+/// takes up a held call that finds memory, what is pending under that call's own turn after the step is, just so, what its
+/// try left.
+pub fn calls_pend_as_they_were_tried()
+    ensures tried { (setup : Setup) (history : List HistoryEntry) → CallsDiffer history → CallsPendAsTried setup history }
+{}
+
+/// Where a try of any history ends its call, it does so with a status that what it finds allows (`may_end_as_found`). An open
+/// ends SUCCESS only where it clashes with no handle of the directory or the stream that its path names, SHARING_VIOLATION only
+/// where it clashes with one, and OPLOCK_BREAK_IN_PROGRESS only where it has COMPLETE_IF_OPLOCKED, overwrites nothing, clashes
+/// with no handle, and waits for a break. A read, a write and a lock end INVALID_HANDLE, INVALID_DEVICE_REQUEST, ACCESS_DENIED,
+/// INVALID_PARAMETER and INVALID_LOCK_RANGE only where the check that refuses so fails, and otherwise only by a handle of the
+/// client's that has a stream and the right to it, and of some bytes only in an allowed range: FILE_LOCK_CONFLICT, or of a lock
+/// that doesn't wait LOCK_NOT_GRANTED, only where a lock is in the way; END_OF_FILE, QUOTA_EXCEEDED and DISK_FULL only where none
+/// is, and the read begins at the end of its stream or past it, or the stream can't grow so far for that cause; and SUCCESS only
+/// where neither is so, or of a read or a write of no bytes. A request for an oplock ends OPLOCK_NOT_GRANTED only where it can't
+/// be granted, and INVALID_PARAMETER only where its handle has no stream. An acknowledgement ends SUCCESS only where a break of
+/// its handle's oplock is in progress, and INVALID_OPLOCK_PROTOCOL only where there is such a handle and no such break. A wait
+/// ends SUCCESS only where its call has ended, and INVALID_PARAMETER only where that neither has ended nor is pending. These
+/// three end INVALID_HANDLE only where the client has left or, but for a wait, has no such handle. And but for an open none of
+/// these calls ends with any other status.
+pub fn calls_end_as_they_find()
+    ensures found { (setup : Setup) (history : List HistoryEntry) → CallsEndAsFound setup history }
+{}
+
+/// In each try of every history an open that succeeds, with SUCCESS or with OPLOCK_BREAK_IN_PROGRESS, leaves just one handle
+/// more. It's its client's, under the number of its call, and has the rights that were asked for, generic ones as those that
+/// they stand for, the sharing, the key and the option to delete on close; it enumerates nothing yet. It's by the link that
+/// the path names, or by the next one, where nothing had its last name; and on the directory or the stream that the path
+/// named, where that was there, and else on the stream made last, or on none, where a directory was asked for. A lock that
+/// succeeds leaves just one lock more: by the handle that it names, on just its range, and exclusive or shared as it was
+/// asked for. Neither leaves one where it doesn't succeed; an open leaves locks as they were, and a lock handles. A call that
+/// is pending after the try has left both as they were.
+pub fn opens_and_locks_leave_what_was_asked()
+    ensures asked { (setup : Setup) (history : List HistoryEntry) → OpensAndLocksAsAsked setup history }
 {}
