@@ -20,14 +20,18 @@ use Rattle.history_laws.proofs.GrantedCalls.{granted_calls-pend}
 use Rattle.history_laws.proofs.GrantedEnds.{granted_calls-end_for_cause}
 use Rattle.history_laws.proofs.MadeCalls.{pends-as_made}
 use Rattle.history_laws.proofs.NoneMissed.{nothing-missed}
+use Rattle.history_laws.proofs.NotedTries.{run-changes_noted}
+use Rattle.history_laws.proofs.OpensTell.{opens-tell_what_they_did}
 use Rattle.history_laws.proofs.OplockChanges.{oplocks-change_for_cause}
 use Rattle.history_laws.proofs.PendingStay.{pending-stay}
+use Rattle.history_laws.proofs.HandlesClose.{handles-go_when_closed}
 use Rattle.history_laws.proofs.HoldersRelease.{holders-release, others-release_none}
 use Rattle.history_laws.proofs.ScheduledCalls.{Scheduled-free}
 use Rattle.history_laws.proofs.WaitedFor.{free-over}
 use Rattle.history_laws.proofs.SettledWaits.{waits-settle}
 use Rattle.history_laws.proofs.Stalling.{waits-stall}
 use Rattle.history_laws.proofs.ToldCalls.{told-of_oplocks}
+use Rattle.history_laws.proofs.TreeRuns.{run-changes_as_asked, run-leaves_nothing_over}
 use Rattle.history_laws.proofs.TurnByTurn.{differ-before}
 use Rattle.history_laws.proofs.TurnTargets.{told-targets}
 use Rattle.history_laws.proofs.WaitRuns.{waits-end}
@@ -89,6 +93,11 @@ throughout script history free differ = record {
   only_holders_release_held_calls = holders-release script.setup history differ;
   other_calls_release_none = others-release_none script.setup history differ;
   caching_is_coherent = run-coherent script.setup history;
+  opens_tell_what_they_did = opens-tell_what_they_did script.setup history;
+  handles_go_when_closed = handles-go_when_closed script.setup history;
+  the_tree_changes_as_asked = run-changes_as_asked script.setup history;
+  nothing_is_left_over = run-leaves_nothing_over script.setup history;
+  what_changes_is_noted = run-changes_noted script.setup history;
   watches_report_exactly = run-watches_report script.setup history;
 }
 

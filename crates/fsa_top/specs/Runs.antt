@@ -19,11 +19,16 @@ use Rattle.history_laws.specs.Awaited.{NothingIsMissed}
 use Rattle.history_laws.specs.EndsAsFound.{CallsEndAsFound}
 use Rattle.history_laws.specs.GrantedEnds.{GrantedCallsEndForCause}
 use Rattle.history_laws.specs.Granting.{GrantedCallsPend}
+use Rattle.history_laws.specs.HandlesClose.{HandlesGoWhenClosed}
 use Rattle.history_laws.specs.Holding.{CalledOffEnd, PendingStay}
+use Rattle.history_laws.specs.LeftOver.{NothingStaysOver}
+use Rattle.history_laws.specs.OpensTell.{OpensTellWhatTheyDid}
 use Rattle.history_laws.specs.OplockChanges.{OplocksChangeForCause}
 use Rattle.history_laws.specs.Releasing.{HoldersRelease, OthersReleaseNone}
 use Rattle.history_laws.specs.Races.{AllComeAfterWaits, Begun, Whole}
 use Rattle.history_laws.specs.Telling.{LeftAsTold, ToldOfOplocks, ToldTargets}
+use Rattle.history_laws.specs.TreeChanges.{TreeChangesAsAsked}
+use Rattle.history_laws.specs.TreeNotes.{ChangesAreNoted}
 use Rattle.history_laws.specs.WaitEnds.{SettlesWaits, StallsExactly, cancels_in, ends_otherwise, is_wait_end, leaves_in}
 use Rattle.history_laws.specs.WhyPending.{CallsPendForCause}
 use Rattle.wire_io.specs.Source.{ReadsWhole}
@@ -90,7 +95,11 @@ TakesUpReleased setup history =
 -- its handle closes. A call breaks only what its kind names, and doesn't end with SUCCESS while it has to wait for that. A turn
 -- takes up just those held calls that its own call released. A break or a lock ends exactly by its holder's own call, an
 -- acknowledgement, an unlock, a close or a leaving, and in the turn of any other call none ends and no held call is taken up.
--- Caching by oplocks is coherent, and each watch reports exactly the matching changes since its last report
+-- Caching by oplocks is coherent. An open tells what it did; a handle goes just by a close of its own, or a leaving of its client, that
+-- succeeds; a try changes and notes of files, links and streams just what its call asks for, and that only where it ends SUCCESS; what
+-- is marked for deletion has a handle; names, named streams and bytes that change are noted, and of each file but the root its owner,
+-- access list, reparse point, attributes, and times but that of the last change; and each watch reports exactly the matching changes
+-- since its last report
 pub record HoldsThroughout (setup : Setup) (history : List HistoryEntry) : Type 0 where
   pub makes_no_call_twice : CallsDiffer history
   pub calls_come_after_waits : AllComeAfterWaits setup history
@@ -120,6 +129,11 @@ pub record HoldsThroughout (setup : Setup) (history : List HistoryEntry) : Type 
   pub only_holders_release_held_calls : HoldersRelease setup history
   pub other_calls_release_none : OthersReleaseNone setup history
   pub caching_is_coherent : CachingIsCoherent setup history
+  pub opens_tell_what_they_did : OpensTellWhatTheyDid setup history
+  pub handles_go_when_closed : HandlesGoWhenClosed setup history
+  pub the_tree_changes_as_asked : TreeChangesAsAsked setup history
+  pub nothing_is_left_over : NothingStaysOver setup history
+  pub what_changes_is_noted : ChangesAreNoted setup history
   pub watches_report_exactly : WatchesReport setup history
 
 -- a history of a script on one thread: each turn's call was the next one, it has all calls, no other such history has its

@@ -41,14 +41,16 @@ use Rattle.fsa_model.specs.Setup.{Setup}
 use Rattle.fsa_model.specs.Tries.{Tried, tries_of}
 use Rattle.fsa_model.specs.Try.{try}
 use Rattle.fsa_model.specs.Volume.{Handle, Link, Volume}
-use Rattle.fsa_model.specs.Waits.{waits_for}
+use Rattle.fsa_model.specs.Waits.{held_by, waits_for}
 use Rattle.fsa_model.specs.Walk.{Walked, Reached, Barred, Diverted, into, last_name, point_of, then_walk, through, walk, walk_from}
 use Rattle.fsa_model.specs.Watching.{watch_of, with_watch_begun}
 use Rattle.fsa_model.proofs.BreakLaws.{with_breaks-rest}
+use Rattle.fsa_model.proofs.CoherenceBreaks.{handles-breaks}
 use Rattle.fsa_model.proofs.FrameOplocks.{try_oplock-frame}
 use Rattle.fsa_model.proofs.RowLaws.{option_cases}
 use Rattle.fsa_model.proofs.SoundWaits.{touched}
-use Rattle.history_laws.specs.AsAsked.{LeavesAsAsked, LeavesBoth, LocksAsAsked, OpensAndLocksAsAsked, OpensAsAsked, is_locked, is_opened, link_of_path, stream_named}
+use Rattle.history_laws.specs.AsAsked.{LeavesAsAsked, LeavesBoth, LocksAsAsked, OpensAndLocksAsAsked, OpensAsAsked, is_opened, link_of_path, stream_named}
+use Rattle.history_laws.specs.WaitEnds.{is_success}
 use Rattle.history_laws.specs.WhyPending.{PendsForCause, WhyHeld, ByBreaks, ByLocks, WhyStays, Granted, Kept, Watches, Waits}
 use Rattle.history_laws.proofs.WhyPending.{calls-pend_for_cause}
 
@@ -74,7 +76,7 @@ overwritten v link stream true = noted v link FILE_ACTION_MODIFIED_STREAM stream
 overwritten v link stream false = noted v link FILE_ACTION_MODIFIED overwrite_filters None
 
 -- what bars a walk is no success of an open
-abbrev IsUnopened : Walked → Type 0
+abbrev pub IsUnopened : Walked → Type 0
 IsUnopened (Barred status) = is_opened status ≡ false
 IsUnopened _ = Unit {0}
 
@@ -98,7 +100,7 @@ then-unopened go_on (Reached dir) on before = on dir
 then-unopened go_on (Barred status) on before = before
 then-unopened go_on (Diverted file next) on before = tt
 
-walk-unopened : (v : Volume) (names : List (List ℕ)) (dir place : ℕ) → IsUnopened (walk_from v dir place names)
+pub walk-unopened : (v : Volume) (names : List (List ℕ)) (dir place : ℕ) → IsUnopened (walk_from v dir place names)
 walk-unopened v [] dir place = tt
 walk-unopened v (name ∷ names) dir place = elim (cases_Bool (length names == 0)) [
   | inl last ↦ rw last tt
@@ -121,14 +123,14 @@ handle_by asked link stream = record {
   enumeration = None;
 }
 
--- where a try of the open has come to this, and has ended it, it leaves what was asked for
-abbrev OpensIn : Volume → Call → Asked → Outcome → Type 0
+-- where a try of the open has come to this, and has ended it, it leaves what was asked for, and else the handles that there were
+abbrev pub OpensIn : Volume → Call → Asked → Outcome → Type 0
 OpensIn v call asked (Done next reply) = OpensAsAsked v call asked.path asked.wanted asked.share asked.options asked.key reply.status next
-OpensIn v call asked (Stay next interim) = Unit {0}
-OpensIn v call asked (Hold next blockers interim) = Unit {0}
+OpensIn v call asked (Stay next interim) = next.handles ≡ v.handles
+OpensIn v call asked (Hold next blockers interim) = next.handles ≡ v.handles
 
-record OpensSo (v : Volume) (call : Call) (asked : Asked) (outcome : Outcome) : Type 0 where
-  so : OpensIn v call asked outcome
+pub record OpensSo (v : Volume) (call : Call) (asked : Asked) (outcome : Outcome) : Type 0 where
+  pub so : OpensIn v call asked outcome
 
 -- the path names this set, and this link, by which the handles on this stream are of the set
 record IsNamed (v : Volume) (asked : Asked) (link : ℕ) (stream : Option ℕ) (on : HandleSet) : Type 0 where
@@ -138,8 +140,8 @@ record IsNamed (v : Volume) (asked : Asked) (link : ℕ) (stream : Option ℕ) (
   is_of : is_on v on (handle_by asked link stream) ≡ true
 
 module _ {v : Volume} {call : Call} {asked : Asked} where
-  open-held : (next : Volume) (blockers : List Blocker) (interim : Interim) → OpensSo v call asked (Hold next blockers interim)
-  open-held next blockers interim = record { so = tt }
+  open-held : (on : HandleSet) (class : Class) → OpensSo v call asked (held_by v on class None asked.key)
+  open-held on class = record { so = handles-breaks v on class None asked.key }
 
   -- it doesn't succeed
   open-refused : (next : Volume) (status : Status) → is_opened status ≡ false → next.handles ≡ v.handles → next.locks ≡ v.locks → OpensSo v call asked (refused next status)
@@ -222,7 +224,7 @@ module _ (v : Volume) (call : Call) (asked : Asked) (of_client : asked.client �
   clashes_so : (on : HandleSet) → OpensSo v call asked (clashed v on asked.key)
   unfolding clashed
   clashes_so on =
-      open-if (open_waits v on Clash asked.key) _ _ (λ waits. open-held _ _ _)
+      open-if (open_waits v on Clash asked.key) _ _ (λ waits. open-held on Clash)
       (λ free. open-behind on Clash (λ w. refused w SharingViolation) (λ w. open-refused (touched v w) SharingViolation refl refl refl))
 
   -- ---- it is there
@@ -236,13 +238,13 @@ module _ (v : Volume) (call : Call) (asked : Asked) (of_client : asked.client �
       (λ free. open-behind on ReadOpen (λ w. opened w asked link stream Success action.Opened) (λ w. on_there _ _ _ link stream on its refl refl refl))
       (λ waits. open-if (completes_if_oplocked asked) _ _
       (λ beside. open-behind on ReadOpen (λ w. opened w asked link stream OplockBreakInProgress action.Opened) (λ w. on_there _ _ _ link stream on its refl refl refl))
-      (λ stays. open-held _ _ _)))
+      (λ stays. open-held on ReadOpen)))
 
   -- it is overwritten
   overwrites_so : (link file stream : ℕ) → IsNamed v asked link (Some stream) (set.Stream stream) → OpensSo v call asked (overwrite_existing v asked link file stream)
   unfolding overwrite_existing
   overwrites_so link file stream its =
-      open-if (open_waits v (set.Stream stream) Change asked.key) _ _ (λ waits. open-held _ _ _)
+      open-if (open_waits v (set.Stream stream) Change asked.key) _ _ (λ waits. open-held (set.Stream stream) Change)
       (λ free. open-behind (set.Stream stream) Change (λ w. opens (with_overwritten (with_open w asked link (Some stream)) asked link file stream) Success (overwrite_action asked.disposition))
       (λ w. (let alike = overwritten (with_open (touched v w) asked link (Some stream)) link stream (names_stream asked.path) in
       on_there _ _ _ link (Some stream) (set.Stream stream) its refl alike.handles alike.locks)))
@@ -355,7 +357,7 @@ module _ (v : Volume) (call : Call) (asked : Asked) (of_client : asked.client �
       (let bars : IsUnopened (walk v (components asked.path)) = walk-unopened v (components asked.path) 1 0 in open-refused v status (rw reached at bars) refl refl)
   walked (Diverted file next) reached = stops file (rest_of asked.path next)
 
-  creates : OpensSo v call asked (try_create v asked)
+  pub creates : OpensSo v call asked (try_create v asked)
   unfolding try_create create_at
   creates = search (open-if, open-unless, walks) depth 40
     where
@@ -377,7 +379,7 @@ module _ {v : Volume} {client number at count : ℕ} {exclusive : Bool} where
   lock-held : (next : Volume) (blockers : List Blocker) (interim : Interim) → LocksSo v client number at count exclusive (Hold next blockers interim)
   lock-held next blockers interim = record { so = tt }
 
-  lock-refused : (next : Volume) (status : Status) → is_locked status ≡ false → next.handles ≡ v.handles → next.locks ≡ v.locks
+  lock-refused : (next : Volume) (status : Status) → is_success status ≡ false → next.handles ≡ v.handles → next.locks ≡ v.locks
       → LocksSo v client number at count exclusive (refused next status)
   lock-refused next status fails handles locks =
       record { so = record { locks = λ locked. (let no : false ≡ true = sym fails ∙ locked in cc); refuses = λ refuses. locks; handles = handles } }
@@ -416,7 +418,7 @@ locks_so v client number at count exclusive wait =
     lock-if (not (has_any handle.access READ_DATA || has_any handle.access WRITE_DATA)) _ _ (λ denied. none _ refl) (λ can. lock-if (passes_top at count) _ _ (λ past. none _ refl)
     (λ fits. locked_range v client number at count id handle.key stream exclusive wait named))) (λ isnt. none _ refl)) (λ gone. none _ refl)) (λ unknown. none _ refl)
   where
-    none : (status : Status) → is_locked status ≡ false → LocksSo v client number at count exclusive (refused v status)
+    none : (status : Status) → is_success status ≡ false → LocksSo v client number at count exclusive (refused v status)
     none status fails = lock-refused v status fails refl refl
 
 -- ---- calls that are pending

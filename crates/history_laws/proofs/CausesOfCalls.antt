@@ -143,14 +143,16 @@ within v id key stream handle level o found on of_key none = elim (cases_Bool (i
 -- ---- what closes of handles, one after the other, leave
 
 -- the handle is one of these
-abbrev is_among : List (ℕ × Handle) → ℕ → Bool
+abbrev pub is_among : List (ℕ × Handle) → ℕ → Bool
 is_among handles id = list_any (λ entry. entry.0 == id) handles
 
-filter-all : {X : Type 0} (p : X → Bool) (xs : List X) → ((x : X) → p x ≡ true) → filter p xs ≡ xs
+-- a filter that all pass
+pub filter-all : {X : Type 0} (p : X → Bool) (xs : List X) → ((x : X) → p x ≡ true) → filter p xs ≡ xs
 filter-all p [] all = refl
 filter-all p (x ∷ xs) all = rw (all x) (ap (λ rest. x ∷ rest) (filter-all p xs all))
 
-filter-twice : {X : Type 0} (p q r : X → Bool) (xs : List X) → ((x : X) → (q x && p x) ≡ r x) → filter p (filter q xs) ≡ filter r xs
+-- a filter after a filter
+pub filter-twice : {X : Type 0} (p q r : X → Bool) (xs : List X) → ((x : X) → (q x && p x) ≡ r x) → filter p (filter q xs) ≡ filter r xs
 filter-twice p q r [] both = refl
 filter-twice p q r (x ∷ xs) both =
     let rest = filter-twice p q r xs both in

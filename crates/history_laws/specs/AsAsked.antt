@@ -22,16 +22,13 @@ use Rattle.fsa_model.specs.Tries.{Tried, tries_of}
 use Rattle.fsa_model.specs.Try.{try}
 use Rattle.fsa_model.specs.Volume.{Handle, Volume}
 use Rattle.fsa_model.specs.Walk.{Walked, Reached, last_name, walk}
+use Rattle.history_laws.specs.WaitEnds.{is_success}
 
--- the statuses with which an open, or a lock, has succeeded
+-- the statuses with which an open has succeeded
 abbrev pub is_opened : Status → Bool
 is_opened Success = true
 is_opened OplockBreakInProgress = true
 is_opened _ = false
-
-abbrev pub is_locked : Status → Bool
-is_locked Success = true
-is_locked _ = false
 
 -- the link that the path names: that of the root is 0; where the directory that it leads to has no link of its last name, the next
 -- number, since one is made
@@ -80,8 +77,8 @@ pub record LocksOne (v : Volume) (client number at count : ℕ) (exclusive : Boo
 
 -- after a try of such a lock
 pub record LocksAsAsked (v : Volume) (client number at count : ℕ) (exclusive : Bool) (status : Status) (next : Volume) : Type 0 where
-  pub locks : is_locked status ≡ true → LocksOne v client number at count exclusive next
-  pub refuses : is_locked status ≡ false → next.locks ≡ v.locks
+  pub locks : is_success status ≡ true → LocksOne v client number at count exclusive next
+  pub refuses : is_success status ≡ false → next.locks ≡ v.locks
   pub handles : next.handles ≡ v.handles
 
 -- neither a handle nor a lock has come or gone

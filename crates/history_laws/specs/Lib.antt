@@ -17,3 +17,8 @@ pub mod WhyPending
 pub mod EndsAsFound
 pub mod AsTried
 pub mod AsAsked
+pub mod TreeChanges
+pub mod TreeNotes
+pub mod HandlesClose
+pub mod LeftOver
+pub mod OpensTell

@@ -51,7 +51,8 @@ IsBehindChecks directory what (Hold next blockers interim.LockWait) = Unit {0}
 IsBehindChecks directory what (Hold next blockers _) = ⊥
 
 -- the call comes to its breaks, as far as statuses tell: were there no oplock it would come to such an outcome. The statuses of
--- other checks come only before breaks, so it has passed these; but ACCESS_DENIED of a rename or a link comes before and behind
+-- other checks come only before breaks, so it has passed these; but ACCESS_DENIED of a rename or a link, and DELETE_PENDING and
+-- OBJECT_NAME_COLLISION of a directory's rename, come before and behind
 abbrev pub PassesToBreaks : Volume → Call → Type 0
 PassesToBreaks v call = IsBehindChecks (acts_on_directory v call) call.what (try_what (record v { oplocks = [] }) 0 call.client call.number call.what)
 

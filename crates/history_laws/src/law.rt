@@ -21,12 +21,17 @@ ghost use Rattle.history_laws.specs.Awaited.{NothingIsMissed};
 ghost use Rattle.history_laws.specs.EndsAsFound.{CallsEndAsFound};
 ghost use Rattle.history_laws.specs.GrantedEnds.{GrantedCallsEndForCause};
 ghost use Rattle.history_laws.specs.Granting.{GrantedCallsPend};
+ghost use Rattle.history_laws.specs.HandlesClose.{HandlesGoWhenClosed};
 ghost use Rattle.history_laws.specs.Holding.{CalledOffEnd, PendingStay};
 ghost use Rattle.history_laws.specs.Named.{IsReadScript};
+ghost use Rattle.history_laws.specs.LeftOver.{NothingStaysOver};
+ghost use Rattle.history_laws.specs.OpensTell.{OpensTellWhatTheyDid};
 ghost use Rattle.history_laws.specs.OplockChanges.{OplocksChangeForCause};
 ghost use Rattle.history_laws.specs.Races.{AllComeAfterWaits, Begun, NoneMadeWaiting, Whole};
 ghost use Rattle.history_laws.specs.Releasing.{HoldersRelease, OthersReleaseNone};
 ghost use Rattle.history_laws.specs.Telling.{LeftAsTold, ToldOfOplocks, ToldTargets};
+ghost use Rattle.history_laws.specs.TreeChanges.{TreeChangesAsAsked};
+ghost use Rattle.history_laws.specs.TreeNotes.{ChangesAreNoted};
 ghost use Rattle.history_laws.specs.WhyPending.{CallsPendForCause};
 ghost use Rattle.history_laws.specs.WaitEnds.{IsOver, SettlesWaits, StallsExactly, cancels_in, ends_otherwise, has_succeeded, is_wait_end, leaves_in};
 ghost use Rattle.fsa_model.specs.Starving.{TriesPlain, starved_of};
@@ -248,4 +253,46 @@ pub fn calls_end_as_they_find()
 /// is pending after the try has left both as they were.
 pub fn opens_and_locks_leave_what_was_asked()
     ensures asked { (setup : Setup) (history : List HistoryEntry) → OpensAndLocksAsAsked setup history }
+{}
+
+/// Where a try of any history ends an open, it tells an action where it has succeeded, with SUCCESS or with
+/// OPLOCK_BREAK_IN_PROGRESS, and only then: that it made something just where the directory or the stream that its path names
+/// was missing, and never for open and overwrite. Of what was there it tells that it opened it, for open and open_if; overwrote
+/// it, for overwrite and overwrite_if; or superseded it, for supersede. A create doesn't succeed on what was there, nor open or
+/// overwrite on what was missing. Beside breaks it tells only that it opened.
+pub fn opens_tell_what_they_did()
+    ensures told { (setup : Setup) (history : List HistoryEntry) → OpensTellWhatTheyDid setup history }
+{}
+
+/// After each try of every history the handles are those from before, as they were: but for an open, which
+/// `opens_and_locks_leave_what_was_asked` speaks of, a close that succeeds, which takes just the handle that it names, a leaving,
+/// that succeeds, which takes just its client's, and a QueryDir, which may move how far its handle's directory is listed.
+pub fn handles_go_when_closed()
+    ensures go { (setup : Setup) (history : List HistoryEntry) → HandlesGoWhenClosed setup history }
+{}
+
+/// In each try of every history files, links and streams, the last numbers of these, and what is noted change just as the call
+/// asks: a call that ends SUCCESS makes its changes in order, an open those of the action that it tells, each of one of a few
+/// kinds that says what is noted of it. A call that ends otherwise, or is pending then, makes none. Where the history can be run,
+/// nothing of these changes before the first try, between two tries, or after the last.
+pub fn the_tree_changes_as_asked()
+    ensures asked { (setup : Setup) (history : List HistoryEntry) → TreeChangesAsAsked setup history }
+{}
+
+/// From before to after each try of every history notes are only added. Among them are, for a link that comes, goes or moves,
+/// the place that it left, as removed or as an old name, and that to which it came, as added or as a new name; and under a name
+/// of the file a named stream that comes, a stream that goes while its file stays, other bytes of a stream that stays, and, but
+/// for the root, another owner, access list or reparse point, other times, but that of the last change, and other attributes; of
+/// the time of the last write, and of attributes, that the file or a named stream of it was written is enough. Each of these is
+/// under a filter of its kind, a link under either of the two for names. Of marks nothing is said here.
+pub fn what_changes_is_noted()
+    ensures noted { (setup : Setup) (history : List HistoryEntry) → ChangesAreNoted setup history }
+{}
+
+/// Before and after each try of every history, and after its last turn where it can be run, nothing is left over: a link that is
+/// marked for deletion has a handle that was opened by it, and a marked stream one that is open on it; each file but the root
+/// has a link; and the file of each link and of each stream is there. So nothing that is marked outlasts its last handle with
+/// its mark.
+pub fn nothing_is_left_over()
+    ensures over { (setup : Setup) (history : List HistoryEntry) → NothingStaysOver setup history }
 {}
