@@ -1,9 +1,9 @@
 -- A read gives bytes only where no handle of another key may write in its cache; an open clashes only
 -- where none of another key may keep its handle.
-use Rattle.std.proofs.Common.{◌≡◌, ℕ, ◌+◌, Bool, true, false, ◌==◌, ◌&&◌, ◌||◌, not, List, [], ◌∷◌, length, refl, sym, ◌∙◌, Option, Some, None, inl, inr}
+use Rattle.std.proofs.Common.{◌≡◌, ℕ, ◌+◌, Bool, true, false, ◌==◌, ◌&&◌, ◌||◌, not, List, [], length, refl, sym, ◌∙◌, Option, Some, None, inl, inr}
 use Rattle.std.specs.Int.RustNames.{bit_or}
 use Rattle.std.specs.Option.{option_map_or}
-use Rattle.std.specs.Prelude.{⊤, nat_lt, nat_le, option_map, option_and_then, is_some, if◌then◌else◌}
+use Rattle.std.specs.Prelude.{nat_lt, nat_le, option_map, option_and_then, is_some, if◌then◌else◌}
 use Rattle.std.proofs.lemmas.Bool.{cases_Bool, false≢true}
 use Rattle.fsa_types.specs.Access.{has_any}
 use Rattle.fsa_types.specs.declared.oplock.Class.TheVariants.{Clash, Change, ReadOpen}
@@ -22,8 +22,9 @@ use Rattle.fsa_model.specs.Outcome.{Outcome, Done, refused, Hold, Stay}
 use Rattle.fsa_model.specs.Read.{read_bytes, read_unlocked, read_range, read_stream, read_by, read_at, try_read}
 use Rattle.fsa_model.specs.Volume.{Handle, Volume}
 use Rattle.fsa_model.specs.Waits.{waits_for}
-use Rattle.fsa_model.specs.Walk.{Walked, Reached, Barred, Diverted, point_of, through, by_link, into, then_walk, walk_from, walk, last_name}
+use Rattle.fsa_model.specs.Walk.{Walked, Reached, Barred, Diverted, point_of, walk, last_name}
 use Rattle.fsa_model.proofs.CoherenceBreaks.{no_other-breaks, takes_writing, takes_handles}
+use Rattle.fsa_model.proofs.FaultStatuses.{BarsWithout, walk-fails}
 use Rattle.fsa_model.proofs.RowLaws.{option_cases}
 
 record Answers (test : Reply → Bool) (Such : Volume → Type 0) (outcome : Outcome) : Type 0 where
@@ -239,42 +240,7 @@ clashes-create_named v asked dir name tied = elim (option_cases (child_of v dir 
   | inr some ↦ rw some.1 (clashes-create_by_link v asked some.0 tied)
 ]
 
--- a walk is never barred by a clash
-abbrev IsNoClash : Walked → Type 0
-IsNoClash (Barred why) = is_clash why ≡ false
-IsNoClash _ = ⊤
-
-through-no_clash : (v : Volume) (file next : ℕ) → IsNoClash (through v file next)
-through-no_clash v file next = elim (cases_Bool (is_some (point_of v file))) [
-  | inl stops ↦ rw stops tt
-  | inr goes ↦ rw goes (elim (cases_Bool (is_directory v.files file)) [ inl is ↦ rw is tt | inr isnt ↦ rw isnt refl ])
-]
-
-by_link-no_clash : (v : Volume) (link next : ℕ) → IsNoClash (by_link v link next)
-by_link-no_clash v link next = elim (option_cases (row_of v.links link)) [
-  | inl none ↦ rw none refl
-  | inr some ↦ rw some.1 (elim (cases_Bool some.0.deleted) [ inl is ↦ rw is refl | inr isnt ↦ rw isnt (through-no_clash v some.0.file next) ])
-]
-
-into-no_clash : (v : Volume) (dir : ℕ) (name : List ℕ) (next : ℕ) → IsNoClash (into v dir name next)
-into-no_clash v dir name next = elim (option_cases (child_of v dir name)) [
-  | inl none ↦ rw none refl
-  | inr some ↦ rw some.1 (by_link-no_clash v some.0 next)
-]
-
-then-no_clash : (go_on : ℕ → Walked) (walked : Walked) → ((dir : ℕ) → IsNoClash (go_on dir)) → IsNoClash walked → IsNoClash (then_walk go_on walked)
-then-no_clash go_on (Reached dir) on before = on dir
-then-no_clash go_on (Barred why) on before = before
-then-no_clash go_on (Diverted file next) on before = tt
-
-walk-no_clash : (v : Volume) (names : List (List ℕ)) (dir place : ℕ) → IsNoClash (walk_from v dir place names)
-walk-no_clash v [] dir place = tt
-walk-no_clash v (name ∷ names) dir place = elim (cases_Bool (length names == 0)) [
-  | inl is ↦ rw is tt
-  | inr isnt ↦ rw isnt (then-no_clash (λ next. walk_from v next (place + 1) names) (into v dir name (place + 1)) (λ next. walk-no_clash v names next (place + 1)) (into-no_clash v dir name (place + 1)))
-]
-
-clashes-create_walked : (v : Volume) (asked : Asked) (walked : Walked) → IsTied v → IsNoClash walked
+clashes-create_walked : (v : Volume) (asked : Asked) (walked : Walked) → IsTied v → BarsWithout is_clash walked
     → Answers clashes (NoOtherKeeps (set_walked v asked.path walked) asked.key) (create_walked v asked walked)
 unfolding create_walked
 clashes-create_walked v asked (Reached dir) tied free = elim (cases_Bool (length (components asked.path) == 0)) [
@@ -292,7 +258,7 @@ clashes-create v asked tied =
     (λ isnt. Answers-if (lacks_delete asked) _ _ (λ is. clashes-refused _ v _ refl)
     (λ isnt. Answers-if (is_some (path_fault asked.path)) _ _ (λ is. clashes-refused _ v _ refl)
     (λ isnt. Answers-if (has_stream_part asked.path && wants_directory asked) _ _ (λ is. clashes-refused _ v _ refl)
-    (λ isnt. clashes-create_walked v asked (walk v (components asked.path)) tied (walk-no_clash v (components asked.path) 1 0))))))
+    (λ isnt. clashes-create_walked v asked (walk v (components asked.path)) tied (walk-fails is_clash refl refl v (components asked.path) 1 0))))))
 
 -- an open ends SHARING_VIOLATION only where no handle of another key on what it names has handle caching
 pub create-coherent : (v : Volume) (asked : Asked) → IsTied v → Where (λ reply. is_clash reply.status) (NoOtherKeeps (set_of_path v asked.path) asked.key) (try_create v asked)

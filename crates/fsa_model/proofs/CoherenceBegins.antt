@@ -230,7 +230,7 @@ same_key-swaps a ka b kb = ap (λ c. c || (ka == kb && not (ka == 0))) (eqb-swap
       | inr differ ↦ (let turned : (kb == ka) ≡ false = eqb-swap kb ka ∙ differ in rw (differ, turned) refl)
     ]
 
-row-any : {X : Type 0} (p : ℕ × X → Bool) (rows : List (ℕ × X)) (id : ℕ) (row : X) → row_of rows id ≡ Some row → p (id, row) ≡ true → list_any p rows ≡ true
+pub row-any : {X : Type 0} (p : ℕ × X → Bool) (rows : List (ℕ × X)) (id : ℕ) (row : X) → row_of rows id ≡ Some row → p (id, row) ≡ true → list_any p rows ≡ true
 row-any p [] id row found passes = cc
 row-any {X} p (x ∷ rows) id row found passes = elim (cases_Bool (x.0 == id)) [
   | inl here ↦ (let is : Some x.1 ≡ Some row = rw here at found in let same : x.1 ≡ row = cc in

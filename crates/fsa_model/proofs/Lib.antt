@@ -32,6 +32,7 @@ pub mod ControlExamples
 pub mod CountLaws
 pub mod EngineLaws
 pub mod Examples
+pub mod FaultStatuses
 pub mod FrameLaws
 pub mod FrameOplocks
 pub mod FrameWatches

@@ -13,10 +13,10 @@ use Rattle.fsa_types.specs.CaseTable.{same_name, upcased}
 use Rattle.fsa_types.specs.Rows.{row_of, lives, with_row_changed, IsNumbered}
 use Rattle.fsa_model.specs.Edits.{with_link_moved}
 use Rattle.fsa_model.specs.Lookups.{child_of, is_at_or_below, is_named, is_directory, has_child, has_row, leads_to, link_of_file, linked_file}
-use Rattle.fsa_model.specs.Sound.{IsSound, LeadsUp, is_stream_of_link}
+use Rattle.fsa_model.specs.Sound.{IsSound, IsSoundTree, LeadsUp, is_stream_of_link}
 use Rattle.fsa_model.specs.Volume.{File, Link, Volume}
 use Rattle.fsa_model.proofs.RowLaws.{any-map, any-same, find-all, find-filter, find-map, find-same, AllPairs-map, change_at, change_at-same, change_at-number, IsNumbered-change, row_of-here, eqb-swap, find-none, number_of-none, option_map-none, or_right, option_cases, none-all}
-use Rattle.fsa_model.proofs.SoundLaws.{is_of_living-more, has_its_stream-more}
+use Rattle.fsa_model.proofs.SoundLaws.{is_of_living-more, has_its_stream-more, tree_of, with_links_sound}
 use Rattle.fsa_model.proofs.WaitLaws.{find-passes}
 
 -- ---- what leads up
@@ -33,10 +33,10 @@ filter-shorter p q (y ∷ xs) x found loses = elim (cases_Bool (p y)) [
 ]
 
 -- one step up, taken apart and made
-abbrev Up : ℕ → List (ℕ × Link) → ℕ → ℕ → Type 0
+abbrev pub Up : ℕ → List (ℕ × Link) → ℕ → ℕ → Type 0
 Up steps links above dir = (entry : ℕ × Link) × ((link_of_file links dir ≡ Some entry) × (leads_to steps links above entry.1.parent ≡ true))
 
-step_of : (steps : ℕ) (links : List (ℕ × Link)) (above dir : ℕ) → leads_to (suc steps) links above dir ≡ true → ((dir == above) ≡ true) ⊎ Up steps links above dir
+pub step_of : (steps : ℕ) (links : List (ℕ × Link)) (above dir : ℕ) → leads_to (suc steps) links above dir ≡ true → ((dir == above) ≡ true) ⊎ Up steps links above dir
 step_of steps links above dir leads =
     let next_up : Option (ℕ × Link) → Bool = λ o. option_map_or (λ entry. leads_to steps links above entry.1.parent) o false in
     elim (or_cases (dir == above) (next_up (link_of_file links dir)) leads) [
@@ -268,7 +268,7 @@ number-found None id found = cc
 number-found (Some entry) id found = (entry, (refl, cc))
 
 -- the one link of this name in this directory
-pub named-only : (v : Volume) (dir : ℕ) (name : List ℕ) (target : ℕ) → IsSound v → child_of v dir name ≡ Some target → is_taken v target dir name ≡ false
+pub named-only : (v : Volume) (dir : ℕ) (name : List ℕ) (target : ℕ) → IsSoundTree v → child_of v dir name ≡ Some target → is_taken v target dir name ≡ false
 named-only v dir name target sound found =
     let one = number-found (find (λ (e : ℕ × Link). is_named v.table dir name e.1) v.links) target found in
     list_any_none (λ e. not (e.0 == target) && is_named v.table dir name e.1) v.links
@@ -282,7 +282,7 @@ named-none v link dir name none =
     list_any_none (λ e. not (e.0 == link) && is_named v.table dir name e.1) v.links (λ k d within. and_right (not ((get_or v.links k d).0 == link)) _ (all k d within))
 
 -- the link of this name there, where there is one, is the one that moves
-pub free-named : (v : Volume) (link dir : ℕ) (name : List ℕ) → IsSound v → IfSome (child_of v dir name) (λ other. (other == link) ≡ true) → is_taken v link dir name ≡ false
+pub free-named : (v : Volume) (link dir : ℕ) (name : List ℕ) → IsSoundTree v → IfSome (child_of v dir name) (λ other. (other == link) ≡ true) → is_taken v link dir name ≡ false
 free-named v link dir name sound free = elim (option_cases (child_of v dir name)) [
   | inl none ↦ named-none v link dir name none
   | inr some ↦ (let here : (some.0 == link) ≡ true = rw some.1 at free in
@@ -293,12 +293,12 @@ free-named v link dir name sound free = elim (option_cases (child_of v dir name)
 
 -- the link goes to a directory that isn't marked, from which links lead up, and that isn't what is moved or
 -- below it; and it gets a name there that no other link has
-pub IsSound-with_link_moved : (v : Volume) (link parent : ℕ) (name : List ℕ) (row : Link) → IsSound v → row_of v.links link ≡ Some row
+pub IsSoundTree-with_link_moved : (v : Volume) (link parent : ℕ) (name : List ℕ) (row : Link) → IsSoundTree v → row_of v.links link ≡ Some row
     → is_directory v.files parent ≡ true → LeadsUp v.links parent → has_row (λ l. l.file == parent && l.deleted) v.links ≡ false
     → (is_directory v.files row.file && is_at_or_below v.links row.file parent) ≡ false
     → is_taken v link parent name ≡ false
-    → IsSound (with_link_moved v link parent name)
-IsSound-with_link_moved v link parent name row sound found directory leads unmarked not_below free =
+    → IsSoundTree (with_link_moved v link parent name)
+IsSoundTree-with_link_moved v link parent name row sound found directory leads unmarked not_below free =
     let change : Link → Link = λ r. record r { parent = parent; name = name } in
     let at : ℕ × Link → ℕ × Link = change_at change link in
     let links' : List (ℕ × Link) = with_row_changed change v.links link in
@@ -371,30 +371,25 @@ IsSound-with_link_moved v link parent name row sound found directory leads unmar
             ]));
         numbers_are_not_0 = All-map (λ entry. (entry.0 == 0) ≡ false) at v.links (λ k d within. rw (change_at-number change link (get_or v.links k d)) (sound.tree.numbers_are_not_0 k d within));
       };
-      opens = record {
-        are_of_living = λ k d within. is_of_living-more v.links links' v.streams v.streams (get_or v.handles k d).1
-            (λ living. as_many _ ∙ living) (λ s is living. of_link _ s ∙ living) (sound.opens.are_of_living k d within);
-        have_streams = λ k d within. has_its_stream-more v.files v.files v.links links' (get_or v.handles k d).1
-            (λ living. any-map (λ l. l.0 == (get_or v.handles k d).1.link && is_directory v.files l.1.file) at v.links
-            ∙ any-same (λ l. (at l).0 == (get_or v.handles k d).1.link && is_directory v.files (at l).1.file) (λ l. l.0 == (get_or v.handles k d).1.link && is_directory v.files l.1.file) v.links
-            (λ l. rw (change_at-number change link l, file_of l) refl) ∙ living) (sound.opens.have_streams k d within);
-        differ = sound.opens.differ;
-        have_clients = sound.opens.have_clients;
-      };
-      pending = sound.pending;
-      clients = sound.clients;
-      of_handles = sound.of_handles;
+      are_of_living = λ k d within. is_of_living-more v.links links' v.streams v.streams (get_or v.handles k d).1
+          (λ living. as_many _ ∙ living) (λ s is living. of_link _ s ∙ living) (sound.are_of_living k d within);
+      have_streams = λ k d within. has_its_stream-more v.files v.files v.links links' (get_or v.handles k d).1
+          (λ living. any-map (λ l. l.0 == (get_or v.handles k d).1.link && is_directory v.files l.1.file) at v.links
+          ∙ any-same (λ l. (at l).0 == (get_or v.handles k d).1.link && is_directory v.files (at l).1.file) (λ l. l.0 == (get_or v.handles k d).1.link && is_directory v.files l.1.file) v.links
+          (λ l. rw (change_at-number change link l, file_of l) refl) ∙ living) (sound.have_streams k d within);
       files_numbered = sound.files_numbered;
       links_numbered = IsNumbered-change change v.links v.last_link link sound.links_numbered;
       streams_numbered = sound.streams_numbered;
       handles_numbered = sound.handles_numbered;
-      locks_numbered = sound.locks_numbered;
-      oplocks = sound.oplocks;
-      blockers_given = sound.blockers_given;
-      streams_fit = sound.streams_fit;
-      points_fit = sound.points_fit;
-      bounded = record { files = sound.bounded.files; links = sound.bounded.links; streams = sound.bounded.streams; handles = sound.bounded.handles; clock = sound.bounded.clock; locks = sound.bounded.locks; breaks = sound.bounded.breaks };
     }
+
+pub IsSound-with_link_moved : (v : Volume) (link parent : ℕ) (name : List ℕ) (row : Link) → IsSound v → row_of v.links link ≡ Some row
+    → is_directory v.files parent ≡ true → LeadsUp v.links parent → has_row (λ l. l.file == parent && l.deleted) v.links ≡ false
+    → (is_directory v.files row.file && is_at_or_below v.links row.file parent) ≡ false
+    → is_taken v link parent name ≡ false
+    → IsSound (with_link_moved v link parent name)
+IsSound-with_link_moved v link parent name row sound found directory leads unmarked not_below free = with_links_sound v (with_link_moved v link parent name).links sound
+    (IsSoundTree-with_link_moved v link parent name row (tree_of v sound) found directory leads unmarked not_below free)
 
 -- a link that isn't there isn't moved
 with_link_moved-none : (v : Volume) (link parent : ℕ) (name : List ℕ) → row_of v.links link ≡ None → with_link_moved v link parent name ≡ v
@@ -404,13 +399,21 @@ with_link_moved-none v link parent name none =
     (λ k d within. rw (none-all (λ (e : ℕ × Link). e.0 == link) v.links (find-none (λ (e : ℕ × Link). e.0 == link) v.links (option_map-none (λ (e : ℕ × Link). e.1) _ none)) k d within) refl))
 
 -- so a volume stays sound where a link moves, told by what is looked up
+pub IsSoundTree-moved : (v : Volume) (link parent : ℕ) (name : List ℕ) → IsSoundTree v
+    → is_directory v.files parent ≡ true → LeadsUp v.links parent → has_row (λ l. l.file == parent && l.deleted) v.links ≡ false
+    → (is_directory v.files (linked_file v link) && is_at_or_below v.links (linked_file v link) parent) ≡ false
+    → IfSome (child_of v parent name) (λ other. (other == link) ≡ true)
+    → IsSoundTree (with_link_moved v link parent name)
+IsSoundTree-moved v link parent name sound directory leads unmarked not_below free = elim (option_cases (row_of v.links link)) [
+  | inl none ↦ rw (with_link_moved-none v link parent name none) sound
+  | inr some ↦ IsSoundTree-with_link_moved v link parent name some.0 sound some.1 directory leads unmarked (rw some.1 at not_below)
+      (free-named v link parent name sound free)
+]
+
 pub IsSound-moved : (v : Volume) (link parent : ℕ) (name : List ℕ) → IsSound v
     → is_directory v.files parent ≡ true → LeadsUp v.links parent → has_row (λ l. l.file == parent && l.deleted) v.links ≡ false
     → (is_directory v.files (linked_file v link) && is_at_or_below v.links (linked_file v link) parent) ≡ false
     → IfSome (child_of v parent name) (λ other. (other == link) ≡ true)
     → IsSound (with_link_moved v link parent name)
-IsSound-moved v link parent name sound directory leads unmarked not_below free = elim (option_cases (row_of v.links link)) [
-  | inl none ↦ rw (with_link_moved-none v link parent name none) sound
-  | inr some ↦ IsSound-with_link_moved v link parent name some.0 sound some.1 directory leads unmarked (rw some.1 at not_below)
-      (free-named v link parent name sound free)
-]
+IsSound-moved v link parent name sound directory leads unmarked not_below free = with_links_sound v (with_link_moved v link parent name).links sound
+    (IsSoundTree-moved v link parent name (tree_of v sound) directory leads unmarked not_below free)

@@ -38,7 +38,7 @@ use Rattle.fsa_model.proofs.WatchLaws.{watching-calls_ended}
 -- ---- a Notify's own try
 
 -- nothing is due to a watch that has just been fixed
-fixed-none_due : (v : Volume) (id filter : ℕ) (whole : Bool) → watch_of v id ≡ None → is_something_due (with_watch v id filter whole (length v.changes)) id ≡ false
+pub fixed-none_due : (v : Volume) (id filter : ℕ) (whole : Bool) → watch_of v id ≡ None → is_something_due (with_watch v id filter whole (length v.changes)) id ≡ false
 fixed-none_due v id filter whole none =
     let new : Watch = record { handle = id; filter = filter; tree = whole; from = length v.changes } in
     let found : find (λ (watch : Watch). watch.handle == id) (v.watches ++ new ∷ []) ≡ Some new = find-push id v.watches new none (eq-eqb id id refl) in

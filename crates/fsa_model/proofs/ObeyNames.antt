@@ -1,6 +1,6 @@
 -- Renames, links and marks for deletion keep what every try keeps.
-use Rattle.std.proofs.Common.{◌≡◌, ℕ, ◌≤◌, Bool, true, false, not, List, length, ◌+◌, refl, sym, arith, inl, Option, Some, None}
-use Rattle.std.specs.Prelude.{◌==◌, ◌||◌, is_some, if◌then◌else◌}
+use Rattle.std.proofs.Common.{ℕ, ◌≤◌, Bool, true, false, not, List, length, ◌+◌, refl, arith, inl, Option, Some, None}
+use Rattle.std.specs.Prelude.{◌==◌, ◌||◌, is_some}
 use Rattle.fsa_types.specs.Access.{has_any}
 use Rattle.fsa_types.specs.Masks.{DELETE, WRITE_DATA}
 use Rattle.fsa_types.specs.Paths.{components, rest_of}
@@ -8,8 +8,7 @@ use Rattle.fsa_types.specs.Rows.{row_of, without_row}
 use Rattle.fsa_types.specs.declared.oplock.Class.TheVariants.{NameChange}
 use Rattle.fsa_types.specs.declared.oplock.HandleSet.TheVariants as set
 use Rattle.fsa_types.specs.declared.request.Call.{Call}
-use Rattle.fsa_types.specs.declared.status.Status.{Status}
-use Rattle.fsa_types.specs.declared.status.Status.TheVariants.{Success, InvalidHandle, InvalidParameter, AccessDenied, CannotDelete, DeletePending, DirectoryNotEmpty, FileIsADirectory, ObjectNameCollision, ObjectNameInvalid, TooManyLinks}
+use Rattle.fsa_types.specs.declared.status.Status.TheVariants.{Success, InvalidHandle, InvalidParameter, AccessDenied, CannotDelete, DirectoryNotEmpty, FileIsADirectory, ObjectNameCollision, ObjectNameInvalid, TooManyLinks}
 use Rattle.fsa_model.specs.Bounds.{most_point_bytes}
 use Rattle.fsa_model.specs.Breaks.{with_breaks}
 use Rattle.fsa_model.specs.Changes.{with_change_noted}
@@ -27,6 +26,7 @@ use Rattle.fsa_model.specs.Starving.{only_settlements_give}
 use Rattle.fsa_model.specs.Volume.{Handle, Link, Volume}
 use Rattle.fsa_model.specs.Walk.{Walked, Reached, Barred, Diverted, walk}
 use Rattle.fsa_model.proofs.FrameLaws.{AddsNothing-without_file, EndsPending-equal}
+use Rattle.fsa_model.proofs.FaultStatuses.{replace-fails}
 use Rattle.fsa_model.proofs.ObeyLaws.{Calm, Calm-basic, Calm-files, Calm-if, Calm-next, Calm-noted, Calm-option, Calm-same, Calm-tree, CanBeHeld, Gains, Gains-after, Gains-next, Obeys, Obeys-breaks, Obeys-ends, Obeys-gains, Obeys-if, Obeys-option, Obeys-refused}
 use Rattle.fsa_model.proofs.ObeyPaths.{BarsPlainly, length-rest_of, stopped-obeys, walk_from-plain}
 use Rattle.fsa_model.proofs.PendLaws.{HandlesStay-same}
@@ -44,24 +44,6 @@ Calm-without_link v link =
 Calm-replaced : (v : Volume) (replaced : Option ℕ) → Calm v (with_replaced v replaced)
 Calm-replaced v replaced =
     Calm-option replaced (λ link. with_link_replaced v link) v (λ link. Calm-next (Calm-noted v link _ _ None) (Calm-without_link _ link)) (Calm-same v)
-
--- why a link isn't replaced is never want of memory, nor that all clients wait
-fault-plain : (marked keeps directory moved readonly denied : Bool) (why : Status)
-    → (if marked then Some DeletePending else if keeps then Some ObjectNameCollision else if directory then Some AccessDenied
-    else if moved then Some AccessDenied else if readonly then Some AccessDenied else if denied then Some AccessDenied else None) ≡ Some why
-    → only_settlements_give why ≡ false
-fault-plain true keeps directory moved readonly denied why is = (let same : DeletePending ≡ why = cc in rw (sym same) refl)
-fault-plain false true directory moved readonly denied why is = (let same : ObjectNameCollision ≡ why = cc in rw (sym same) refl)
-fault-plain false false true moved readonly denied why is = (let same : AccessDenied ≡ why = cc in rw (sym same) refl)
-fault-plain false false false true readonly denied why is = (let same : AccessDenied ≡ why = cc in rw (sym same) refl)
-fault-plain false false false false true denied why is = (let same : AccessDenied ≡ why = cc in rw (sym same) refl)
-fault-plain false false false false false true why is = (let same : AccessDenied ≡ why = cc in rw (sym same) refl)
-fault-plain false false false false false false why is = cc
-
-replace_fault-plain : (v : Volume) (naming : Naming) (replaced : ℕ) (why : Status) → replace_fault v naming replaced ≡ Some why → only_settlements_give why ≡ false
-replace_fault-plain v naming replaced why is =
-    fault-plain (is_link_marked v replaced) (not naming.replace) (is_directory v.files (linked_file v replaced)) (is_directory v.files naming.file) (is_readonly v (linked_file v replaced))
-    (not (grants v (linked_file v replaced) naming.client DELETE)) why is
 
 -- the reply of the call has room for what is left of this path at a reparse point
 pub record HoldsPath (call : Call) (path : List ℕ) : Type 0 where
@@ -105,7 +87,7 @@ rename_over_broken-obeys call v naming dir replaced can =
 rename_over-obeys : (call : Call) (v : Volume) (naming : Naming) (dir replaced : ℕ) → CanBeHeld call → Obeys call v (rename_over v naming dir replaced)
 unfolding rename_over
 rename_over-obeys call v naming dir replaced can =
-    Obeys-option (replace_fault v naming replaced) (λ why. refused v why) _ (λ why is. Obeys-refused call v why (replace_fault-plain v naming replaced why is)) (rename_over_broken-obeys call v naming dir replaced can)
+    Obeys-option (replace_fault v naming replaced) (λ why. refused v why) _ (λ why is. Obeys-refused call v why (replace-fails only_settlements_give v naming replaced why refl refl refl is)) (rename_over_broken-obeys call v naming dir replaced can)
 
 rename_named-obeys : (call : Call) (v : Volume) (naming : Naming) (dir : ℕ) → CanBeHeld call → Obeys call v (rename_named v naming dir)
 unfolding rename_named
@@ -208,7 +190,7 @@ link_over_broken-obeys call v naming dir replaced can =
 link_over_other-obeys : (call : Call) (v : Volume) (naming : Naming) (dir replaced : ℕ) → CanBeHeld call → Obeys call v (link_over_other v naming dir replaced)
 unfolding link_over_other
 link_over_other-obeys call v naming dir replaced can =
-    Obeys-option (replace_fault v naming replaced) (λ why. refused v why) _ (λ why is. Obeys-refused call v why (replace_fault-plain v naming replaced why is)) (link_over_broken-obeys call v naming dir replaced can)
+    Obeys-option (replace_fault v naming replaced) (λ why. refused v why) _ (λ why is. Obeys-refused call v why (replace-fails only_settlements_give v naming replaced why refl refl refl is)) (link_over_broken-obeys call v naming dir replaced can)
 
 link_over-obeys : (call : Call) (v : Volume) (naming : Naming) (dir replaced : ℕ) → CanBeHeld call → Obeys call v (link_over v naming dir replaced)
 unfolding link_over

@@ -1,8 +1,6 @@
 -- The walk of a path, and a reparse point that stops it, as every try of a request with a path has them.
-use Rattle.std.proofs.Common.{◌≡◌, ℕ, zero, suc, ◌+◌, ◌≤◌, false, List, [], ◌∷◌, length, length-append, drop, refl, ap, arith, inl, inr, Some, None}
+use Rattle.std.proofs.Common.{◌≡◌, ℕ, zero, suc, ◌≤◌, List, [], ◌∷◌, length, length-append, drop, refl, ap, arith, inl, inr, Some, None}
 use Rattle.std.specs.List.{join_with_byte}
-use Rattle.std.specs.Prelude.{◌==◌, is_some}
-use Rattle.std.proofs.lemmas.Bool.{cases_Bool}
 use Rattle.std.proofs.lemmas.List.{length-drop}
 use Rattle.std.proofs.lemmas.List.Splits.{join_with_byte-slice_split}
 use Rattle.fsa_types.specs.Paths.{rest_of, path_pieces}
@@ -11,12 +9,12 @@ use Rattle.fsa_types.specs.declared.request.Call.{Call}
 use Rattle.fsa_types.specs.declared.status.Status.TheVariants as status
 use Rattle.fsa_model.specs.Bounds.{most_point_bytes}
 use Rattle.fsa_model.specs.Frame.{most_reply_bytes, most_reply_units, PointsFit}
-use Rattle.fsa_model.specs.Lookups.{child_of, is_directory}
-use Rattle.fsa_model.specs.Open.{stop_status, stopped}
+use Rattle.fsa_model.specs.Open.{stopped}
 use Rattle.fsa_model.specs.Sound.{PointFits}
 use Rattle.fsa_model.specs.Starving.{only_settlements_give}
 use Rattle.fsa_model.specs.Volume.{File, Volume}
-use Rattle.fsa_model.specs.Walk.{Walked, Reached, Barred, Diverted, point_of, through, by_link, into, then_walk, walk_from}
+use Rattle.fsa_model.specs.Walk.{Walked, point_of, walk_from}
+use Rattle.fsa_model.proofs.FaultStatuses.{BarsWithout, stop-fails, walk-fails}
 use Rattle.fsa_model.proofs.ObeyLaws.{Obeys, Obeys-option, Obeys-refused, Obeys-replies_fit}
 use Rattle.fsa_model.proofs.RowLaws.{option_cases, row_of-all}
 
@@ -46,41 +44,12 @@ length-rest_of path next =
 
 -- a walk that is barred isn't so for want of memory, nor since all clients wait
 abbrev pub BarsPlainly : Walked → Type 0
-BarsPlainly (Reached dir) = Unit {0}
-BarsPlainly (Barred why) = only_settlements_give why ≡ false
-BarsPlainly (Diverted file next) = Unit {0}
-
-then_walk-plain : (go_on : ℕ → Walked) (walked : Walked) → ((dir : ℕ) → BarsPlainly (go_on dir)) → BarsPlainly walked → BarsPlainly (then_walk go_on walked)
-then_walk-plain go_on (Reached dir) on plain = on dir
-then_walk-plain go_on (Barred why) on plain = plain
-then_walk-plain go_on (Diverted file next) on plain = plain
-
-through-plain : (v : Volume) (file next : ℕ) → BarsPlainly (through v file next)
-through-plain v file next = elim (cases_Bool (is_some (point_of v file))) [
-  | inl point ↦ rw point tt
-  | inr none ↦ elim (cases_Bool (is_directory v.files file)) [ inl is ↦ rw (none, is) tt | inr isnt ↦ rw (none, isnt) refl ]
-]
-
-by_link-plain : (v : Volume) (link next : ℕ) → BarsPlainly (by_link v link next)
-by_link-plain v link next = elim (option_cases (row_of v.links link)) [
-  | inl none ↦ rw none refl
-  | inr some ↦ elim (cases_Bool some.0.deleted) [ inl is ↦ rw (some.1, is) refl | inr isnt ↦ rw (some.1, isnt) (through-plain v some.0.file next) ]
-]
-
-into-plain : (v : Volume) (dir : ℕ) (name : List ℕ) (next : ℕ) → BarsPlainly (into v dir name next)
-into-plain v dir name next = elim (option_cases (child_of v dir name)) [ inl none ↦ rw none refl | inr some ↦ rw some.1 (by_link-plain v some.0 next) ]
+BarsPlainly walked = BarsWithout only_settlements_give walked
 
 pub walk_from-plain : (v : Volume) (dir place : ℕ) (names : List (List ℕ)) → BarsPlainly (walk_from v dir place names)
-walk_from-plain v dir place [] = tt
-walk_from-plain v dir place (name ∷ more) = elim (cases_Bool (length more == 0)) [
-  | inl last ↦ rw last tt
-  | inr inner ↦ rw inner (then_walk-plain (λ next. walk_from v next (place + 1) more) (into v dir name (place + 1)) (λ next. walk_from-plain v next (place + 1) more) (into-plain v dir name (place + 1)))
-]
+walk_from-plain v dir place names = walk-fails only_settlements_give refl refl v names dir place
 
 -- ---- a reparse point
-
-stop_status-plain : (tag : ℕ) → only_settlements_give (stop_status tag) ≡ false
-stop_status-plain tag = elim (cases_Bool (tag == 0xA000000C)) [ inl is ↦ rw is refl | inr isnt ↦ rw isnt refl ]
 
 -- what is there to be said of a point fits a reply
 short : (v : Volume) (file : ℕ) (point : ℕ × List ℕ) → PointsFit v → point_of v file ≡ Some point → length point.1 ≤ most_point_bytes
@@ -95,5 +64,5 @@ pub stopped-obeys : (call : Call) (v : Volume) (file : ℕ) (rest : List ℕ) �
 unfolding stopped
 stopped-obeys call v file rest bytes units =
     Obeys-option (point_of v file) _ _
-    (λ point is. Obeys-replies_fit call v _ (λ fit. record { bytes = (let few = short v file point fit is in omega arith); units = units }) (stop_status-plain point.0))
+    (λ point is. Obeys-replies_fit call v _ (λ fit. record { bytes = (let few = short v file point fit is in omega arith); units = units }) (stop-fails only_settlements_give point.0 refl refl))
     (Obeys-refused call v status.ObjectPathNotFound refl)

@@ -5,10 +5,10 @@ use Rattle.std.specs.Prelude.{◌==◌, ◌&&◌, option_map, IfSome}
 use Rattle.std.proofs.lemmas.Bool.{eqb-true, both_ways, cases_Bool, and_parts}
 use Rattle.std.proofs.lemmas.List.Elements.{All-filter, filter_passes}
 use Rattle.fsa_types.specs.CaseTable.{same_name}
-use Rattle.fsa_types.specs.Rows.{lives, row_of, without_row}
+use Rattle.fsa_types.specs.Rows.{lives, row_of, without_row, IsNumbered}
 use Rattle.fsa_model.specs.Edits.{without_link}
 use Rattle.fsa_model.specs.Lookups.{child_of, has_child, has_row, is_directory, is_named, linked_file}
-use Rattle.fsa_model.specs.Sound.{IsSound, LeadsUp}
+use Rattle.fsa_model.specs.Sound.{IsSoundTree, LeadsUp}
 use Rattle.fsa_model.specs.Volume.{Link, Volume}
 use Rattle.fsa_model.proofs.MoveLaws.{named-only, number-found}
 use Rattle.fsa_model.proofs.RowLaws.{any-filter, any-filter_none, eqb-swap, find-any, find-filter, none-all, option_cases}
@@ -93,13 +93,13 @@ directory-without v target dir name empty named directory = elim (option_cases (
       ])
 ]
 
-pub leads-without : (v : Volume) (target dir : ℕ) (name : List ℕ) → IsSound v → IfSome (row_of v.links target) (λ row. has_child v.links row.file ≡ false)
+pub leads-without : (v : Volume) (target dir : ℕ) (name : List ℕ) → IsNumbered v.links v.last_link → IfSome (row_of v.links target) (λ row. has_child v.links row.file ≡ false)
     → child_of v dir name ≡ Some target → LeadsUp v.links dir → LeadsUp (without_link v target).links dir
-leads-without v target dir name sound empty named up = elim (option_cases (row_of v.links target)) [
+leads-without v target dir name numbered empty named up = elim (option_cases (row_of v.links target)) [
   | inl none ↦ rw none up
   | inr some ↦ rw (links_without v target some.0 some.1) (record {
     steps = up.steps;
-    leads = leads_to-without up.steps v.links v.last_link target some.0 1 dir sound.links_numbered some.1 (rw some.1 at empty) (has_named v dir name target named) up.leads;
+    leads = leads_to-without up.steps v.links v.last_link target some.0 1 dir numbered some.1 (rw some.1 at empty) (has_named v dir name target named) up.leads;
   })
 ]
 
@@ -112,7 +112,7 @@ unmarked-without v target dir unmarked = elim (option_cases (row_of v.links targ
 ]
 
 -- no link that is left has the name
-pub unnamed-without : (v : Volume) (target dir : ℕ) (name : List ℕ) (row : Link) → IsSound v → row_of v.links target ≡ Some row → child_of v dir name ≡ Some target
+pub unnamed-without : (v : Volume) (target dir : ℕ) (name : List ℕ) (row : Link) → IsSoundTree v → row_of v.links target ≡ Some row → child_of v dir name ≡ Some target
     → All (λ e. is_named v.table dir name e.1 ≡ false) (without_row v.links target)
 unnamed-without v target dir name row sound found named k d within =
     let kept : ℕ × Link → Bool = λ e. not (e.0 == target) in

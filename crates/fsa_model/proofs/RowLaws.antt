@@ -4,7 +4,7 @@ use Rattle.std.specs.List.{find, filter, list_any, All, AllPairs}
 use Rattle.std.specs.Borrow.{Bor}
 use Rattle.std.specs.Option.{option_copied}
 use Rattle.std.specs.Prelude.{◌==◌, ◌||◌, map, option_map, IfSome, if◌then◌else◌}
-use Rattle.std.proofs.lemmas.Bool.{ne_eqb, eqb-true, eqb-false, cases_Bool, false≢true}
+use Rattle.std.proofs.lemmas.Bool.{ne_eqb, eq-eqb, eqb-true, eqb-false, cases_Bool, false≢true}
 use Rattle.std.proofs.lemmas.List.Folds.{list_any-append, list_any_at, list_any_none}
 use Rattle.std.proofs.lemmas.List.Elements.{All-push, All-filter, All-map}
 use Rattle.std.proofs.lemmas.List.Quantifiers.{all_pairs_push}
@@ -233,3 +233,26 @@ find-all P p (y ∷ xs) x found all = elim (cases_Bool (p y)) [
   | inl here ↦ (let is : Some y ≡ Some x = rw here at found in let same : y ≡ x = cc in subst P same (all 0 y (omega arith)))
   | inr other ↦ find-all P p xs x (rw other at found) (λ k d within. all (suc k) d (omega arith))
 ]
+
+-- nothing is found where nothing passes, and no number
+pub find-no : {X : Type 0} (p : X → Bool) (xs : List X) → list_any p xs ≡ false → find p xs ≡ None
+find-no p [] none = refl
+find-no p (x ∷ xs) none =
+    elim (cases_Bool (p x)) [
+      | inl passes ↦ (let impossible : true ≡ false = rw passes at none in cc)
+      | inr fails ↦ rw fails (find-no p xs (rw fails at none))
+    ]
+
+pub number-none : {R : Type 0} (test : R → Bool) (rows : List (ℕ × R)) → All (λ entry. test entry.1 ≡ false) rows → number_of test rows ≡ None
+number-none {R} test rows none = rw (find-no (λ (entry : ℕ × R). test entry.1) rows (list_any_none (λ (entry : ℕ × R). test entry.1) rows none)) refl
+
+-- the last item passes, and so the row that was put in is there
+pub any-last : {X : Type 0} (p : X → Bool) (xs : List X) (x : X) → p x ≡ true → list_any p (xs ++ x ∷ []) ≡ true
+any-last p xs x passes = list_any-append p xs (x ∷ []) ∙ rw passes (or_right (list_any p xs) true refl)
+
+pub lives-last : {R : Type 0} (rows : List (ℕ × R)) (id : ℕ) (row : R) → lives (rows ++ (id, row) ∷ []) id ≡ true
+lives-last {R} rows id row = any-last (λ (entry : ℕ × R). entry.0 == id) rows (id, row) (eq-eqb id id refl)
+
+-- the next number is no row's
+pub no-next : {R : Type 0} (rows : List (ℕ × R)) (last : ℕ) → All (λ entry. entry.0 ≤ last) rows → All (λ entry. (entry.0 == last + 1) ≡ false) rows
+no-next rows last given k d within = (let below = given k d within in ne_eqb _ (last + 1) (λ e. absurd (omega arith)))

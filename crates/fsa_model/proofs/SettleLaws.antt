@@ -97,7 +97,7 @@ first-item (x ∷ items) item test first passes = (let same : x ≡ item = some_
     some_same is = cc
 
 -- the first item in order is the least
-first-least : (rows : List (ℕ × Pending)) (entry : ℕ × Pending) → slice_get (in_order (λ a b. nat_lt a.0 b.0) rows) 0 ≡ Some entry → how_many (λ e. nat_lt e.0 entry.0) rows ≡ 0
+pub first-least : (rows : List (ℕ × Pending)) (entry : ℕ × Pending) → slice_get (in_order (λ a b. nat_lt a.0 b.0) rows) 0 ≡ Some entry → how_many (λ e. nat_lt e.0 entry.0) rows ≡ 0
 first-least [] entry first = cc
 first-least (x ∷ rows) entry first =
     let same = how_many-in_order (λ e. nat_lt e.0 entry.0) (λ a b. nat_lt a.0 b.0) rows in

@@ -1,5 +1,5 @@
--- Changes, and from where they are seen, after [MS-FSA] 'Server Requests Change Notifications for a
--- Directory' and 'Algorithm for Reporting a Change'.
+-- Changes, and from where they are seen, after [MS-FSA] 'Server Requests Change Notifications for a Directory' and 'Algorithm
+-- for Reporting a Change Notification for a Directory'.
 use Rattle.std.specs.Prelude.{ℕ, ◌+◌, List, [], ◌∷◌, ◌++◌, Option, zero, suc, max, length}
 use Rattle.std.specs.Option.{option_map_or}
 use Rattle.fsa_types.specs.Rows.{row_of}

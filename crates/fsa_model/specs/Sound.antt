@@ -129,3 +129,15 @@ pub record IsSound (v : Volume) : Type 0 where
   pub streams_fit : All (λ entry. length entry.1.bytes ≤ 2 ^ 26) v.streams
   pub points_fit : All (λ entry. PointFits entry.1) v.files
   pub bounded : AreBounded v
+
+-- a part of it that holds however many calls are made, without the bounds: the tree; each handle's link is there or
+-- is 0, its stream is of that link's file, and only a directory's handle has none; and the numbers of files, links,
+-- streams and handles rise, none above the last one given
+pub record IsSoundTree (v : Volume) : Type 0 where
+  pub tree : IsTree v.table v.files v.links v.streams
+  pub are_of_living : All (λ entry. IsTrue (is_of_living v.links v.streams entry.1)) v.handles
+  pub have_streams : All (λ entry. IsTrue (has_its_stream v.files v.links entry.1)) v.handles
+  pub files_numbered : IsNumbered v.files v.last_file
+  pub links_numbered : IsNumbered v.links v.last_link
+  pub streams_numbered : IsNumbered v.streams v.last_stream
+  pub handles_numbered : IsNumbered v.handles v.last_handle

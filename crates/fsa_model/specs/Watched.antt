@@ -1,6 +1,6 @@
 -- What watches report over a history: each time that a Notify fixes a watch or has it report, in order; and what each
--- report says, after [MS-FSA] 'Server Requests Change Notifications for a Directory' and 'Algorithm for Reporting
--- a Change'.
+-- report says, after [MS-FSA] 'Server Requests Change Notifications for a Directory' and 'Algorithm for Reporting a
+-- Change Notification for a Directory'.
 use Rattle.std.specs.List.{list_any}
 use Rattle.std.specs.Option.{option_map_or}
 use Rattle.std.specs.Prelude.{◌≡◌, ◌==◌, ◌&&◌, not, nat_le, ℕ, Bool, true, false, zero, suc, List, [], ◌∷◌, ◌++◌, drop, filter, map, length, Option, Some, None, is_some, if◌then◌else◌}

@@ -1,5 +1,5 @@
--- Watching a directory for changes, after [MS-FSA] 'Server Requests Change Notifications for a Directory' and
--- 'Algorithm for Reporting a Change': what is due to a watch, what a report of it says, and a try of a Notify.
+-- Watching a directory for changes, after [MS-FSA] 'Server Requests Change Notifications for a Directory' and 'Algorithm for
+-- Reporting a Change Notification for a Directory': what is due to a watch, what a report of it says, and a try of a Notify.
 use Rattle.std.specs.Prelude.{ℕ, Bool, false, ◌==◌, ◌&&◌, ◌||◌, not, nat_le, List, [], ◌∷◌, drop, filter, map, find, length, Option, is_some, option_and_then, if◌then◌else◌}
 use Rattle.std.specs.List.{list_any}
 use Rattle.std.specs.Option.{option_map_or}

@@ -17,8 +17,8 @@ use op_parts::{has_right, is_link_marked};
 use std::alloc::Global;
 use volume_state::{Need, Tried, Volume};
 
-/// What a Notify of this handle is answered for what is due, after [MS-FSA] 'Algorithm for Reporting a Change': all
-/// of it, packed, with SUCCESS; or NOTIFY_ENUM_DIR without bytes, exactly where it takes more than `room` bytes.
+/// What a Notify of this handle is answered for what is due, after [MS-FSA] 'Algorithm for Reporting a Change Notification for
+/// a Directory': all of it, packed, with SUCCESS; or NOTIFY_ENUM_DIR without bytes, exactly where it takes more than `room` bytes.
 ///
 /// In both cases only what is noted from now on is due to the handle; nothing else changes. `NoMemory` changes
 /// nothing, and comes only where what is due takes no more than `room` bytes. Nothing is asked of the volume; a

@@ -12,11 +12,11 @@ use Rattle.fsa_model.specs.Lookups.{child_of, has_child, has_row, is_directory, 
 use Rattle.fsa_model.specs.Sound.{IsSound}
 use Rattle.fsa_model.specs.Volume.{File, Link, Stream, Volume}
 use Rattle.fsa_model.proofs.ReplacementLaws.{directory-without, files-without, leads-without, links_without, no_directory-without, others-without, table_without, unmarked-without, unnamed-without}
-use Rattle.fsa_model.proofs.RowLaws.{any-filter_none, find-all, lives-found, option_cases, row_of-all}
-use Rattle.fsa_model.proofs.SoundLaws.{without_link-last, without_link-other}
+use Rattle.fsa_model.proofs.RowLaws.{any-filter_none, find-all, find-no, lives-found, number-none, option_cases, row_of-all}
+use Rattle.fsa_model.proofs.SoundLaws.{tree_of, without_link-last, without_link-other}
 use Rattle.volume_state.specs.Living.{StaysWithout}
 use Rattle.volume_state.specs.Paths.{units_above, dirs_above}
-use Rattle.volume_state.proofs.OpenLaws.{find-no, number-lives, number-none, units_noted-found, dirs_noted-found}
+use Rattle.volume_state.proofs.OpenLaws.{number-lives, units_noted-found, dirs_noted-found}
 
 -- where at most one item passes, a filter keeps what is found, or nothing is found
 find-thin : {X : Type 0} (p q : X → Bool) (xs : List X) → AllPairs (λ a b. (p a && p b) ≡ false) xs → (find p (filter q xs) ≡ None) ⊎ (find p (filter q xs) ≡ find p xs)
@@ -203,7 +203,7 @@ free-without_link v link dir name sound named =
           absurd (lives-found v.links link (rw named at living) none))
       | inr some ↦ ap (λ links. number_of (is_named (without_link v link).table dir name) links) (links_without v link some.0 some.1)
           ∙ ap (λ table. number_of (is_named table dir name) (without_row v.links link)) (table_without v link some.0 some.1)
-          ∙ number-none (is_named v.table dir name) (without_row v.links link) (unnamed-without v link dir name some.0 sound some.1 named)
+          ∙ number-none (is_named v.table dir name) (without_row v.links link) (unnamed-without v link dir name some.0 (tree_of v sound) some.1 named)
     ]
 
 -- what stays where a link that is empty goes
@@ -217,7 +217,7 @@ StaysWithout-without_link v link sound empty w is =
       no_directory = no_directory-without v link;
       holds = λ dir name named holds. record {
         directory = directory-without v link dir name empty named holds.directory;
-        leads = leads-without v link dir name sound empty named holds.leads;
+        leads = leads-without v link dir name sound.links_numbered empty named holds.leads;
         unmarked = unmarked-without v link dir holds.unmarked;
       };
       free = λ dir name named. free-without_link v link dir name sound named;

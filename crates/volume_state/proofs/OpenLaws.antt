@@ -1,40 +1,24 @@
 -- What is true of a row that was put in, and of one that was found.
-use Rattle.std.proofs.Common.{◌≡◌, ℕ, suc, ◌+◌, ◌<◌, ◌≤◌, Bool, true, false, List, [], ◌∷◌, ◌++◌, length, get_or, refl, ap, sym, subst, ◌∙◌, arith, add-one, inl, inr, Option, Some, None, length-append}
+use Rattle.std.proofs.Common.{◌≡◌, ℕ, suc, ◌+◌, ◌≤◌, Bool, true, false, List, [], ◌∷◌, ◌++◌, length, refl, ap, sym, ◌∙◌, arith, add-one, inl, inr, Option, Some, None, length-append}
 use Rattle.std.specs.List.{find, list_any, All}
 use Rattle.std.specs.Borrow.{Bor}
 use Rattle.std.specs.Option.{option_copied}
 use Rattle.std.specs.Prelude.{◌==◌, ◌&&◌, IsSome, IfSome, IfNone}
-use Rattle.std.proofs.lemmas.Bool.{cases_Bool, cases_lt, both_ways, ne_eqb, eq-eqb, eqb-true, and_parts, and_cases, and_left, and_right, and_from}
-use Rattle.std.proofs.lemmas.List.Folds.{find-append, list_any-append, list_any_at, list_any_none}
-use Rattle.std.proofs.lemmas.List.{get_or_default}
+use Rattle.std.proofs.lemmas.Bool.{cases_Bool, ne_eqb, eq-eqb, eqb-true, and_parts, and_left, and_from}
+use Rattle.std.proofs.lemmas.List.Folds.{find-append, list_any_none}
 use Rattle.fsa_types.specs.Rows.{row_of, lives}
 use Rattle.fsa_types.proofs.RowLemmas.{AreRising, AreRising-rest, AreRising-first}
 use Rattle.fsa_types.specs.CaseTable.{same_name}
 use Rattle.fsa_model.specs.Changes.{ancestors, stream_suffix, units_noted, dirs_noted}
 use Rattle.fsa_model.specs.Edits.{with_link, with_stream}
-use Rattle.fsa_model.specs.Lookups.{has_child, link_of_file, is_directory, has_row, number_of, is_stream_named}
+use Rattle.fsa_model.specs.Lookups.{link_of_file, is_directory, number_of, is_stream_named}
 use Rattle.fsa_model.specs.Sound.{IsSound, LeadsUp, is_stream_of_link, is_link_of_directory}
 use Rattle.fsa_model.specs.Volume.{File, Link, Stream, Volume}
 use Rattle.fsa_model.proofs.MoveLaws.{is_at_or_below-all}
-use Rattle.fsa_model.proofs.RowLaws.{found-all, lives-found, find-any, any-weaker, lives-given, option_cases, or_right, or-false}
+use Rattle.fsa_model.proofs.RowLaws.{found-all, lives-found, find-any, find-no, any-last, no-next, option_cases, or_right, or-false}
 use Rattle.volume_state.specs.Living.{is_link_to}
 use Rattle.volume_state.specs.Paths.{units_above, dirs_above, units_noted_in, dirs_in}
 use Rattle.volume_state.proofs.PathLaws.{path_units-ancestors, length-ancestors, ancestors-push}
-
-pub find-no : {X : Type 0} (p : X → Bool) (xs : List X) → list_any p xs ≡ false → find p xs ≡ None
-find-no p [] none = refl
-find-no p (x ∷ xs) none =
-    elim (cases_Bool (p x)) [
-      | inl passes ↦ (let impossible : true ≡ false = rw passes at none in cc)
-      | inr fails ↦ rw fails (find-no p xs (rw fails at none))
-    ]
-
-pub any-last : {X : Type 0} (p : X → Bool) (xs : List X) (x : X) → p x ≡ true → list_any p (xs ++ x ∷ []) ≡ true
-any-last p xs x passes = list_any-append p xs (x ∷ []) ∙ rw passes (or_right (list_any p xs) true refl)
-
--- the next number is no row's
-pub no-next : {R : Type 0} (rows : List (ℕ × R)) (last : ℕ) → All (λ entry. entry.0 ≤ last) rows → All (λ entry. (entry.0 == last + 1) ≡ false) rows
-no-next rows last given k d within = (let below = given k d within in ne_eqb _ (last + 1) (λ e. absurd (omega arith)))
 
 -- the row that was put in is found
 pub row_of-push : {R : Type 0} (rows : List (ℕ × R)) (last : ℕ) (row : R) → All (λ entry. entry.0 ≤ last) rows → row_of (rows ++ (last + 1, row) ∷ []) (last + 1) ≡ Some row
@@ -46,38 +30,9 @@ row_of-push {R} rows last row given =
     )
     refl
 
-pub lives-push : {R : Type 0} (rows : List (ℕ × R)) (last : ℕ) (row : R) → lives (rows ++ (last + 1, row) ∷ []) (last + 1) ≡ true
-lives-push {R} rows last row = any-last (λ (entry : ℕ × R). entry.0 == last + 1) rows (last + 1, row) (eq-eqb (last + 1) (last + 1) refl)
-
 pub is_link_to-push : (links : List (ℕ × Link)) (last : ℕ) (row : Link) → is_link_to (links ++ (last + 1, row) ∷ []) (last + 1) row.file ≡ true
 is_link_to-push links last row =
     any-last (λ (l : ℕ × Link). l.0 == last + 1 && l.1.file == row.file) links (last + 1, row) (and_from (last + 1 == last + 1) (row.file == row.file) (eq-eqb (last + 1) (last + 1) refl) (eq-eqb row.file row.file refl))
-
--- the file that was put in is a directory as its row says
-pub is_directory-push : (files : List (ℕ × File)) (last : ℕ) (file : File) → All (λ entry. entry.0 ≤ last) files → is_directory (files ++ (last + 1, file) ∷ []) (last + 1) ≡ file.directory
-is_directory-push files last file given =
-    let test : ℕ × File → Bool = λ entry. entry.0 == last + 1 && entry.1.directory in
-    let before : list_any test files ≡ false = list_any_none test files (λ k d within. and_left _ _ (no-next files last given k d within)) in
-    list_any-append test files ((last + 1, file) ∷ []) ∙ rw (before, eq-eqb (last + 1) (last + 1) refl) (or-false file.directory)
-
--- it isn't the root
-pub next-not_root : (v : Volume) → IsSound v → (v.last_file + 1 == 1) ≡ false
-next-not_root v sound =
-    let living : lives v.files 1 ≡ true = any-weaker (λ (entry : ℕ × File). entry.0 == 1 && entry.1.directory) (λ (entry : ℕ × File). entry.0 == 1) v.files (λ entry both. (and_parts _ _ both).0) sound.tree.root_is_directory in
-    let given = lives-given v.files v.last_file 1 sound.files_numbered.given living in
-    ne_eqb (v.last_file + 1) 1 (λ e. absurd (omega arith))
-
--- no link and no stream is one of the next file
-pub next-unlinked : (v : Volume) → IsSound v → has_row (λ link. link.file == v.last_file + 1) v.links ≡ false
-next-unlinked v sound =
-    list_any_none (λ (entry : ℕ × Link). entry.1.file == v.last_file + 1) v.links (λ k d within.
-    let given = lives-given v.files v.last_file _ sound.files_numbered.given (sound.tree.link_files_live k d within) in
-    ne_eqb _ (v.last_file + 1) (λ e. absurd (omega arith)))
-
-pub next-no_stream : (v : Volume) → IsSound v → All (λ entry. (entry.1.file == v.last_file + 1) ≡ false) v.streams
-next-no_stream v sound k d within =
-    let given = lives-given v.files v.last_file _ sound.files_numbered.given (sound.tree.stream_files_live k d within) in
-    ne_eqb _ (v.last_file + 1) (λ e. absurd (omega arith))
 
 -- no link is the root's
 pub no_link_of_root : (links : List (ℕ × Link)) → All (λ entry. (entry.1.file == 1) ≡ false) links → link_of_file links 1 ≡ None
@@ -150,10 +105,6 @@ number-lives {R} test rows =
       | inr some ↦ rw some.1 (find-any (λ (entry : ℕ × R). test entry.1) (λ (entry : ℕ × R). entry.0 == some.0.0) rows some.0 some.1 (eq-eqb some.0.0 some.0.0 refl))
     ]
 
--- where no row passes, no number is found
-pub number-none : {R : Type 0} (test : R → Bool) (rows : List (ℕ × R)) → All (λ entry. test entry.1 ≡ false) rows → number_of test rows ≡ None
-number-none {R} test rows none = rw (find-no (λ (entry : ℕ × R). test entry.1) rows (list_any_none (λ (entry : ℕ × R). test entry.1) rows none)) refl
-
 -- a row that fails, put in, isn't found
 pub number_of-push : {R : Type 0} (test : R → Bool) (rows : List (ℕ × R)) (entry : ℕ × R) → test entry.1 ≡ false → number_of test (rows ++ entry ∷ []) ≡ number_of test rows
 number_of-push {R} test rows entry fails =
@@ -196,45 +147,6 @@ found-of_link table links streams file name =
           let same : some.0.1.file ≡ file = eqb-true _ _ (and_parts (some.0.1.file == file) (same_name table some.0.1.name name) passes).0 in
           find-any (λ (entry : ℕ × Stream). is_stream_named table file name entry.1) (λ (s : ℕ × Stream). s.0 == some.0.0 && is_link_to links link s.1.file) streams some.0 some.1
           (and_from (some.0.0 == some.0.0) (is_link_to links link some.0.1.file) (eq-eqb some.0.0 some.0.0 refl) (ap (λ f. is_link_to links link f) same ∙ is_linked)))
-    ]
-
--- another link that is one of the same directory isn't there
-other-mark : (v : Volume) → IsSound v → (k : ℕ) (d : ℕ × Link) → k < length v.links → is_directory v.files (get_or v.links k d).1.file ≡ true → (get_or v.links k d).1.deleted ≡ false
-    → All (λ entry. (entry.1.file == (get_or v.links k d).1.file && entry.1.deleted) ≡ false) v.links
-other-mark v sound k d within directory clear j e inside =
-    let a : ℕ × Link = get_or v.links j d in
-    let b : ℕ × Link = get_or v.links k d in
-    let same : get_or v.links j e ≡ a = get_or_default v.links j e d inside in
-    let goal_at : (a.1.file == b.1.file && a.1.deleted) ≡ false
-    = elim (cases_lt j k) [
-      | inl before ↦ elim (and_cases (is_directory v.files b.1.file) (a.1.file == b.1.file) (sound.tree.directories_have_one_link j k d before within)) [
-        | inl impossible ↦ absurd (both_ways (is_directory v.files b.1.file) impossible directory)
-        | inr differ ↦ and_left (a.1.file == b.1.file) a.1.deleted differ
-      ]
-      | inr from ↦ elim (cases_lt k j) [
-        | inl behind ↦ elim (cases_Bool (a.1.file == b.1.file)) [
-          | inr differ ↦ and_left (a.1.file == b.1.file) a.1.deleted differ
-          | inl equal ↦ (let files : a.1.file ≡ b.1.file = eqb-true _ _ equal in
-              let pair = sound.tree.directories_have_one_link k j d behind inside in
-              let impossible : (is_directory v.files b.1.file && b.1.file == b.1.file) ≡ false = subst (λ f. (is_directory v.files f && b.1.file == f) ≡ false) files pair in
-              absurd (both_ways (is_directory v.files b.1.file && b.1.file == b.1.file) impossible (and_from (is_directory v.files b.1.file) (b.1.file == b.1.file) directory (eq-eqb b.1.file b.1.file refl))))
-        ]
-        | inr to ↦ (let here : j ≡ k = omega arith in
-            let is : a.1.deleted ≡ false = ap (λ i. (get_or v.links i d).1.deleted) here ∙ clear in
-            and_right (a.1.file == b.1.file) a.1.deleted is)
-      ]
-    ] in
-    ap (λ (entry : ℕ × Link). entry.1.file == b.1.file && entry.1.deleted) same ∙ goal_at
-
--- the mark of a directory's link is the one of all links of the directory
-pub one-mark : (v : Volume) → IsSound v
-    → All (λ entry. is_directory v.files entry.1.file ≡ true → has_row (λ link. link.file == entry.1.file && link.deleted) v.links ≡ entry.1.deleted) v.links
-one-mark v sound k d within directory =
-    let file : ℕ = (get_or v.links k d).1.file in
-    let test : ℕ × Link → Bool = λ entry. entry.1.file == file && entry.1.deleted in
-    elim (cases_Bool (get_or v.links k d).1.deleted) [
-      | inl kept ↦ rw kept (list_any_at test v.links k d within (and_from (file == file) (get_or v.links k d).1.deleted (eq-eqb file file refl) kept))
-      | inr clear ↦ rw clear (list_any_none test v.links (other-mark v sound k d within directory clear))
     ]
 
 -- what a note of a link notes
@@ -297,14 +209,3 @@ found-number links id none =
       | inl root ↦ (let is : id ≡ 0 = eqb-true _ _ root in let found : row_of links id ≡ None = ap (λ i. row_of links i) is ∙ row_of-0 links none in rw found tt)
       | inr other ↦ found-all (λ row. (id == 0) ≡ false) links id (λ k d within. other)
     ]
-
--- a file that is no directory has no link in it
-pub childless : (v : Volume) → IsSound v → (file : ℕ) → is_directory v.files file ≡ false → has_child v.links file ≡ false
-childless v sound file no_directory =
-    list_any_none (λ (entry : ℕ × Link). entry.1.parent == file) v.links (λ k d within.
-    elim (cases_Bool ((get_or v.links k d).1.parent == file)) [
-      | inr other ↦ other
-      | inl here ↦ (let is : (get_or v.links k d).1.parent ≡ file = eqb-true _ _ here in
-          let directory : is_directory v.files file ≡ true = rw (← is) (sound.tree.parents_are_directories k d within) in
-          absurd (both_ways (is_directory v.files file) no_directory directory))
-    ])

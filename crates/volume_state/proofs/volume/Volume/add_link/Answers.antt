@@ -5,8 +5,7 @@ use Rattle.std.proofs.Common.{ℕ, ◌+◌, ◌==◌, ◌&&◌, refl}
 use Rattle.std.proofs.lemmas.Bool.{and_from, eq-eqb}
 use Rattle.fsa_model.specs.Lookups.{is_directory}
 use Rattle.fsa_model.specs.Volume.{Link}
-use Rattle.fsa_model.proofs.RowLaws.{or_right}
-use Rattle.volume_state.proofs.OpenLaws.{any-last}
+use Rattle.fsa_model.proofs.RowLaws.{any-last, or_right}
 use Rattle.volume_state.proofs.WatchedLaws.{watched-link_added}
 use Rattle.volume_state.proofs.volume.Volume.add_link.Goals as goal
 

@@ -4,13 +4,13 @@ use Rattle.fsa_model.specs.Lookups.{has_row, is_directory}
 use Rattle.fsa_model.specs.Sound.{LeadsUp}
 use Rattle.fsa_model.specs.Volume.{Link}
 use Rattle.fsa_model.proofs.RowLaws.{found-all, lent-row}
-use Rattle.fsa_model.proofs.SoundLaws.{LeadsUp-file}
+use Rattle.fsa_model.proofs.SoundLaws.{LeadsUp-file, childless, one-mark, tree_of}
 use Rattle.volume_state.specs.Content.{content_of}
 use Rattle.volume_state.specs.Living.{is_link_to}
-use Rattle.volume_state.proofs.OpenLaws.{lent-lives, linked, one-mark}
+use Rattle.volume_state.proofs.OpenLaws.{lent-lives, linked}
 use Rattle.fsa_model.specs.Lookups.{has_child}
 use Rattle.fsa_model.specs.Sound.{is_link_of_directory}
-use Rattle.volume_state.proofs.OpenLaws.{linked-directory, found-number, childless}
+use Rattle.volume_state.proofs.OpenLaws.{linked-directory, found-number}
 use Rattle.volume_state.proofs.volume.Volume.link.Goals as goal
 
 pub returns-clause-file : goal.returns-clause-file
@@ -27,7 +27,7 @@ pub returns-clause-leads : goal.returns-clause-leads
 returns-clause-leads c =
     let P : Link → Type 0 = λ row. is_directory c.self.inside.files.rows row.file ≡ true → LeadsUp c.self.inside.links.rows row.file in
     rw (← c.self.view_is) (lent-row P c.get.result _ c.get.ensures (found-all P c.self.inside.links.rows c.args.id
-    (λ k d within directory. LeadsUp-file (content_of c.self.inside) c.self.invariant.0 k d within)))
+    (λ k d within directory. LeadsUp-file (content_of c.self.inside) (tree_of (content_of c.self.inside) c.self.invariant.0) k d within)))
 
 pub returns-clause-not_root : goal.returns-clause-not_root
 returns-clause-not_root c =
@@ -45,7 +45,7 @@ returns-clause-lives c = rw (← c.self.view_is) (lent-lives c.self.inside.links
 pub returns-clause-mark : goal.returns-clause-mark
 returns-clause-mark c =
     let P : Link → Type 0 = λ row. is_directory c.self.inside.files.rows row.file ≡ true → has_row (λ link. link.file == row.file && link.deleted) c.self.inside.links.rows ≡ row.deleted in
-    rw (← c.self.view_is) (lent-row P c.get.result _ c.get.ensures (found-all P c.self.inside.links.rows c.args.id (one-mark (content_of c.self.inside) c.self.invariant.0)))
+    rw (← c.self.view_is) (lent-row P c.get.result _ c.get.ensures (found-all P c.self.inside.links.rows c.args.id (one-mark (content_of c.self.inside) (tree_of (content_of c.self.inside) c.self.invariant.0))))
 
 pub returns-clause-directory : goal.returns-clause-directory
 returns-clause-directory c =
@@ -55,7 +55,7 @@ returns-clause-directory c =
 pub returns-clause-childless : goal.returns-clause-childless
 returns-clause-childless c =
     let P : Link → Type 0 = λ row. is_directory c.self.inside.files.rows row.file ≡ false → has_child c.self.inside.links.rows row.file ≡ false in
-    rw (← c.self.view_is) (lent-row P c.get.result _ c.get.ensures (found-all P c.self.inside.links.rows c.args.id (λ k d within. childless (content_of c.self.inside) c.self.invariant.0 _)))
+    rw (← c.self.view_is) (lent-row P c.get.result _ c.get.ensures (found-all P c.self.inside.links.rows c.args.id (λ k d within. childless (content_of c.self.inside) (tree_of (content_of c.self.inside) c.self.invariant.0) _)))
 
 pub returns-clause-number : goal.returns-clause-number
 returns-clause-number c =

@@ -1,5 +1,6 @@
 use Rattle.std.proofs.Common.{refl}
 use Rattle.fsa_model.proofs.MoveLaws.{IsSound-moved, free-named}
+use Rattle.fsa_model.proofs.SoundLaws.{tree_of}
 use Rattle.volume_state.specs.Content.{content_of}
 use Rattle.volume_state.proofs.MovedLaws.{units_noted-moved, dirs_noted-moved}
 use Rattle.volume_state.proofs.WatchedLaws.{watched-link_changed}
@@ -29,4 +30,5 @@ returns-clause-dirs c =
     (rw (← c.self.view_is) at c.requires.parent) (rw (← c.self.view_is) at c.requires.not_below))
 
 pub move_to-requires-clause-free : goal.move_to-requires-clause-free
-move_to-requires-clause-free c = free-named (content_of c.self.inside) c.args.link c.args.parent c.args.name c.self.invariant.0 (rw (← c.self.view_is) at c.requires.free)
+move_to-requires-clause-free c = free-named (content_of c.self.inside) c.args.link c.args.parent c.args.name
+    (tree_of (content_of c.self.inside) c.self.invariant.0) (rw (← c.self.view_is) at c.requires.free)
