@@ -26,6 +26,7 @@ use Rattle.fsa_model.proofs.SettleLaws.{Steps-settle_step, how_many_free, is_fre
 use Rattle.fsa_model.proofs.TakenLaws.{GoesOn, GoesOn-begins, GoesOn-settle_step, MayTakeUp}
 use Rattle.fsa_model.proofs.TurnLaws.{Adds-answered, MayTurn, TriedTo, Turns, try-keeps, turn-turns}
 use Rattle.fsa_model.proofs.WaitLaws.{find-passes}
+use Rattle.history_laws.proofs.TurnByTurn.{differ-front}
 
 -- how many pending calls pass the test
 abbrev pub pending_that : (Call → Bool) → Volume → ℕ
@@ -129,9 +130,6 @@ steps-fewer test r s (entry ∷ history) may differ fails is = elim (option_case
         let one : times entry.call.client entry.call.number r.volume + (1 + how_many (is_entry_of entry.call.client entry.call.number) history) ≤ 1 = rw self at few in omega arith)
 
 -- ---- the run of a history's beginning
-
-pub differ-front : (front later : List HistoryEntry) → CallsDiffer (front ++ later) → CallsDiffer front
-differ-front front later differ client number = (let few = differ client number in let both = how_many-append (is_entry_of client number) front later in omega arith)
 
 pub run-front : (setup : Setup) (front later : List HistoryEntry) (s : Run) → run setup (front ++ later) ≡ Some s → (r : Run) × (run setup front ≡ Some r) × (steps turn_on r later ≡ Some s)
 run-front setup front later s is = elim (option_cases (run setup front)) [

@@ -19,7 +19,8 @@ use Rattle.client_run.specs.Desks.{Asks, DeskView, DeskOnlySees, SeesHistory}
 use Rattle.client_run.specs.Serving.{MakesNextCall, FitsDesk, holding, planned, todo_in}
 use Rattle.client_run.specs.ClientHistory.{IsOrderly, WaitsOnlyBy}
 use Rattle.client_run.proofs.Ordering.{at_front, last_same, none_added, orderly_did, orderly_more, orderly_none}
-use Rattle.client_run.proofs.RunLaws.{differ-front, run-front, run-last}
+use Rattle.client_run.proofs.RunLaws.{run-front, run-last}
+use Rattle.history_laws.proofs.TurnByTurn.{differ-front}
 use Rattle.client_run.proofs.WaitLaws.{only_later, only_over, only_own}
 
 -- the same with the setup and the client of a later view

@@ -31,14 +31,14 @@ use Rattle.history_laws.proofs.WaitedFor.{free-over}
 use Rattle.history_laws.proofs.SettledWaits.{waits-settle}
 use Rattle.history_laws.proofs.Stalling.{waits-stall}
 use Rattle.history_laws.proofs.ToldCalls.{told-of_oplocks}
-use Rattle.history_laws.proofs.TreeRuns.{run-changes_as_asked, run-leaves_nothing_over}
-use Rattle.history_laws.proofs.TurnByTurn.{differ-before}
+use Rattle.history_laws.proofs.ReportsInOrder.{run-reports_to_earliest}
+use Rattle.history_laws.proofs.TreeRuns.{run-changes_as_asked, run-leaves_nothing_over, run-tree_stays_sound, run-tree_stays_well_formed}
+use Rattle.history_laws.proofs.TurnByTurn.{differ-before, differ-front}
 use Rattle.history_laws.proofs.TurnTargets.{told-targets}
 use Rattle.history_laws.proofs.WaitRuns.{waits-end}
 use Rattle.history_laws.proofs.WhyPending.{calls-pend_for_cause}
 use Rattle.text_out.specs.declared.write.TextFault.{TextFault}
 use Rattle.wire_io.specs.Sink.{AppendsPart, Written}
-use Rattle.client_run.proofs.RunLaws.{differ-front}
 use Rattle.fsa_top.specs.Runs.{EndsEachCallOnce, EndsWaitsInFewWays, HoldsByLivingOnes, HoldsThroughout, KeepsHeldBlocked, LeavesNoneReady, TakesUpReleased, WritesWholePart}
 
 ends_each_once : (setup : Setup) (history : List HistoryEntry) → CallsDiffer history → EndsEachCallOnce setup history
@@ -97,8 +97,11 @@ throughout script history free differ = record {
   handles_go_when_closed = handles-go_when_closed script.setup history;
   the_tree_changes_as_asked = run-changes_as_asked script.setup history;
   nothing_is_left_over = run-leaves_nothing_over script.setup history;
+  the_tree_stays_sound = run-tree_stays_sound script.setup history;
+  the_tree_stays_well_formed = run-tree_stays_well_formed script.setup history;
   what_changes_is_noted = run-changes_noted script.setup history;
   watches_report_exactly = run-watches_report script.setup history;
+  the_earliest_notify_is_reported = run-reports_to_earliest script.setup history differ;
 }
 
 pub scheduled-throughout : (script : Script) (history : List HistoryEntry) → Scheduled script history → HoldsThroughout script.setup history

@@ -26,10 +26,13 @@ use Rattle.history_laws.specs.OpensTell.{OpensTellWhatTheyDid}
 use Rattle.history_laws.specs.OplockChanges.{OplocksChangeForCause}
 use Rattle.history_laws.specs.Releasing.{HoldersRelease, OthersReleaseNone}
 use Rattle.history_laws.specs.Races.{AllComeAfterWaits, Begun, Whole}
+use Rattle.history_laws.specs.ReportsInOrder.{ReportsGoToEarliest}
+use Rattle.history_laws.specs.SoundTree.{TreeStaysSound}
 use Rattle.history_laws.specs.Telling.{LeftAsTold, ToldOfOplocks, ToldTargets}
 use Rattle.history_laws.specs.TreeChanges.{TreeChangesAsAsked}
 use Rattle.history_laws.specs.TreeNotes.{ChangesAreNoted}
 use Rattle.history_laws.specs.WaitEnds.{SettlesWaits, StallsExactly, cancels_in, ends_otherwise, is_wait_end, leaves_in}
+use Rattle.history_laws.specs.WellFormed.{TreeStaysWellFormed}
 use Rattle.history_laws.specs.WhyPending.{CallsPendForCause}
 use Rattle.wire_io.specs.Source.{ReadsWhole}
 use Rattle.wire_io.specs.Sink.{Written, Appends, AppendsFront, AppendsPart}
@@ -97,9 +100,11 @@ TakesUpReleased setup history =
 -- acknowledgement, an unlock, a close or a leaving, and in the turn of any other call none ends and no held call is taken up.
 -- Caching by oplocks is coherent. An open tells what it did; a handle goes just by a close of its own, or a leaving of its client, that
 -- succeeds; a try changes and notes of files, links and streams just what its call asks for, and that only where it ends SUCCESS; what
--- is marked for deletion has a handle; names, named streams and bytes that change are noted, and of each file but the root its owner,
--- access list, reparse point, attributes, and times but that of the last change; and each watch reports exactly the matching changes
--- since its last report
+-- is marked for deletion has a handle; the tree stays sound, with what handles are of in it, and well formed: names are ones that a path
+-- can have, what is no directory has its default stream, a file has at most 1,024 links, and what has a reparse point isn't the root and
+-- has nothing in it. Names, named streams and bytes that change are noted, and of each file but the root its owner, access list, reparse
+-- point, attributes, and times but that of the last change; and each watch reports exactly the matching changes since its last report,
+-- to its handle's earliest pending Notify, or to one just made where none is pending
 pub record HoldsThroughout (setup : Setup) (history : List HistoryEntry) : Type 0 where
   pub makes_no_call_twice : CallsDiffer history
   pub calls_come_after_waits : AllComeAfterWaits setup history
@@ -133,8 +138,11 @@ pub record HoldsThroughout (setup : Setup) (history : List HistoryEntry) : Type 
   pub handles_go_when_closed : HandlesGoWhenClosed setup history
   pub the_tree_changes_as_asked : TreeChangesAsAsked setup history
   pub nothing_is_left_over : NothingStaysOver setup history
+  pub the_tree_stays_sound : TreeStaysSound setup history
+  pub the_tree_stays_well_formed : TreeStaysWellFormed setup history
   pub what_changes_is_noted : ChangesAreNoted setup history
   pub watches_report_exactly : WatchesReport setup history
+  pub the_earliest_notify_is_reported : ReportsGoToEarliest setup history
 
 -- a history of a script on one thread: each turn's call was the next one, it has all calls, no other such history has its
 -- text, what holds throughout a history holds, and where no line of its text shows NO_MEMORY no call found no memory

@@ -120,6 +120,7 @@ refused-handles : (v : Volume) (client : ℕ) (what : What) → HandlesAfter v c
 refused-handles v client (Ask (request.Create path wanted share disposition options attributes key)) = tt
 refused-handles v client (Ask (request.Close handle)) = record { closes = λ done. cc; refuses = λ fails. refl }
 refused-handles v client Leave = record { closes = λ done. cc; refuses = λ fails. refl }
+refused-handles v client (Ask (request.QueryDir handle kind expression restart room)) = record { same = refl; others = λ any other. refl }
 refused-handles v client _ = refl
 
 -- so it is after each try

@@ -1,6 +1,6 @@
 -- What a try of any call but an open, a close and a leaving leaves of the handles: all of them as they were, but that a query of a
 -- directory may move the cursor of one. Each request's definition is followed once.
-use Rattle.std.proofs.Common.{◌∷◌, ◌≡◌, ℕ, ◌+◌, Bool, true, false, List, length, refl, ◌∙◌, Option, Some, None, ap, inl, inr, []}
+use Rattle.std.proofs.Common.{◌∷◌, ◌≡◌, ℕ, ◌+◌, Bool, true, false, List, length, refl, sym, ◌∙◌, Option, Some, None, ap, inl, inr, []}
 use Rattle.std.specs.Option.{option_map_or}
 use Rattle.std.specs.Prelude.{◌==◌, is_some, if◌then◌else◌, filter}
 use Rattle.std.proofs.lemmas.Bool.{cases_Bool}
@@ -29,7 +29,7 @@ use Rattle.fsa_model.specs.Frame.{all_unenumerated, unenumerated}
 use Rattle.fsa_model.specs.Grant.{ack_at, ack_keeping, oplock_at, oplock_by, oplock_on, switched, try_ack, try_oplock, with_granted, with_level_kept}
 use Rattle.fsa_model.specs.Link.{link_at, link_by, link_file, link_into, link_over, link_over_broken, link_over_closed, link_over_other, link_walked, try_link, with_link_added, with_linked}
 use Rattle.fsa_model.specs.Locking.{lock_at, lock_by, lock_free, lock_range, lock_stream, try_lock, try_unlock, unlock_at, unlock_by, unlock_range}
-use Rattle.fsa_model.specs.Lookups.{has_row}
+use Rattle.fsa_model.specs.Lookups.{handle_of, has_row}
 use Rattle.fsa_model.specs.Open.{stopped}
 use Rattle.fsa_model.specs.Outcome.{Outcome, Done, Stay, Hold}
 use Rattle.fsa_model.specs.QueryDir.{list_entries, query_dir_at, query_dir_by, query_dir_in, try_query_dir}
@@ -54,7 +54,9 @@ use Rattle.fsa_model.specs.Write.{try_write, with_file_write_noted, with_stream_
 use Rattle.fsa_model.proofs.CoherenceBreaks.{handles-breaks}
 use Rattle.fsa_model.proofs.CoherenceClose.{handles-noted}
 use Rattle.fsa_model.proofs.GrantedLaws.{handles-switched}
-use Rattle.history_laws.specs.HandlesClose.{KeepsHandles}
+use Rattle.fsa_model.proofs.RowLaws.{eqb-swap, option_cases}
+use Rattle.history_laws.specs.HandlesClose.{KeepsHandles, ListsOne}
+use Rattle.history_laws.proofs.NotedRows.{row_of-unchanged}
 use Rattle.history_laws.proofs.OpensStay.{closes_handles}
 
 -- the handles are the same
@@ -350,27 +352,43 @@ unenumerated-cursor (entry ∷ handles) id expression place = elim (cases_Bool (
   | inr other ↦ rw other (ap (λ (rest : List (ℕ × Handle)). (entry.0, unenumerated entry.1) ∷ rest) (unenumerated-cursor handles id expression place))
 ]
 
--- a try that comes to this moves cursors alone
-record Lists (v : Volume) (outcome : Outcome) : Type 0 where
-  so : all_unenumerated (volume_after outcome).handles ≡ all_unenumerated v.handles
+-- a try that comes to this moves the cursor of this handle alone
+record Lists (v : Volume) (id : ℕ) (outcome : Outcome) : Type 0 where
+  same : all_unenumerated (volume_after outcome).handles ≡ all_unenumerated v.handles
+  others : (handle : ℕ) → (id == handle) ≡ false → row_of (volume_after outcome).handles handle ≡ row_of v.handles handle
 
-lists-same : (v : Volume) {reply : Reply} → Lists v (Done v reply)
-lists-same v = record { so = refl }
+lists-same : (v : Volume) (id : ℕ) {reply : Reply} → Lists v id (Done v reply)
+lists-same v id = record { same = refl; others = λ handle other. refl }
 
-lists-cursor : (v : Volume) (id : ℕ) (expression : List ℕ) (place : Cursor) {reply : Reply} → Lists v (Done (with_cursor v id expression place) reply)
-lists-cursor v id expression place = record { so = unenumerated-cursor v.handles id expression place }
+lists-cursor : (v : Volume) (id : ℕ) (expression : List ℕ) (place : Cursor) {reply : Reply} → Lists v id (Done (with_cursor v id expression place) reply)
+lists-cursor v id expression place = record {
+  same = unenumerated-cursor v.handles id expression place;
+  others = λ handle other. row_of-unchanged (λ (row : Handle). record row { enumeration = Some (expression, place) }) v.handles id handle (eqb-swap handle id ∙ other);
+}
 
-lists-if : {v : Volume} (test : Bool) (one other : Outcome) → Lists v one → Lists v other → Lists v (if test then one else other)
+lists-if : {v : Volume} {id : ℕ} (test : Bool) (one other : Outcome) → Lists v id one → Lists v id other → Lists v id (if test then one else other)
 lists-if true one other holds fails = holds
 lists-if false one other holds fails = fails
 
-lists-option : {X : Type 0} {v : Volume} (found : Option X) (some : X → Outcome) (none : Outcome) → ((x : X) → Lists v (some x)) → Lists v none → Lists v (option_map_or some found none)
+lists-option : {X : Type 0} {v : Volume} {id : ℕ} (found : Option X) (some : X → Outcome) (none : Outcome) → ((x : X) → Lists v id (some x)) → Lists v id none
+    → Lists v id (option_map_or some found none)
 lists-option None some none with_some with_none = with_none
 lists-option (Some x) some none with_some with_none = with_some x
 
-query_dir : (v : Volume) (client handle : ℕ) (kind : DirKind) (expression : List ℕ) (restart : Bool) (room : ℕ) → Lists v (try_query_dir v client handle kind expression restart room)
-unfolding try_query_dir query_dir_at query_dir_by query_dir_in list_entries
-query_dir v client handle kind expression restart room = search (lists-if, lists-option, lists-cursor, lists-same) depth 60 fits 4000
+query_dir-at : (v : Volume) (id : ℕ) (kind : DirKind) (expression : List ℕ) (restart : Bool) (room : ℕ) → Lists v id (query_dir_at v id kind expression restart room)
+unfolding query_dir_at query_dir_by query_dir_in list_entries
+query_dir-at v id kind expression restart room = search (lists-if, lists-option, lists-cursor, lists-same) depth 60 fits 4000
+
+query_dir : (v : Volume) (client handle : ℕ) (kind : DirKind) (expression : List ℕ) (restart : Bool) (room : ℕ)
+    → ListsOne v client handle (volume_after (try_query_dir v client handle kind expression restart room))
+unfolding try_query_dir
+query_dir v client handle kind expression restart room = elim (option_cases (handle_of v client handle)) [
+  | inl unknown ↦ rw unknown (record { same = refl; others = λ any other. refl })
+  | inr named ↦ (let lists = query_dir-at v named.0 kind expression restart room in record {
+    same = rw named.1 lists.same;
+    others = λ any other. (let apart : (named.0 == any) ≡ false = sym (ap (λ found. option_map_or (λ own. own == any) found false) named.1) ∙ other in rw named.1 (lists.others any apart));
+  })
+]
 
 -- ---- any call
 
@@ -378,7 +396,7 @@ left : {v : Volume} {outcome : Outcome} → Keeps v outcome → (volume_after ou
 left keeps = keeps.so.same
 
 -- a try of any call but a close and a leaving; of an open it says nothing
-pub what-kept : (v : Volume) (turn client number : ℕ) (what : What) → closes_handles what ≡ false → KeepsHandles what v (volume_after (try_what v turn client number what))
+pub what-kept : (v : Volume) (turn client number : ℕ) (what : What) → closes_handles what ≡ false → KeepsHandles client what v (volume_after (try_what v turn client number what))
 what-kept v turn client number (Ask (request.Create path wanted share disposition options attributes key)) other = tt
 what-kept v turn client number (Ask (request.Close handle)) other = cc
 what-kept v turn client number (Ask (request.Read handle at count)) other = left (read v client handle at count)
@@ -387,7 +405,7 @@ what-kept v turn client number (Ask (request.Flush handle)) other = left (flush 
 what-kept v turn client number (Ask (request.SetEnd handle length)) other = left (set_end v client handle length)
 what-kept v turn client number (Ask (request.Lock handle at count exclusive wait)) other = left (lock v client handle at count exclusive wait)
 what-kept v turn client number (Ask (request.Unlock handle at count)) other = left (unlock v client handle at count)
-what-kept v turn client number (Ask (request.QueryDir handle kind expression restart room)) other = Lists.so (query_dir v client handle kind expression restart room)
+what-kept v turn client number (Ask (request.QueryDir handle kind expression restart room)) other = query_dir v client handle kind expression restart room
 what-kept v turn client number (Ask (request.SetDisposition handle delete)) other = left (set_disposition v client handle delete)
 what-kept v turn client number (Ask (request.Rename handle path replace)) other = left (rename v client handle path replace)
 what-kept v turn client number (Ask (request.Link handle path replace)) other = left (link v client handle path replace)

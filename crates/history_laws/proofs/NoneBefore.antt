@@ -37,8 +37,8 @@ use Rattle.fsa_model.specs.Turn.{volume_after}
 use Rattle.fsa_model.specs.Volume.{Handle, Volume}
 use Rattle.fsa_model.specs.Walk.{Walked, Reached, Barred, Diverted}
 use Rattle.fsa_model.specs.Write.{try_write, write_at, write_at_place, write_by, write_bytes, write_grown, write_range, write_stream, write_unlocked}
+use Rattle.fsa_model.proofs.FaultStatuses.{Gives, giving}
 use Rattle.history_laws.specs.OplockChanges.{MayBreak, acts_on_directory, changes_own, may_end_behind_breaks}
-use Rattle.history_laws.proofs.FaultStatuses.{Gives, giving}
 use Rattle.history_laws.proofs.SetsBroken.{BreaksSetsBy, may-some, with_sets_broken}
 use Rattle.history_laws.proofs.SetsByCalls.{rest-breaks}
 use Rattle.history_laws.proofs.SetsByOpens.{opens_so}

@@ -31,17 +31,17 @@ use Rattle.fsa_model.proofs.CoherenceComes.{number_of-row, row_of-new}
 use Rattle.fsa_model.proofs.CoherenceEdits.{Lives, Lives-from}
 use Rattle.fsa_model.proofs.RowLaws.{IsNumbered-push, option_cases, row_of-all}
 use Rattle.history_laws.specs.TreeChanges.{MakesDirectory, MakesFile, MakesStream, Overwrites, Resizes, SetsBasics, SetsPoint, SetsSecurity, TreeChange, Writes, by_handle, changes_marking, changes_opening, changes_resizing, changes_with_point, changes_writing, made_in, made_under, of_file, overwritten_in, overwritten_of, where_reached, with_security_of, with_time_of_change, with_tree_change, with_tree_changes, with_write_times}
-use Rattle.history_laws.specs.TreeNotes.{Added, After, AttributesNoted, AttributesWritten, Before, BytesNoted, FileNoted, IsNoted, LastWriteNoted, NotedByLink, NotesWhatChanges, OfFile, OfStream, OtherAttributes, OtherBytes, OtherLastWrite, OtherPoint, OtherSecurity, OtherTime, SameAttributes, SameBytes, SameLastWrite, SamePoint, SameSecurity, SameTime, TimeNoted, WriteNoted, has_filter, is_of_name}
+use Rattle.history_laws.specs.TreeNotes.{Added, After, AttributesNoted, AttributesWritten, Before, BytesNoted, FileNoted, IsNoted, LastWriteNoted, NotedByLink, NotesChanges, OfFile, OfStream, OtherAttributes, OtherBytes, OtherLastWrite, OtherPoint, OtherSecurity, OtherTime, SameAttributes, SameBytes, SameLastWrite, SamePoint, SameSecurity, SameTime, TimeNoted, WriteNoted, has_filter, is_of_name}
 use Rattle.history_laws.proofs.NotedRows.{FilesStay, Own, access-is, attributes-are, creation-is, entry-is, file-stays, files-changed_at, files-more, files-same, files-stay, files-timed, links-stay, note_of, note_of-noted, note_of-plain, note_of-stream, noted-after, noted-before, noted-is, notes-made, notes-same, notes-then, own, own-same, row_of-changed_none, row_of-changed_some, row_of-one, row_of-unchanged, seen-both, seen-changed, seen-changed_at, seen-link_marked, seen-stream_marked, write-is}
 
 -- ---- no change, and marks
 
 -- where nothing is changed
-pub nothing-noted : (v : Volume) → NotesWhatChanges v v
+pub nothing-noted : (v : Volume) → NotesChanges v v
 nothing-noted v = notes-same v v [] refl refl (files-stay v v [] (files-same v v refl)) (sym (append-nil v.changes))
 
 -- a mark is no change that is seen
-pub marking-noted : (v : Volume) (id : ℕ) (handle : Handle) (delete : Bool) → NotesWhatChanges v (with_tree_changes v (changes_marking v handle delete))
+pub marking-noted : (v : Volume) (id : ℕ) (handle : Handle) (delete : Bool) → NotesChanges v (with_tree_changes v (changes_marking v handle delete))
 marking-noted v id handle delete = elim (option_cases (named_stream v handle)) [
   | inl none ↦ rw none (notes-then v v _ (nothing-noted v) (seen-link_marked v handle.link delete))
   | inr stream ↦ rw stream.1 (notes-then v v _ (nothing-noted v) (seen-stream_marked v stream.0 delete))
@@ -66,7 +66,7 @@ notes-file : (v w : Volume) (link file bits : ℕ) → file_of_link v.links link
     → w.links ≡ v.links → w.streams ≡ v.streams → w.changes ≡ v.changes → ((other : ℕ) → (other == file) ≡ false → row_of w.files other ≡ row_of v.files other)
     → ((next : Volume) (notes : List Change) (row row_now : File) → row_of v.files file ≡ Some row → row_of w.files file ≡ Some row_now
     → ((under : ℕ → Bool) → under bits ≡ true → NotedByLink v next notes FILE_ACTION_MODIFIED under file []) → FileNoted v next notes file row row_now)
-    → NotesWhatChanges v (with_change_noted w link FILE_ACTION_MODIFIED bits None)
+    → NotesChanges v (with_change_noted w link FILE_ACTION_MODIFIED bits None)
 notes-file v w link file bits is links streams changes others noted = elim (option_cases (row_of w.links link)) [
   | inl none ↦ rw none (notes-same v w [] links streams
       (λ other row row_now isnt_root before now. elim (cases_Bool (other == file)) [
@@ -185,7 +185,7 @@ attributes-noted v next notes file asked old now is by = elim (cases_Bool (asked
 
 -- times and attributes, security, and a reparse point are set
 pub setting-basics : (v : Volume) (link file : ℕ) (basics : Basics) → file_of_link v.links link ≡ Some file
-    → NotesWhatChanges v (with_tree_changes v (SetsBasics link file basics ∷ []))
+    → NotesChanges v (with_tree_changes v (SetsBasics link file basics ∷ []))
 setting-basics v link file basics is = elim (cases_Bool (basic_bits basics == 0)) [
   | inl none ↦ rw none (notes-same v w [] refl refl (files-stay v w [] (files-changed_at v w change file refl
       (λ row found. left (eqb-true (basic_bits basics) 0 none) row found))) (sym (append-nil v.changes)))
@@ -254,7 +254,7 @@ setting-basics v link file basics is = elim (cases_Bool (basic_bits basics == 0)
         }
 
 pub setting-point : (v : Volume) (link file : ℕ) (point : Option (ℕ × List ℕ)) → file_of_link v.links link ≡ Some file
-    → NotesWhatChanges v (with_tree_changes v (SetsPoint link file point ∷ []))
+    → NotesChanges v (with_tree_changes v (SetsPoint link file point ∷ []))
 setting-point v link file point is =
     notes-file v (with_point v file point) link file FILE_NOTIFY_CHANGE_ATTRIBUTES is refl refl refl
     (λ other apart. row_of-unchanged change v.files file other apart)
@@ -278,7 +278,7 @@ setting-point v link file point is =
     without_point row = record (own row) { point = None }
 
 pub setting-security : (v : Volume) (link file : ℕ) (owner : Option ℕ) (dacl : DaclChange) → file_of_link v.links link ≡ Some file
-    → NotesWhatChanges v (with_tree_changes v (SetsSecurity link file owner dacl ∷ []))
+    → NotesChanges v (with_tree_changes v (SetsSecurity link file owner dacl ∷ []))
 setting-security v link file owner dacl is =
     let w : Volume = with_security_of v file owner dacl in
     let links : w.links ≡ v.links = links-listed (with_owner_asked v file owner) file dacl ∙ links-owned v file owner in
@@ -450,7 +450,7 @@ written-as v next notes file (unit ∷ more) noted = OfStream (unit ∷ more) no
 -- so where only this stream changes, and its file the times of its last write and change and its attributes, the change is noted
 notes-bytes : (v w next : Volume) (stream : ℕ) (change : Stream → Stream) (row : Stream) (file attributes : ℕ) → row_of v.streams stream ≡ Some row → NotesBytes v w row
     → file ≡ row.file → next.links ≡ w.links → next.streams ≡ with_row_changed change w.streams stream → next.files ≡ (with_write_times w file attributes).files
-    → next.changes ≡ w.changes → NotesWhatChanges v next
+    → next.changes ≡ w.changes → NotesChanges v next
 notes-bytes v w next stream change row file attributes found noted its_file are_links are_streams are_files are_changes =
     let streams : next.streams ≡ with_row_changed change v.streams stream = are_streams ∙ ap (λ (u : Volume). with_row_changed change u.streams stream) noted.is in
     record {
@@ -520,7 +520,7 @@ file-of_stream v stream row found = ap (λ (o : Option Stream). option_map_or (�
 
 -- bytes are written, and a length is set
 pub writing-noted : (v : Volume) (id : ℕ) (handle : Handle) (at : Option ℕ) (bytes : List ℕ) → IsTied v → row_of v.handles id ≡ Some handle
-    → NotesWhatChanges v (with_tree_changes v (changes_writing v handle at bytes))
+    → NotesChanges v (with_tree_changes v (changes_writing v handle at bytes))
 writing-noted v id handle at bytes tied found = elim (option_cases handle.stream) [
   | inl none ↦ rw none (nothing-noted v)
   | inr stream ↦ elim (cases_Bool (length bytes == 0)) [
@@ -529,14 +529,14 @@ writing-noted v id handle at bytes tied found = elim (option_cases handle.stream
   ]
 ]
   where
-    written : (v : Volume) (link stream at : ℕ) (bytes : List ℕ) → Lives v.links v.streams link stream → NotesWhatChanges v (with_tree_changes v (Writes link stream at bytes ∷ []))
+    written : (v : Volume) (link stream at : ℕ) (bytes : List ℕ) → Lives v.links v.streams link stream → NotesChanges v (with_tree_changes v (Writes link stream at bytes ∷ []))
     written v link stream at bytes lives =
         notes-bytes v (with_write_noted v link stream (lengthens v stream at bytes)) _ stream (λ row. record row { bytes = put row.bytes at bytes }) lives.a_stream
         (file_of_stream v stream) (bit_or (attributes_of (with_write_noted v link stream (lengthens v stream at bytes)) (file_of_stream v stream)) ARCHIVE) lives.of_stream
         (noted-write v link stream (lengthens v stream at bytes) lives) (file-of_stream v stream lives.a_stream lives.of_stream) refl refl refl refl
 
 pub resizing-noted : (v : Volume) (id : ℕ) (handle : Handle) (end : ℕ) → IsTied v → row_of v.handles id ≡ Some handle
-    → NotesWhatChanges v (with_tree_changes v (changes_resizing v handle end))
+    → NotesChanges v (with_tree_changes v (changes_resizing v handle end))
 resizing-noted v id handle end tied found = elim (option_cases handle.stream) [
   | inl none ↦ rw none (nothing-noted v)
   | inr stream ↦ elim (cases_Bool (length (bytes_of v stream.0) == end)) [
@@ -545,7 +545,7 @@ resizing-noted v id handle end tied found = elim (option_cases handle.stream) [
   ]
 ]
   where
-    resized : (v : Volume) (link stream end : ℕ) → Lives v.links v.streams link stream → NotesWhatChanges v (with_tree_changes v (Resizes link stream end ∷ []))
+    resized : (v : Volume) (link stream end : ℕ) → Lives v.links v.streams link stream → NotesChanges v (with_tree_changes v (Resizes link stream end ∷ []))
     resized v link stream end lives =
         notes-bytes v (with_write_noted v link stream true) _ stream (λ row. record row { bytes = cut row.bytes end }) lives.a_stream
         (file_of_stream v stream) (attributes_of (with_write_noted v link stream true) (file_of_stream v stream)) lives.of_stream
@@ -561,13 +561,13 @@ abbrev stream_row : ℕ → List ℕ → Stream
 stream_row file name = record { file = file; name = name; bytes = []; deleted = false }
 
 -- a directory, with its link
-directory-made : (v : Volume) (dir : ℕ) (name : List ℕ) (file : File) → IsTied v → NotesWhatChanges v (with_tree_changes v (MakesDirectory dir name file ∷ []))
+directory-made : (v : Volume) (dir : ℕ) (name : List ℕ) (file : File) → IsTied v → NotesChanges v (with_tree_changes v (MakesDirectory dir name file ∷ []))
 directory-made v dir name file tied =
     let u : Volume = with_link (with_file v file) dir name (v.last_file + 1) in
     let row : Link = link_made v dir name in
     let found : row_of u.links (v.last_link + 1) ≡ Some row = row_of-new v.links v.last_link (v.last_link + 1) row tied.links_numbered.given refl in
     let note : Change = note_of u row FILE_ACTION_ADDED FILE_NOTIFY_CHANGE_DIR_NAME None in
-    subst (λ w. NotesWhatChanges v w) (sym (noted-is u (v.last_link + 1) FILE_ACTION_ADDED FILE_NOTIFY_CHANGE_DIR_NAME None row found))
+    subst (λ w. NotesChanges v w) (sym (noted-is u (v.last_link + 1) FILE_ACTION_ADDED FILE_NOTIFY_CHANGE_DIR_NAME None row found))
     (notes-made v (record u { changes = u.changes ++ note ∷ [] }) (note ∷ []) ((v.last_link + 1, row) ∷ []) [] refl (sym (append-nil v.streams))
     (files-more v (record u { changes = u.changes ++ note ∷ [] }) ((v.last_file + 1, file) ∷ []) refl) refl
     (λ link its has. rw (row_of-one (v.last_link + 1) link row its has) (Added (note_of-plain u row FILE_ACTION_ADDED FILE_NOTIFY_CHANGE_DIR_NAME is_of_name refl)))
@@ -590,9 +590,9 @@ file-is : (v : Volume) (dir : ℕ) (name : List ℕ) (file : File) → IsTied v 
 file-is v dir name file tied =
     noted-is (file_made v dir name file) (v.last_link + 1) FILE_ACTION_ADDED FILE_NOTIFY_CHANGE_FILE_NAME None (link_made v dir name) (link-found v dir name tied)
 
-file-made : (v : Volume) (dir : ℕ) (name : List ℕ) (file : File) → IsTied v → NotesWhatChanges v (with_tree_changes v (MakesFile dir name file ∷ []))
+file-made : (v : Volume) (dir : ℕ) (name : List ℕ) (file : File) → IsTied v → NotesChanges v (with_tree_changes v (MakesFile dir name file ∷ []))
 file-made v dir name file tied =
-    subst (λ w. NotesWhatChanges v w) (sym (file-is v dir name file tied))
+    subst (λ w. NotesChanges v w) (sym (file-is v dir name file tied))
     (notes-made v (file_noted v dir name file) (file_note v dir name file ∷ []) ((v.last_link + 1, link_made v dir name) ∷ [])
     ((v.last_stream + 1, stream_row (v.last_file + 1) []) ∷ []) refl refl
     (files-more v (file_noted v dir name file) ((v.last_file + 1, file) ∷ []) refl) refl
@@ -604,7 +604,7 @@ file-made v dir name file tied =
 
 -- a named stream, by a link of its file
 stream-made : (v : Volume) (link file : ℕ) (name : List ℕ) (row : Link) → row_of v.links link ≡ Some row → row.file ≡ file → IsTied v
-    → NotesWhatChanges v (with_tree_changes v (MakesStream link file name ∷ []))
+    → NotesChanges v (with_tree_changes v (MakesStream link file name ∷ []))
 stream-made v link file name row found is tied =
     let u : Volume = with_stream v file name in
     let id : ℕ = v.last_stream + 1 in
@@ -618,14 +618,14 @@ stream-made v link file name row found is tied =
       is_there = Before (entry-is v link file row found is);
       noted = note_of-stream u row FILE_ACTION_ADDED_STREAM FILE_NOTIFY_CHANGE_STREAM_NAME id (stream_row file name) (has_filter FILE_NOTIFY_CHANGE_STREAM_NAME) new refl;
     } in
-    subst (λ w. NotesWhatChanges v w) (sym (noted-is u link FILE_ACTION_ADDED_STREAM FILE_NOTIFY_CHANGE_STREAM_NAME (Some id) row found))
+    subst (λ w. NotesChanges v w) (sym (noted-is u link FILE_ACTION_ADDED_STREAM FILE_NOTIFY_CHANGE_STREAM_NAME (Some id) row found))
     (notes-made v next (note ∷ []) [] ((id, stream_row file name) ∷ []) (sym (append-nil v.links)) refl (files-same v next refl) refl
     (λ other its has. let impossible : None ≡ Some its = has in cc)
     (λ stream unit more its has named. rw (row_of-one id stream (stream_row file name) its has) by))
 
 -- a file with a named stream
 file_and_stream-made : (v : Volume) (dir : ℕ) (name : List ℕ) (file : File) (stream : List ℕ) → IsTied v
-    → NotesWhatChanges v (with_tree_changes v (MakesFile dir name file ∷ MakesStream (v.last_link + 1) (v.last_file + 1) stream ∷ []))
+    → NotesChanges v (with_tree_changes v (MakesFile dir name file ∷ MakesStream (v.last_link + 1) (v.last_file + 1) stream ∷ []))
 file_and_stream-made v dir name file stream tied =
     let made : Volume = file_noted v dir name file in
     let u : Volume = with_stream made (v.last_file + 1) stream in
@@ -669,7 +669,7 @@ same-empty table [] (unit ∷ more) same = (let impossible : false ≡ true = sa
 same-empty table (unit ∷ more) [] same = (let impossible : false ≡ true = same in cc)
 same-empty table (unit ∷ more) (first ∷ rest) same = ne_eqb (length (unit ∷ more)) 0 (λ e. absurd (omega arith)) ∙ sym (ne_eqb (length (first ∷ rest)) 0 (λ e. absurd (omega arith)))
 
-under-noted : (v : Volume) (asked : Asked) (dir : ℕ) (name : List ℕ) → IsTied v → NotesWhatChanges v (with_tree_changes v (made_under v asked dir name))
+under-noted : (v : Volume) (asked : Asked) (dir : ℕ) (name : List ℕ) → IsTied v → NotesChanges v (with_tree_changes v (made_under v asked dir name))
 under-noted v asked dir name tied = elim (cases_Bool (wants_directory asked)) [
   | inl directory ↦ rw directory (directory-made v dir name (new_file v asked true (kept_attributes asked.attributes)) tied)
   | inr plain ↦ elim (cases_Bool (names_stream asked.path)) [
@@ -678,7 +678,7 @@ under-noted v asked dir name tied = elim (cases_Bool (wants_directory asked)) [
   ]
 ]
 
-making-noted : (v : Volume) (asked : Asked) (dir : ℕ) (name : List ℕ) → IsTied v → NotesWhatChanges v (with_tree_changes v (made_in v asked dir name))
+making-noted : (v : Volume) (asked : Asked) (dir : ℕ) (name : List ℕ) → IsTied v → NotesChanges v (with_tree_changes v (made_in v asked dir name))
 making-noted v asked dir name tied = elim (option_cases (child_of v dir name)) [
   | inl none ↦ rw none (under-noted v asked dir name tied)
   | inr link ↦ (let row = number_of-row (is_named v.table dir name) v.links link.0 tied.links_numbered.rising link.1 in
@@ -688,7 +688,7 @@ making-noted v asked dir name tied = elim (option_cases (child_of v dir name)) [
     linked : (v : Volume) (link : ℕ) (row : Link) → row_of v.links link ≡ Some row → linked_file v link ≡ row.file
     linked v link row found = ap (λ (o : Option Link). option_map_or (λ row. row.file) o 0) found
 
-overwriting-noted : (v : Volume) (asked : Asked) (dir : ℕ) (name : List ℕ) → IsTied v → NotesWhatChanges v (with_tree_changes v (overwritten_in v asked dir name))
+overwriting-noted : (v : Volume) (asked : Asked) (dir : ℕ) (name : List ℕ) → IsTied v → NotesChanges v (with_tree_changes v (overwritten_in v asked dir name))
 overwriting-noted v asked dir name tied = elim (option_cases (child_of v dir name)) [
   | inl none ↦ rw none (nothing-noted v)
   | inr link ↦ (let row = number_of-row (is_named v.table dir name) v.links link.0 tied.links_numbered.rising link.1 in
@@ -696,13 +696,13 @@ overwriting-noted v asked dir name tied = elim (option_cases (child_of v dir nam
 ]
   where
     overwritten : (v : Volume) (asked : Asked) (link stream : ℕ) (lives : Lives v.links v.streams link stream) → names_stream asked.path ≡ not (length lives.a_stream.name == 0)
-        → NotesWhatChanges v (with_tree_changes v (Overwrites link (linked_file v link) stream (names_stream asked.path) (file_attributes asked.attributes) ∷ []))
+        → NotesChanges v (with_tree_changes v (Overwrites link (linked_file v link) stream (names_stream asked.path) (file_attributes asked.attributes) ∷ []))
     overwritten v asked link stream lives named =
         notes-bytes v (with_overwrite_noted v link stream (names_stream asked.path)) _ stream (λ row. record row { bytes = cut row.bytes 0 }) lives.a_stream
         (linked_file v link) (file_attributes asked.attributes) lives.of_stream (noted-overwrite v link stream (names_stream asked.path) lives named)
         (ap (λ (o : Option Link). option_map_or (λ row. row.file) o 0) lives.of_link ∙ lives.one_file) refl refl refl refl
 
-    of-link : (v : Volume) (asked : Asked) (link : ℕ) (row : Link) → row_of v.links link ≡ Some row → IsTied v → NotesWhatChanges v (with_tree_changes v (overwritten_of v asked link))
+    of-link : (v : Volume) (asked : Asked) (link : ℕ) (row : Link) → row_of v.links link ≡ Some row → IsTied v → NotesChanges v (with_tree_changes v (overwritten_of v asked link))
     of-link v asked link row found tied = elim (option_cases (stream_of v (linked_file v link) (stream_name asked.path))) [
       | inl none ↦ rw none (nothing-noted v)
       | inr stream ↦ (let it = number_of-row (is_stream_named v.table (linked_file v link) (stream_name asked.path)) v.streams stream.0 tied.streams_numbered.rising stream.1 in
@@ -714,13 +714,13 @@ overwriting-noted v asked dir name tied = elim (option_cases (child_of v dir nam
     ]
 
 -- what the walk came to
-reached-noted : (v : Volume) (asked : Asked) (changes : ℕ → List ℕ → List TreeChange) (walked : Walked) → ((dir : ℕ) (name : List ℕ) → NotesWhatChanges v (with_tree_changes v (changes dir name)))
-    → NotesWhatChanges v (with_tree_changes v (where_reached asked changes walked))
+reached-noted : (v : Volume) (asked : Asked) (changes : ℕ → List ℕ → List TreeChange) (walked : Walked) → ((dir : ℕ) (name : List ℕ) → NotesChanges v (with_tree_changes v (changes dir name)))
+    → NotesChanges v (with_tree_changes v (where_reached asked changes walked))
 reached-noted v asked changes (Reached dir) noted = noted dir (last_name (components asked.path))
 reached-noted v asked changes (Barred status) noted = nothing-noted v
 reached-noted v asked changes (Diverted file next) noted = nothing-noted v
 
-pub opening-noted : (v : Volume) (asked : Asked) (body : Body) → IsTied v → NotesWhatChanges v (with_tree_changes v (changes_opening v asked body))
+pub opening-noted : (v : Volume) (asked : Asked) (body : Body) → IsTied v → NotesChanges v (with_tree_changes v (changes_opening v asked body))
 opening-noted v asked (body.Opened action.Created) tied = reached-noted v asked (made_in v asked) (walk v (components asked.path)) (λ dir name. making-noted v asked dir name tied)
 opening-noted v asked (body.Opened action.Superseded) tied = reached-noted v asked (overwritten_in v asked) (walk v (components asked.path)) (λ dir name. overwriting-noted v asked dir name tied)
 opening-noted v asked (body.Opened action.Overwritten) tied = reached-noted v asked (overwritten_in v asked) (walk v (components asked.path)) (λ dir name. overwriting-noted v asked dir name tied)
@@ -738,8 +738,8 @@ opening-noted v asked (body.Quota charge limit) tied = nothing-noted v
 
 -- what is changed by a handle, or of its file, where there is one
 pub by_handle-noted : (v : Volume) (client number : ℕ) (changes : ℕ → Handle → List TreeChange)
-    → ((id : ℕ) (handle : Handle) → row_of v.handles id ≡ Some handle → NotesWhatChanges v (with_tree_changes v (changes id handle)))
-    → NotesWhatChanges v (with_tree_changes v (by_handle v client number changes))
+    → ((id : ℕ) (handle : Handle) → row_of v.handles id ≡ Some handle → NotesChanges v (with_tree_changes v (changes id handle)))
+    → NotesChanges v (with_tree_changes v (by_handle v client number changes))
 by_handle-noted v client number changes noted = elim (option_cases (handle_of v client number)) [
   | inl none ↦ rw none (nothing-noted v)
   | inr id ↦ elim (option_cases (row_of v.handles id.0)) [
@@ -749,8 +749,8 @@ by_handle-noted v client number changes noted = elim (option_cases (handle_of v 
 ]
 
 pub of_file-noted : (v : Volume) (handle : Handle) (changes : ℕ → List TreeChange)
-    → ((file : ℕ) → file_of_link v.links handle.link ≡ Some file → NotesWhatChanges v (with_tree_changes v (changes file)))
-    → NotesWhatChanges v (with_tree_changes v (of_file v handle changes))
+    → ((file : ℕ) → file_of_link v.links handle.link ≡ Some file → NotesChanges v (with_tree_changes v (changes file)))
+    → NotesChanges v (with_tree_changes v (of_file v handle changes))
 of_file-noted v handle changes noted = elim (option_cases (file_of_link v.links handle.link)) [
   | inl none ↦ rw none (nothing-noted v)
   | inr file ↦ rw file.1 (noted file.0 file.1)
@@ -758,7 +758,7 @@ of_file-noted v handle changes noted = elim (option_cases (file_of_link v.links 
 
 -- the point that a buffer has
 pub with_point-noted : (v : Volume) (handle : Handle) (bytes : List ℕ) (file : ℕ) → file_of_link v.links handle.link ≡ Some file
-    → NotesWhatChanges v (with_tree_changes v (changes_with_point handle bytes file))
+    → NotesChanges v (with_tree_changes v (changes_with_point handle bytes file))
 with_point-noted v handle bytes file is = elim (option_cases (read_reparse bytes)) [
   | inl none ↦ rw none (nothing-noted v)
   | inr point ↦ rw point.1 (setting-point v handle.link file (Some (point.0.0, point.0.1)) is)

@@ -23,7 +23,7 @@ use Rattle.fsa_model.proofs.CoherenceLaws.{All-in_order}
 use Rattle.fsa_model.proofs.CoherenceTied.{IsTied-alike, IsUntouched-noted}
 use Rattle.fsa_model.proofs.RowLaws.{eqb-swap, option_cases, row_of-all, row_of-here}
 use Rattle.history_laws.specs.TreeChanges.{TreeChange, RemovesLink, RemovesStream, changes_closing, changes_closing_all, filter_of_name, marks_on_close, named_stream_of, removed_link, sweeps, sweeps_stream, with_tree_change, with_tree_changes}
-use Rattle.history_laws.specs.TreeNotes.{IsNoted, NotesWhatChanges, StaysThere, entry_of, has_filter}
+use Rattle.history_laws.specs.TreeNotes.{IsNoted, NotesChanges, StaysThere, entry_of, has_filter}
 use Rattle.history_laws.proofs.NotedNames.{ByLink, GoneNoted, NotesLosses, OnlyLeft, SameRest, StaysStream, WasThere, all-there, entry-of, losses-alike, losses-next, losses-none, losses-noted, removed-left, removed-losses, removed-rest, row_of-earlier, was-there}
 use Rattle.history_laws.proofs.NotedRows.{files-same, note_of, note_of-stream, noted-is, row_of-changed_none, row_of-changed_some, row_of-without, seen-changed}
 use Rattle.history_laws.proofs.TreeParts.{Alike, Alike-changes}
@@ -287,7 +287,7 @@ closed-closes v id handle tied found =
     record { parent = its.parent; name = its.name; of_link = its.of_link })) (IsTied-without_handle v id tied)
 
 alike-with : (v : Volume) (id : ℕ) → Alike (without_handle v id) v
-alike-with v id = record { files = refl; links = refl; streams = refl; last_file = refl; last_link = refl; last_stream = refl; changes = refl; clock = refl }
+alike-with v id = record { table = refl; files = refl; links = refl; streams = refl; last_file = refl; last_link = refl; last_stream = refl; changes = refl; clock = refl }
 
 losses-with : (v : Volume) (id : ℕ) (changes : List TreeChange) → NotesLosses (without_handle v id) (with_tree_changes (without_handle v id) changes)
     → NotesLosses v (with_tree_changes v changes)
@@ -296,7 +296,7 @@ losses-with v id changes losses =
     (Alike-changes changes (without_handle v id) v (alike-with v id)) losses
 
 pub closing-noted : (v : Volume) (id : ℕ) (handle : Handle) → IsTied v → row_of v.handles id ≡ Some handle
-    → NotesWhatChanges v (with_tree_changes v (changes_closing (without_handle v id) handle))
+    → NotesChanges v (with_tree_changes v (changes_closing (without_handle v id) handle))
 closing-noted v id handle tied found =
     losses-noted v _ (losses-with v id (changes_closing (without_handle v id) handle) (Closes.losses (closed-closes v id handle tied found)))
 
@@ -358,7 +358,7 @@ all-losses (entry ∷ entries) v there apart tied =
 -- a client's handles, where handles are numbered: two of one number would both be gone with the first close, and then a link could go
 -- before a stream does that is closed by it later
 pub closing_all-noted : (v : Volume) (client : ℕ) → IsTied v → IsNumbered v.handles v.last_handle
-    → NotesWhatChanges v (with_tree_changes v (changes_closing_all v (handles_of_client v client)))
+    → NotesChanges v (with_tree_changes v (changes_closing_all v (handles_of_client v client)))
 closing_all-noted v client tied numbered =
     losses-noted v _ (all-losses (handles_of_client v client) v
     (All-in_order (λ (entry : ℕ × Handle). row_of v.handles entry.0 ≡ Some entry.1) earlier own

@@ -18,7 +18,7 @@ use Rattle.fsa_model.specs.Walk.{Walked, Reached, Barred, Diverted}
 use Rattle.fsa_model.proofs.CoherenceEdits.{row_of-filter_none, row_of-kept}
 use Rattle.fsa_model.proofs.RowLaws.{IsNumbered-filter, option_cases, without_row-none}
 use Rattle.history_laws.specs.TreeChanges.{AddsLink, MovesLink, RemovesLink, changes_linking, changes_renaming, filter_of_name, is_under, with_move, with_time_of_change, with_tree_change, with_tree_changes}
-use Rattle.history_laws.specs.TreeNotes.{ComeIs, GoneAlone, HasCome, Added, RenamedTo, HasLeft, Removed, RenamedFrom, IsNoted, LeftIs, LinkNoted, StaysThere, LinkMoved, NotesWhatChanges, Before, SameBytes, StreamGone, WithItsFile, entry_of, has_filter, is_of_name, place_of}
+use Rattle.history_laws.specs.TreeNotes.{ComeIs, GoneAlone, HasCome, Added, RenamedTo, HasLeft, Removed, RenamedFrom, IsNoted, LeftIs, LinkNoted, StaysThere, LinkMoved, NotesChanges, Before, SameBytes, StreamGone, WithItsFile, entry_of, has_filter, is_of_name, place_of}
 use Rattle.history_laws.proofs.NotedRows.{FilesStay, files-like, files-next, files-same, files-stay, files-timed, files-without, note_of, note_of-plain, noted-after, noted-before, noted-is, of_name, row_of-changed_none, row_of-changed_some, row_of-filter, row_of-none_above, row_of-push, row_of-pushed, row_of-unchanged, row_of-without}
 use Rattle.history_laws.proofs.TreeParts.{Alike}
 
@@ -234,7 +234,7 @@ gone-noted : (v next : Volume) (notes : List Change) (row : Stream) → GoneNote
 gone-noted v next notes row (WithFile none) = WithItsFile none
 gone-noted v next notes row (ByLink link parent name there noted) = GoneAlone (record { link = link; parent = parent; name = name; is_there = Before there; noted = noted })
 
-pub losses-noted : (v next : Volume) → NotesLosses v next → NotesWhatChanges v next
+pub losses-noted : (v next : Volume) → NotesLosses v next → NotesChanges v next
 losses-noted v next losses = record {
   notes = losses.notes;
   adds = losses.adds;
@@ -496,7 +496,7 @@ adds-losses : (v : Volume) (dir : ℕ) (name : List ℕ) (file : ℕ) → IsNumb
 adds-losses v dir name file numbered =
     losses-after v (with_tree_change v (AddsLink dir name file)) _ (same-timed (with_tree_change v (AddsLink dir name file)) file) (added-losses v dir name file numbered)
 
-pub renaming-noted : (v : Volume) (naming : Naming) (walked : Walked) → IsTied v → NotesWhatChanges v (with_tree_changes v (changes_renaming v naming walked))
+pub renaming-noted : (v : Volume) (naming : Naming) (walked : Walked) → IsTied v → NotesChanges v (with_tree_changes v (changes_renaming v naming walked))
 renaming-noted v naming (Reached dir) tied = losses-noted v _ (elim (cases_Bool (is_under v naming.link dir (new_name naming))) [
   | inl keeps ↦ rw keeps (losses-none v)
   | inr changes ↦ rw changes (elim (option_cases (replaced_link v naming dir)) [
@@ -513,7 +513,7 @@ links-numbered : (v : Volume) (link : ℕ) → IsNumbered v.links v.last_link
 links-numbered v link numbered =
     rw (links-removed v link, SameRest.last_link (removed-rest v link)) (IsNumbered-filter (λ entry. not (entry.0 == link)) v.links v.last_link numbered)
 
-pub linking-noted : (v : Volume) (naming : Naming) (walked : Walked) → IsTied v → NotesWhatChanges v (with_tree_changes v (changes_linking v naming walked))
+pub linking-noted : (v : Volume) (naming : Naming) (walked : Walked) → IsTied v → NotesChanges v (with_tree_changes v (changes_linking v naming walked))
 linking-noted v naming (Reached dir) tied = losses-noted v _ (elim (option_cases (child_of v dir (new_name naming))) [
   | inl none ↦ rw none (adds-losses v dir (new_name naming) naming.file tied.links_numbered)
   | inr some ↦ rw some.1 (elim (cases_Bool (linked_file v some.0 == naming.file)) [

@@ -17,7 +17,7 @@ use Rattle.fsa_model.proofs.CoherenceComes.{row_of-new}
 use Rattle.fsa_model.proofs.CoherenceEdits.{row_of-changed, row_of-more}
 use Rattle.fsa_model.proofs.RowLaws.{eqb-swap, option_cases}
 use Rattle.history_laws.specs.TreeChanges.{filter_of_name}
-use Rattle.history_laws.specs.TreeNotes.{After, AttributesNoted, AttributesWritten, Before, BytesNoted, ComeIs, FileNoted, GoneAlone, HasCome, IsNoted, LastWriteNoted, LinkMoved, LinkNoted, NotedByLink, NotesWhatChanges, OfFile, OfStream, OtherAttributes, OtherBytes, OtherLastWrite, OtherPoint, OtherSecurity, OtherTime, PointNoted, SameAttributes, SameBytes, SameLastWrite, SamePoint, SameSecurity, SameTime, SecurityNoted, StaysThere, StreamGone, StreamNoted, TimeNoted, WithItsFile, WriteNoted, entry_of, has_filter, is_of_name, place_of}
+use Rattle.history_laws.specs.TreeNotes.{After, AttributesNoted, AttributesWritten, Before, BytesNoted, ComeIs, FileNoted, GoneAlone, HasCome, IsNoted, LastWriteNoted, LinkMoved, LinkNoted, NotedByLink, NotesChanges, OfFile, OfStream, OtherAttributes, OtherBytes, OtherLastWrite, OtherPoint, OtherSecurity, OtherTime, PointNoted, SameAttributes, SameBytes, SameLastWrite, SamePoint, SameSecurity, SameTime, SecurityNoted, StaysThere, StreamGone, StreamNoted, TimeNoted, WithItsFile, WriteNoted, entry_of, has_filter, is_of_name, place_of}
 
 -- ---- rows
 
@@ -333,7 +333,7 @@ files-next u v w one two none_comes file row row_now before now = elim (option_c
 
 -- links and streams are the same, with notes added or none, and what of a file isn't is noted
 pub notes-same : (v next : Volume) (notes : List Change) → next.links ≡ v.links → next.streams ≡ v.streams → FilesNoted v next notes → next.changes ≡ v.changes ++ notes
-    → NotesWhatChanges v next
+    → NotesChanges v next
 notes-same v next notes links streams files adds = record {
   notes = notes;
   adds = adds;
@@ -368,7 +368,7 @@ pub notes-made : (v next : Volume) (notes : List Change) (links : List (ℕ × L
     → ((link : ℕ) (row : Link) → row_of links link ≡ Some row → HasCome notes row.parent row.name)
     → ((stream unit : ℕ) (name : List ℕ) (row : Stream) → row_of streams stream ≡ Some row → row.name ≡ unit ∷ name
     → NotedByLink v next notes FILE_ACTION_ADDED_STREAM (has_filter FILE_NOTIFY_CHANGE_STREAM_NAME) row.file (58 ∷ row.name))
-    → NotesWhatChanges v next
+    → NotesChanges v next
 notes-made v next notes links streams are_links are_streams stay adds come made = record {
   notes = notes;
   adds = adds;
@@ -523,7 +523,7 @@ file_noted-seen v next u w notes file row row_now its its_now before after same 
     attributes (OtherAttributes noted) = OtherAttributes (by FILE_ACTION_MODIFIED (has_filter FILE_NOTIFY_CHANGE_ATTRIBUTES) [] noted)
     attributes (AttributesWritten noted) = AttributesWritten (written noted)
 
-pub notes-then : (v u next : Volume) → NotesWhatChanges v u → IsSeenSame u next → NotesWhatChanges v next
+pub notes-then : (v u next : Volume) → NotesChanges v u → IsSeenSame u next → NotesChanges v next
 notes-then v u next noted seen = record {
   notes = noted.notes;
   adds = seen.changes ∙ noted.adds;

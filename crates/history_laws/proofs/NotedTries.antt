@@ -1,5 +1,7 @@
 -- Each try of a history notes what it changes: by the changes that its call asks for.
-use Rattle.std.proofs.Common.{ℕ, List, get_or, refl, None}
+use Rattle.std.proofs.Common.{◌≡◌, ℕ, List, get_or, refl, sym, subst, ◌∙◌, None}
+use Rattle.std.specs.Prelude.{All}
+use Rattle.std.proofs.lemmas.List.{append_cancel_left}
 use Rattle.fsa_types.specs.Paths.{components}
 use Rattle.fsa_types.specs.Rows.{IsNumbered}
 use Rattle.fsa_types.specs.declared.reply.Body.{Body}
@@ -15,19 +17,22 @@ use Rattle.fsa_model.specs.Rename.{naming_by}
 use Rattle.fsa_model.specs.Setup.{Setup}
 use Rattle.fsa_model.specs.Tries.{Tried, left_by, tries_of}
 use Rattle.fsa_model.specs.Try.{try}
-use Rattle.fsa_model.specs.Volume.{Volume}
+use Rattle.fsa_model.specs.Volume.{Change, Volume}
 use Rattle.fsa_model.specs.Walk.{walk}
 use Rattle.history_laws.specs.TreeChanges.{SameTree, TreeChange, changes_asked, changes_of, where_success, with_tree_changes}
-use Rattle.history_laws.specs.TreeNotes.{ChangesAreNoted, NotesWhatChanges}
+use Rattle.history_laws.specs.TreeNotes.{ChangesAreNoted, IsSeenUp, NotesChanges}
+use Rattle.history_laws.proofs.KeptOwn.{changes-keep}
 use Rattle.history_laws.proofs.NotedChanges.{by_handle-noted, marking-noted, nothing-noted, of_file-noted, opening-noted, resizing-noted, setting-basics, setting-point, setting-security, with_point-noted, writing-noted}
 use Rattle.history_laws.proofs.NotedCloses.{closing-noted, closing_all-noted}
 use Rattle.history_laws.proofs.NotedNames.{linking-noted, renaming-noted}
 use Rattle.history_laws.proofs.NotedRows.{IsSeenSame, notes-then}
+use Rattle.history_laws.proofs.SeenTries.{try-seen}
+use Rattle.history_laws.proofs.SeenUp.{NotesUp}
 use Rattle.history_laws.proofs.TreeRuns.{HoldsAround, tries-hold}
 use Rattle.history_laws.proofs.TreeTries.{try-leaves}
 
 -- what a call asks for
-asked-noted : (v : Volume) (client number : ℕ) (what : What) (body : Body) → IsTied v → IsNumbered v.handles v.last_handle → NotesWhatChanges v (with_tree_changes v (changes_asked v client number what body))
+asked-noted : (v : Volume) (client number : ℕ) (what : What) (body : Body) → IsTied v → IsNumbered v.handles v.last_handle → NotesChanges v (with_tree_changes v (changes_asked v client number what body))
 asked-noted v client number (Ask (request.Create path wanted share disposition options attributes key)) body tied numbered =
     opening-noted v (record { client = client; number = number; path = path; wanted = wanted; share = share; disposition = disposition; options = options; attributes = attributes; key = key }) body tied
 asked-noted v client number (Ask (request.Close handle)) body tied numbered = by_handle-noted v client handle _ (λ id row is. closing-noted v id row tied is)
@@ -49,11 +54,11 @@ asked-noted v client number (Ask (request.DeleteReparse handle tag)) body tied n
 asked-noted v client number Leave body tied numbered = closing_all-noted v client tied numbered
 asked-noted v client number what body tied numbered = nothing-noted v
 
-where-noted : (v : Volume) (status : Status) (changes : List TreeChange) → NotesWhatChanges v (with_tree_changes v changes) → NotesWhatChanges v (with_tree_changes v (where_success status changes))
+where-noted : (v : Volume) (status : Status) (changes : List TreeChange) → NotesChanges v (with_tree_changes v changes) → NotesChanges v (with_tree_changes v (where_success status changes))
 where-noted v Success changes noted = noted
 where-noted v _ changes noted = nothing-noted v
 
-changes-noted : (v : Volume) (client number : ℕ) (what : What) (outcome : Outcome) → IsTied v → IsNumbered v.handles v.last_handle → NotesWhatChanges v (with_tree_changes v (changes_of v client number what outcome))
+changes-noted : (v : Volume) (client number : ℕ) (what : What) (outcome : Outcome) → IsTied v → IsNumbered v.handles v.last_handle → NotesChanges v (with_tree_changes v (changes_of v client number what outcome))
 changes-noted v client number what (Done w reply) tied numbered = where-noted v reply.status (changes_asked v client number what reply.body) (asked-noted v client number what reply.body tied numbered)
 changes-noted v client number what (Stay w interim) tied numbered = nothing-noted v
 changes-noted v client number what (Hold w blockers interim) tied numbered = nothing-noted v
@@ -71,6 +76,14 @@ pub run-changes_noted : (setup : Setup) (history : List HistoryEntry) → Change
 run-changes_noted setup history = λ k d within. (let t : Tried = get_or (tries_of setup history) k d in
     let holds : HoldsAround t = tries-hold setup history k d within in
     let changes : List TreeChange = changes_of t.before t.call.client t.call.number t.call.what (try t.before t.call t.turn) in
-    notes-then t.before (with_tree_changes t.before changes) (left_by t)
+    let leaves : SameTree (with_tree_changes t.before changes) (left_by t) = try-leaves t.before t.call t.turn holds.tied in
+    let noted : NotesChanges t.before (left_by t) = notes-then t.before (with_tree_changes t.before changes) (left_by t)
     (changes-noted t.before t.call.client t.call.number t.call.what (try t.before t.call t.turn) holds.tied holds.tidy.handles)
-    (same-seen (with_tree_changes t.before changes) (left_by t) (try-leaves t.before t.call t.turn holds.tied)))
+    (same-seen (with_tree_changes t.before changes) (left_by t) leaves) in
+    let up : NotesUp t.before t.before (with_tree_changes t.before changes) = try-seen t.before t.call t.turn holds.sound in
+    let same : up.notes ≡ noted.notes = append_cancel_left t.before.changes up.notes noted.notes (sym up.adds ∙ sym leaves.changes ∙ noted.adds) in
+    record {
+      noted = noted;
+      seen = subst (λ (notes : List Change). All (IsSeenUp t.before) notes) same up.seen;
+      keeps = changes-keep t.before (left_by t) changes holds.sound.links_numbered holds.sound.streams_numbered leaves;
+    })

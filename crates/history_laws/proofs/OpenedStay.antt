@@ -60,7 +60,7 @@ what-keeps_open v turn client number (Ask (request.Create path wanted share disp
     asked : Asked
     asked = record { client = client; number = number; path = path; wanted = wanted; share = share; disposition = disposition; options = options; attributes = attributes; key = key }
 what-keeps_open v turn client number (Ask (request.QueryDir handle kind expression restart room)) other =
-    listed v _ (what-kept v turn client number (Ask (request.QueryDir handle kind expression restart room)) refl)
+    listed v _ (what-kept v turn client number (Ask (request.QueryDir handle kind expression restart room)) refl).same
 what-keeps_open v turn client number (Ask (request.Close handle)) other = cc
 what-keeps_open v turn client number Leave other = cc
 what-keeps_open v turn client number what other = still v _ (what-kept v turn client number what refl)

@@ -10,7 +10,7 @@ use Rattle.fsa_model.specs.Changes.{with_change_noted}
 use Rattle.fsa_model.specs.Edits.{with_file, with_link, with_stream, without_file_unless_linked, without_link}
 use Rattle.fsa_model.specs.Lookups.{has_row}
 use Rattle.fsa_model.specs.Volume.{File, Link, Stream, Volume}
-use Rattle.fsa_model.proofs.RowLaws.{any-map, any-push, any-same, change_at, change_at-number, change_at-same, none-all, option_cases, row_of-here}
+use Rattle.fsa_model.proofs.RowLaws.{any-last, any-map, any-push, any-same, change_at, change_at-number, change_at-same, lives-last, none-all, option_cases, row_of-here}
 
 -- ---- what is kept
 
@@ -113,16 +113,6 @@ Over-stream_more by on v file name there over = record {
 -- a file more, with its link
 lives-more : {R : Type 0} (rows more : List (ℕ × R)) (at : ℕ) → lives rows at ≡ true → lives (rows ++ more) at ≡ true
 lives-more rows more at there = any-push (λ entry. entry.0 == at) rows more there
-
-any-last : {X : Type 0} (p : X → Bool) (xs : List X) (x : X) → p x ≡ true → list_any p (xs ++ x ∷ []) ≡ true
-any-last p [] x passes = rw passes refl
-any-last p (y ∷ xs) x passes = elim (cases_Bool (p y)) [
-  | inl first ↦ rw first refl
-  | inr later ↦ rw later (any-last p xs x passes)
-]
-
-pub lives-last : {R : Type 0} (rows : List (ℕ × R)) (id : ℕ) (row : R) → lives (rows ++ (id, row) ∷ []) id ≡ true
-lives-last rows id row = any-last (λ entry. entry.0 == id) rows (id, row) (eq-eqb id id refl)
 
 pub Over-file_more : (by on : ℕ → Bool) (v : Volume) (dir : ℕ) (name : List ℕ) (file : File) → Over by on v → Over by on (with_link (with_file v file) dir name (v.last_file + 1))
 Over-file_more by on v dir name file over = record {

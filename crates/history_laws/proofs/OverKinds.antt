@@ -14,9 +14,9 @@ use Rattle.fsa_model.specs.Lookups.{parent_of}
 use Rattle.fsa_model.specs.Security.{asks_something, mapped, with_dacl_asked, with_owner_asked}
 use Rattle.fsa_model.specs.SetBasic.{basic_bits, with_basics}
 use Rattle.fsa_model.specs.Volume.{Link, Stream, Volume}
-use Rattle.fsa_model.proofs.RowLaws.{change_at, change_at-same, option_cases}
+use Rattle.fsa_model.proofs.RowLaws.{change_at, change_at-same, lives-last, option_cases}
 use Rattle.history_laws.specs.TreeChanges.{TreeChange, MakesDirectory, MakesFile, MakesStream, AddsLink, MovesLink, RemovesLink, RemovesStream, MarksLink, MarksStream, Writes, Resizes, Overwrites, SetsBasics, SetsSecurity, SetsPoint, SetsChangeTime, filter_of_name, with_bytes_noted, with_move, with_security_of, with_tree_change}
-use Rattle.history_laws.proofs.OverChanges.{Over, Over-file_changed, Over-file_more, Over-link_changed, Over-link_more, Over-noted, Over-stream_changed, Over-stream_more, Over-without_link, Over-without_stream, lives-last}
+use Rattle.history_laws.proofs.OverChanges.{Over, Over-file_changed, Over-file_more, Over-link_changed, Over-link_more, Over-noted, Over-stream_changed, Over-stream_more, Over-without_link, Over-without_stream}
 
 -- what is noted changes neither files nor links nor streams, nor the numbers given
 pub noted-files : (v : Volume) (link action bits : ℕ) (stream : Option ℕ) → (with_change_noted v link action bits stream).files ≡ v.files

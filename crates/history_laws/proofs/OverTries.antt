@@ -14,23 +14,23 @@ use Rattle.fsa_types.specs.declared.reply.Body.TheVariants.{Opened}
 use Rattle.fsa_types.specs.declared.request.Request.TheVariants as request
 use Rattle.fsa_types.specs.declared.request.What.{What}
 use Rattle.fsa_types.specs.declared.request.What.TheVariants.{Ask, Leave}
-use Rattle.fsa_types.specs.declared.status.Status.{Status}
-use Rattle.fsa_types.specs.declared.status.Status.TheVariants.{FileIsADirectory, InvalidHandle, Success}
+use Rattle.fsa_types.specs.declared.status.Status.TheVariants.{FileIsADirectory, InvalidHandle}
 use Rattle.fsa_model.specs.Changes.{with_change_noted}
 use Rattle.fsa_model.specs.Edits.{with_file, with_link, with_stream, without_link}
 use Rattle.fsa_model.specs.Link.{link_at, link_by, try_link}
-use Rattle.fsa_model.specs.Lookups.{bytes_of, child_of, file_of_link, handle_of, has_row, is_named, is_named_stream, linked_file, stream_of}
+use Rattle.fsa_model.specs.Lookups.{bytes_of, child_of, handle_of, has_row, is_named, is_named_stream, linked_file, stream_of}
 use Rattle.fsa_model.specs.Open.{Asked, file_attributes, names_stream, new_file, stream_name, wants_directory}
-use Rattle.fsa_model.specs.Outcome.{Outcome, Done, Stay, Hold, refused}
+use Rattle.fsa_model.specs.Outcome.{Outcome, refused}
 use Rattle.fsa_model.specs.Rename.{naming_by, replaced_link}
 use Rattle.fsa_model.specs.Replacement.{Naming, new_name}
 use Rattle.fsa_model.specs.Volume.{File, Handle, Volume}
 use Rattle.fsa_model.specs.Walk.{Walked, Reached, Barred, Diverted, last_name, walk}
 use Rattle.fsa_model.proofs.CoherenceComes.{number_of-row}
-use Rattle.fsa_model.proofs.RowLaws.{eqb-swap, option_cases, row_of-all}
-use Rattle.history_laws.specs.TreeChanges.{TreeChange, MovesLink, MarksLink, MarksStream, SetsChangeTime, added_link, added_over, by_handle, changes_asked, changes_linking, changes_marking, changes_of, changes_opening, changes_renaming, filter_of_name, is_under, made_in, made_under, named_stream_of, of_file, overwritten_in, removed_where, stream_made, where_reached, where_success, with_tree_change, with_tree_changes}
+use Rattle.fsa_model.proofs.RowLaws.{eqb-swap, lives-last, option_cases, row_of-all}
+use Rattle.history_laws.specs.TreeChanges.{TreeChange, MovesLink, MarksLink, MarksStream, SetsChangeTime, added_link, added_over, changes_asked, changes_linking, changes_marking, changes_of, changes_opening, changes_renaming, filter_of_name, is_under, made_in, made_under, named_stream_of, overwritten_in, removed_where, stream_made, where_reached, with_tree_change, with_tree_changes}
+use Rattle.history_laws.proofs.FitLists.{fit-by_handle, fit-if, fit-of, fit-of_file, fit-option}
 use Rattle.history_laws.proofs.OpensStay.{closes_handles}
-use Rattle.history_laws.proofs.OverChanges.{Over, lives-last, lives-without}
+use Rattle.history_laws.proofs.OverChanges.{Over, lives-without}
 use Rattle.history_laws.proofs.OverKinds.{Fits, noted-files, noted-links, over-change}
 
 -- a request for a link
@@ -46,22 +46,13 @@ module _ (by on : ℕ → Bool) where
   FitAll v [] = Unit {0}
   FitAll v (change ∷ more) = Fits by on v change × FitAll (with_tree_change v change) more
 
+  -- where nothing changes, nothing has to fit
+  pub nothing-fits : (v : Volume) → FitAll v []
+  nothing-fits v = tt
+
   pub over-changes : (changes : List TreeChange) (v : Volume) → FitAll v changes → Over by on v → Over by on (with_tree_changes v changes)
   over-changes [] v fits over = over
   over-changes (change ∷ more) v fits over = over-changes more (with_tree_change v change) fits.1 (over-change by on v change fits.0 over)
-
-  fit-where : (v : Volume) (status : Status) (changes : List TreeChange) → FitAll v changes → FitAll v (where_success status changes)
-  fit-where v Success changes fits = fits
-  fit-where v _ changes fits = tt
-
-  fit-option : {T : Type 0} (v : Volume) (found : Option T) (some : T → List TreeChange) (none : List TreeChange) → ((item : T) → found ≡ Some item → FitAll v (some item)) → FitAll v none
-      → FitAll v (option_map_or some found none)
-  fit-option v None some none there missing = missing
-  fit-option v (Some item) some none there missing = there item refl
-
-  fit-if : (v : Volume) (test : Bool) (one other : List TreeChange) → FitAll v one → FitAll v other → FitAll v (if test then one else other)
-  fit-if v true one other first second = first
-  fit-if v false one other first second = second
 
   -- ---- opens
 
@@ -72,14 +63,14 @@ module _ (by on : ℕ → Bool) where
       rw it.1 (row_of-all (λ row. lives v.files row.file ≡ true) v.links link it.0 it.1 all))
 
   fit-made : (v : Volume) (asked : Asked) (dir : ℕ) (name : List ℕ) → FitAll v (made_under v asked dir name)
-  fit-made v asked dir name = fit-if v (wants_directory asked) _ _ (tt, tt) (tt, stream (with_stream (with_link (with_file v file) dir name (v.last_file + 1)) (v.last_file + 1) []) (lives-last v.files (v.last_file + 1) file))
+  fit-made v asked dir name = fit-if FitAll v (wants_directory asked) _ _ (tt, tt) (tt, stream (with_stream (with_link (with_file v file) dir name (v.last_file + 1)) (v.last_file + 1) []) (lives-last v.files (v.last_file + 1) file))
     where
       file : File
       file = new_file v asked false (file_attributes asked.attributes)
 
       stream : (w : Volume) → lives w.files (v.last_file + 1) ≡ true
           → FitAll (with_change_noted w (v.last_link + 1) FILE_ACTION_ADDED FILE_NOTIFY_CHANGE_FILE_NAME None) (stream_made v asked)
-      stream w there = fit-if _ (names_stream asked.path) _ _ (rw (noted-files w (v.last_link + 1) FILE_ACTION_ADDED FILE_NOTIFY_CHANGE_FILE_NAME None) there, tt) tt
+      stream w there = fit-if FitAll _ (names_stream asked.path) _ _ (rw (noted-files w (v.last_link + 1) FILE_ACTION_ADDED FILE_NOTIFY_CHANGE_FILE_NAME None) there, tt) tt
 
   fit-reached : (v : Volume) (asked : Asked) (changes : ℕ → List ℕ → List TreeChange) (walked : Walked) → ((dir : ℕ) (name : List ℕ) → FitAll v (changes dir name)) → FitAll v (where_reached asked changes walked)
   fit-reached v asked changes (Reached dir) each = each dir (last_name (components asked.path))
@@ -87,11 +78,11 @@ module _ (by on : ℕ → Bool) where
   fit-reached v asked changes (Diverted file next) each = tt
 
   fit-overwritten : (v : Volume) (asked : Asked) (dir : ℕ) (name : List ℕ) → FitAll v (overwritten_in v asked dir name)
-  fit-overwritten v asked dir name = fit-option v (child_of v dir name) _ [] (λ link found. fit-option v (stream_of v (linked_file v link) (stream_name asked.path)) _ [] (λ stream there. (tt, tt)) tt) tt
+  fit-overwritten v asked dir name = fit-option FitAll v (child_of v dir name) _ [] (λ link found. fit-option FitAll v (stream_of v (linked_file v link) (stream_name asked.path)) _ [] (λ stream there. (tt, tt)) tt) tt
 
   fit-opening : (v : Volume) (asked : Asked) (body : Body) → IsNumbered v.links v.last_link → All (λ entry. lives v.files entry.1.file ≡ true) v.links → FitAll v (changes_opening v asked body)
   fit-opening v asked (Opened action.Created) numbered all = fit-reached v asked (made_in v asked) (walk v (components asked.path))
-      (λ dir name. fit-option v (child_of v dir name) _ _ (λ link found. (linked-lives v dir link name numbered all found, tt)) (fit-made v asked dir name))
+      (λ dir name. fit-option FitAll v (child_of v dir name) _ _ (λ link found. (linked-lives v dir link name numbered all found, tt)) (fit-made v asked dir name))
   fit-opening v asked (Opened action.Superseded) numbered all = fit-reached v asked (overwritten_in v asked) (walk v (components asked.path)) (fit-overwritten v asked)
   fit-opening v asked (Opened action.Overwritten) numbered all = fit-reached v asked (overwritten_in v asked) (walk v (components asked.path)) (fit-overwritten v asked)
   fit-opening v asked _ numbered all = tt
@@ -99,7 +90,7 @@ module _ (by on : ℕ → Bool) where
   -- ---- new names
 
   fit-renaming : (v : Volume) (naming : Naming) (walked : Walked) → IsNumbered v.links v.last_link → FitAll v (changes_renaming v naming walked)
-  fit-renaming v naming (Reached dir) numbered = fit-if v (is_under v naming.link dir (new_name naming)) [] _ tt (moved (replaced_link v naming dir))
+  fit-renaming v naming (Reached dir) numbered = fit-if FitAll v (is_under v naming.link dir (new_name naming)) [] _ tt (moved (replaced_link v naming dir))
     where
       moved : (replaced : Option ℕ) → FitAll v (removed_where replaced ++ MovesLink naming.link dir (new_name naming) ∷ SetsChangeTime naming.file ∷ [])
       moved None = (tt, (tt, tt))
@@ -119,7 +110,7 @@ module _ (by on : ℕ → Bool) where
   ]
 
   fit-linking : (v : Volume) (naming : Naming) (walked : Walked) → IsNumbered v.links v.last_link → lives v.files naming.file ≡ true → FitAll v (changes_linking v naming walked)
-  fit-linking v naming (Reached dir) numbered there = fit-option v (child_of v dir (new_name naming)) _ (added_link naming dir) (λ replaced found. over replaced) (there, (tt, tt))
+  fit-linking v naming (Reached dir) numbered there = fit-option FitAll v (child_of v dir (new_name naming)) _ (added_link naming dir) (λ replaced found. over replaced) (there, (tt, tt))
     where
       over : (replaced : ℕ) → FitAll v (added_over v naming dir replaced)
       over replaced = elim (cases_Bool (linked_file v replaced == naming.file)) [
@@ -141,15 +132,8 @@ module _ (by on : ℕ → Bool) where
 
   -- ---- by a handle
 
-  fit-by_handle : (v : Volume) (client number : ℕ) (changes : ℕ → Handle → List TreeChange) → ((id : ℕ) (handle : Handle) → row_of v.handles id ≡ Some handle → FitAll v (changes id handle))
-      → FitAll v (by_handle v client number changes)
-  fit-by_handle v client number changes each = fit-option v (handle_of v client number) _ [] (λ id found. fit-option v (row_of v.handles id) (changes id) [] (λ handle row. each id handle row) tt) tt
-
-  fit-of_file : (v : Volume) (handle : Handle) (changes : ℕ → List TreeChange) → ((file : ℕ) → FitAll v (changes file)) → FitAll v (of_file v handle changes)
-  fit-of_file v handle changes each = fit-option v (file_of_link v.links handle.link) changes [] (λ file found. each file) tt
-
   fit-marking : (v : Volume) (handle : Handle) (delete : Bool) → by handle.link ≡ true → ((s : ℕ) → handle.stream ≡ Some s → on s ≡ true) → FitAll v (changes_marking v handle delete)
-  fit-marking v handle delete link_held stream_held = fit-option v (named_stream_of v handle) _ _ (λ stream named. (stream_fits delete stream named, tt)) (link_fits delete, tt)
+  fit-marking v handle delete link_held stream_held = fit-option FitAll v (named_stream_of v handle) _ _ (λ stream named. (stream_fits delete stream named, tt)) (link_fits delete, tt)
     where
       named-is : (s : ℕ) → named_stream_of v handle ≡ Some s → handle.stream ≡ Some s
       named-is s is = elim (option_cases handle.stream) [
@@ -183,27 +167,22 @@ module _ (by on : ℕ → Bool) where
       body numbered all
   fit-asked v client number (Ask (request.Close handle)) body closes links numbered all held = (let impossible : true ≡ false = closes in cc)
   fit-asked v client number (Ask (request.Write handle at bytes)) body closes links numbered all held =
-      fit-by_handle v client handle _ (λ id row is. fit-option v row.stream _ [] (λ stream there. fit-if v (length bytes == 0) [] _ tt (tt, tt)) tt)
+      fit-by_handle FitAll nothing-fits v client handle _ (λ id row is. fit-option FitAll v row.stream _ [] (λ stream there. fit-if FitAll v (length bytes == 0) [] _ tt (tt, tt)) tt)
   fit-asked v client number (Ask (request.SetEnd handle end)) body closes links numbered all held =
-      fit-by_handle v client handle _ (λ id row is. fit-option v row.stream _ [] (λ stream there. fit-if v (length (bytes_of v stream) == end) [] _ tt (tt, tt)) tt)
+      fit-by_handle FitAll nothing-fits v client handle _ (λ id row is. fit-option FitAll v row.stream _ [] (λ stream there. fit-if FitAll v (length (bytes_of v stream) == end) [] _ tt (tt, tt)) tt)
   fit-asked v client number (Ask (request.SetDisposition handle delete)) body closes links numbered all held =
-      fit-by_handle v client handle _ (λ id row is. fit-marking v row delete (held id row is).0 (held id row is).1)
+      fit-by_handle FitAll nothing-fits v client handle _ (λ id row is. fit-marking v row delete (held id row is).0 (held id row is).1)
   fit-asked v client number (Ask (request.Rename handle path replace)) body closes links numbered all held =
-      fit-by_handle v client handle _ (λ id row is. fit-renaming v (naming_by v id row path replace) (walk v (components path)) numbered)
+      fit-by_handle FitAll nothing-fits v client handle _ (λ id row is. fit-renaming v (naming_by v id row path replace) (walk v (components path)) numbered)
   fit-asked v client number (Ask (request.Link handle path replace)) body closes links numbered all held = (let impossible : true ≡ false = links in cc)
   fit-asked v client number (Ask (request.SetBasic handle creation access write change attributes)) body closes links numbered all held =
-      fit-by_handle v client handle _ (λ id row is. fit-of_file v row _ (λ file. (tt, tt)))
-  fit-asked v client number (Ask (request.SetSecurity handle owner dacl)) body closes links numbered all held = fit-by_handle v client handle _ (λ id row is. fit-of_file v row _ (λ file. (tt, tt)))
+      fit-by_handle FitAll nothing-fits v client handle _ (λ id row is. fit-of_file FitAll nothing-fits v row _ (λ file. (tt, tt)))
+  fit-asked v client number (Ask (request.SetSecurity handle owner dacl)) body closes links numbered all held = fit-by_handle FitAll nothing-fits v client handle _ (λ id row is. fit-of_file FitAll nothing-fits v row _ (λ file. (tt, tt)))
   fit-asked v client number (Ask (request.SetReparse handle bytes)) body closes links numbered all held =
-      fit-by_handle v client handle _ (λ id row is. fit-of_file v row _ (λ file. fit-option v (read_reparse bytes) _ [] (λ point there. (tt, tt)) tt))
-  fit-asked v client number (Ask (request.DeleteReparse handle tag)) body closes links numbered all held = fit-by_handle v client handle _ (λ id row is. fit-of_file v row _ (λ file. (tt, tt)))
+      fit-by_handle FitAll nothing-fits v client handle _ (λ id row is. fit-of_file FitAll nothing-fits v row _ (λ file. fit-option FitAll v (read_reparse bytes) _ [] (λ point there. (tt, tt)) tt))
+  fit-asked v client number (Ask (request.DeleteReparse handle tag)) body closes links numbered all held = fit-by_handle FitAll nothing-fits v client handle _ (λ id row is. fit-of_file FitAll nothing-fits v row _ (λ file. (tt, tt)))
   fit-asked v client number Leave body closes links numbered all held = (let impossible : true ≡ false = closes in cc)
   fit-asked v client number what body closes links numbered all held = tt
-
-  pub fit-of : (v : Volume) (client number : ℕ) (what : What) (outcome : Outcome) → ((body : Body) → FitAll v (changes_asked v client number what body)) → FitAll v (changes_of v client number what outcome)
-  fit-of v client number what (Done w reply) each = fit-where v reply.status (changes_asked v client number what reply.body) (each reply.body)
-  fit-of v client number what (Stay w interim) each = tt
-  fit-of v client number what (Hold w blockers interim) each = tt
 
   -- a link, whose handle has a stream and so a link that is there
   pub fit-link : (v : Volume) (client number handle : ℕ) (path : List ℕ) (replace : Bool) → IsNumbered v.links v.last_link → ((id : ℕ) (row : Handle) → row_of v.handles id ≡ Some row → is_some row.stream ≡ true → lives v.files (linked_file v row.link) ≡ true)
@@ -217,7 +196,7 @@ module _ (by on : ℕ → Bool) where
       of_stream : (id : ℕ) (row : Handle) → handle_of v client handle ≡ Some id → row_of v.handles id ≡ Some row → (test : Bool) → is_some row.stream ≡ test → (other : Outcome)
           → FitAll v (changes_of v client number what (if not test then refused v FileIsADirectory else other))
       of_stream id row found is false none other = tt
-      of_stream id row found is true some other = fit-of v client number what other (λ body. rw (found, is) (fit-linking v (naming_by v id row path replace) (walk v (components path)) numbered (there id row is some)))
+      of_stream id row found is true some other = fit-of FitAll nothing-fits v client number what other (λ body. rw (found, is) (fit-linking v (naming_by v id row path replace) (walk v (components path)) numbered (there id row is some)))
 
       of_row : (id : ℕ) → handle_of v client handle ≡ Some id → (row : Option Handle) → row_of v.handles id ≡ row
           → FitAll v (changes_of v client number what (option_map_or (λ held. link_by v id held path replace) row (refused v InvalidHandle)))

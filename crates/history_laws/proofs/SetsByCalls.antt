@@ -43,11 +43,11 @@ use Rattle.fsa_model.specs.Waits.{waits_for, held_by}
 use Rattle.fsa_model.specs.Walk.{Walked, Reached, Barred, Diverted, last_name, point_of, walk}
 use Rattle.fsa_model.specs.Write.{try_write, write_at, write_at_place, write_by, write_bytes, write_grown, write_range, write_stream, write_unlocked}
 use Rattle.fsa_model.proofs.BreakLaws.{with_breaks-rest}
+use Rattle.fsa_model.proofs.FaultStatuses.{BarsWithout, replace-fails, stop-fails, walk-fails}
 use Rattle.fsa_model.proofs.RowLaws.{option_cases}
 use Rattle.history_laws.specs.OplockChanges.{IsLinkAt, MayBreak, Opens, OnStream, Marks, Renames, RenamesAbove, RenamesOver, LinksOver, WherePast, breaks_on_stream, changes_own, ends_only_behind_breaks, handle_numbered, renames, stream_numbered}
 use Rattle.history_laws.specs.WaitEnds.{is_success}
 use Rattle.history_laws.proofs.ByBreaks.{ByAtMost, TriesByClass, by-same, none-breaks}
-use Rattle.history_laws.proofs.FaultStatuses.{IsUndone, replace-undone, stop-fails, walk-undone}
 use Rattle.history_laws.proofs.SetsBroken.{BreaksSetsBy, IsOneOf, with_sets_broken}
 use Rattle.history_laws.proofs.TriesByBreaks.{delete_reparse, end_set, flush, get_reparse, linked, locked, mark, notify, query_dir, query_info, query_quota, renamed, set_basic, set_quota, set_reparse, set_security, wait, written}
 
@@ -313,7 +313,7 @@ stops v file rest = breaks-option (point_of v file) _ _ (λ point is. breaks-und
 fault-undone : {held : Bool} {class : Class} {acting : Option ℕ} {key : ℕ} {May : HandleSet → Type 0} {Enough : List HandleSet → Type 0} (v : Volume) (naming : Naming) (link : ℕ) (other : Outcome)
     → (replace_fault v naming link ≡ None → Breaks is_success held class acting key May Enough v other)
     → Breaks is_success held class acting key May Enough v (option_map_or (λ status. refused v status) (replace_fault v naming link) other)
-fault-undone v naming link other goes = breaks-option (replace_fault v naming link) _ other (λ status is. breaks-undone (replace-undone v naming link status is)) goes
+fault-undone v naming link other goes = breaks-option (replace_fault v naming link) _ other (λ status is. breaks-undone (replace-fails is_success v naming link status refl refl refl is)) goes
 
 -- the walk reaches one directory
 pub at_link : (v : Volume) (path : List ℕ) (dir link : ℕ) → walk v (components path) ≡ Reached dir → IsLinkAt v path link → child_of v dir (last_name (components path)) ≡ Some link
@@ -362,7 +362,7 @@ unfolding link_into
 link-into v naming dir may enough = breaks-unless _ _ _ refl
     (breaks-option (child_of v dir (new_name naming)) _ _ (λ link there. link-over v naming dir link (may link there) (rw there at enough)) (λ none. breaks-done (linked v naming dir None) (rw none at enough)))
 
-link-walked : {May : HandleSet → Type 0} {Enough : List HandleSet → Type 0} (v : Volume) (naming : Naming) (walked : Walked) → IsUndone walked
+link-walked : {May : HandleSet → Type 0} {Enough : List HandleSet → Type 0} (v : Volume) (naming : Naming) (walked : Walked) → BarsWithout is_success walked
     → ((dir link : ℕ) → walked ≡ Reached dir → child_of v dir (new_name naming) ≡ Some link → (linked_file v link == naming.file) ≡ false → replace_fault v naming link ≡ None → May (set.Link link))
     → ((dir : ℕ) → walked ≡ Reached dir → Enough (others_set v naming.file (child_of v dir (new_name naming)))) → Breaks is_success true NameChange (Some naming.handle) naming.key May Enough v (link_walked v naming walked)
 unfolding link_walked
@@ -376,7 +376,7 @@ link-file : {May : HandleSet → Type 0} {Enough : List HandleSet → Type 0} (v
     → ((dir : ℕ) → walk v (components naming.path) ≡ Reached dir → Enough (others_set v naming.file (child_of v dir (new_name naming))))
     → Breaks is_success true NameChange (Some naming.handle) naming.key May Enough v (link_file v naming)
 unfolding link_file
-link-file v naming may enough = (let undone = walk-undone v (components naming.path) 1 0 in search (going, link-walked, undone, may, enough) depth 60 fits 4000)
+link-file v naming may enough = (let undone = walk-fails is_success refl refl v (components naming.path) 1 0 in search (going, link-walked, undone, may, enough) depth 60 fits 4000)
 
 link-by : {May : HandleSet → Type 0} {Enough : List HandleSet → Type 0} (v : Volume) (id : ℕ) (handle : Handle) (path : List ℕ) (replace : Bool)
     → ((dir link : ℕ) → walk v (components path) ≡ Reached dir → child_of v dir (last_name (components path)) ≡ Some link → (linked_file v link == linked_file v handle.link) ≡ false
@@ -495,7 +495,7 @@ unfolding rename_into
 rename-into v naming dir own below may enough =
     breaks-if (is_directory v.files naming.file) _ _ (λ is. rename-below v naming dir own (below is) may (rw is at enough)) (λ no. rename-named v naming dir own may (rw no at enough))
 
-rename-walked : {May : HandleSet → Type 0} {Enough : List HandleSet → Type 0} (v : Volume) (naming : Naming) (walked : Walked) → IsUndone walked → May (set.Link naming.link)
+rename-walked : {May : HandleSet → Type 0} {Enough : List HandleSet → Type 0} (v : Volume) (naming : Naming) (walked : Walked) → BarsWithout is_success walked → May (set.Link naming.link)
     → (is_directory v.files naming.file ≡ true → May (set.Below naming.file))
     → ((dir link : ℕ) → walked ≡ Reached dir → child_of v dir (new_name naming) ≡ Some link → (link == naming.link) ≡ false → replace_fault v naming link ≡ None → May (set.Link link))
     → ((dir : ℕ) → walked ≡ Reached dir → Enough (moved_sets v naming.link naming.file (replaced_link v naming dir)))
@@ -511,7 +511,7 @@ rename-link : {May : HandleSet → Type 0} {Enough : List HandleSet → Type 0} 
     → ((dir : ℕ) → walk v (components naming.path) ≡ Reached dir → Enough (moved_sets v naming.link naming.file (replaced_link v naming dir)))
     → Breaks is_success false NameChange (Some naming.handle) naming.key May Enough v (rename_link v naming access)
 unfolding rename_link
-rename-link v naming access own below may enough = (let undone = walk-undone v (components naming.path) 1 0 in search (going, rename-walked, undone, own, below, may, enough) depth 60 fits 4000)
+rename-link v naming access own below may enough = (let undone = walk-fails is_success refl refl v (components naming.path) 1 0 in search (going, rename-walked, undone, own, below, may, enough) depth 60 fits 4000)
 
 rename-by : {May : HandleSet → Type 0} {Enough : List HandleSet → Type 0} (v : Volume) (id : ℕ) (handle : Handle) (path : List ℕ) (replace : Bool) → May (set.Link handle.link)
     → (is_directory v.files (linked_file v handle.link) ≡ true → May (set.Below (linked_file v handle.link)))

@@ -34,8 +34,8 @@ use Rattle.fsa_model.specs.Volume.{Link, Volume}
 use Rattle.fsa_model.specs.Waits.{waits_for}
 use Rattle.fsa_model.specs.Walk.{Walked, Reached, Barred, Diverted, last_name, point_of, walk}
 use Rattle.fsa_model.proofs.CoherenceTied.{IsUntouched, IsUntouched-noted}
+use Rattle.fsa_model.proofs.FaultStatuses.{stop-fails}
 use Rattle.history_laws.specs.OplockChanges.{MayBreak, Opens, WherePast, breaks_by_open, class_of_open, ends_only_behind_breaks, ends_unawaited}
-use Rattle.history_laws.proofs.FaultStatuses.{stop-fails}
 use Rattle.history_laws.proofs.SetsBroken.{BreaksSetsBy}
 
 -- the open clashes with a handle of these

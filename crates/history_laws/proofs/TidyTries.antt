@@ -26,11 +26,12 @@ use Rattle.fsa_model.proofs.CountLaws.{how_many-none}
 use Rattle.fsa_model.proofs.RowLaws.{find-any, option_cases, row_of-all, row_of-here}
 use Rattle.history_laws.specs.LeftOver.{NothingIsLeftOver}
 use Rattle.history_laws.specs.TreeChanges.{LeavesChanges, changes_of, with_tree_changes}
+use Rattle.history_laws.proofs.FitLists.{fit-of}
 use Rattle.history_laws.proofs.OpenedStay.{KeepsOpen, what-keeps_open}
 use Rattle.history_laws.proofs.OpensStay.{closes_handles, what-stays_open}
 use Rattle.history_laws.proofs.OverChanges.{Over, Over-same}
 use Rattle.history_laws.proofs.OverCloses.{AreOne, Tidy, TidyBut, TidyBut-calls_ended, all_closed-tidy, closed-tidy}
-use Rattle.history_laws.proofs.OverTries.{FitAll, fit-asked, fit-link, fit-of, is_link_request, over-changes}
+use Rattle.history_laws.proofs.OverTries.{FitAll, fit-asked, fit-link, is_link_request, nothing-fits, over-changes}
 use Rattle.history_laws.proofs.TreeParts.{calls_ended-handles}
 use Rattle.history_laws.proofs.TreeTries.{what-leaves}
 
@@ -40,7 +41,7 @@ none-any : {X : Type 0} (p : X → Bool) (xs : List X) → All (λ x. p x ≡ fa
 none-any p [] none = refl
 none-any p (x ∷ xs) none = rw (none 0 x (omega arith)) (none-any p xs (λ k d within. none (suc k) d (omega arith)))
 
-one-each : (oplocks : List Oplock) → AllPairs (λ a b. (a.handle == b.handle) ≡ false) oplocks → (handle : ℕ) → how_many (is_of handle) oplocks ≤ 1
+pub one-each : (oplocks : List Oplock) → AllPairs (λ a b. (a.handle == b.handle) ≡ false) oplocks → (handle : ℕ) → how_many (is_of handle) oplocks ≤ 1
 one-each [] differ handle = omega arith
 one-each (oplock ∷ more) differ handle = elim (cases_Bool (oplock.handle == handle)) [
   | inl here ↦ (let none : list_any (is_of handle) more ≡ false = none-any (is_of handle) more (λ k d within. of-other (get_or more k d) here (differ 0 (suc k) d (omega arith) (omega arith))) in
@@ -173,7 +174,7 @@ what-over v turn client number what closes tied tidy = after (try_what v turn cl
     start = record { marked_links = tidy.over.marked_links; marked_streams = tidy.over.marked_streams; files = tidy.over.files; links = tidy.over.links; streams = tidy.over.streams }
 
     other : (what : What) → closes_handles what ≡ false → is_link_request what ≡ false → FitAll by on v (changes_of v client number what (try_what v turn client number what))
-    other what closes links = fit-of by on v client number what (try_what v turn client number what) (λ body. fit-asked by on v client number what body closes links tidy.links tidy.over.links (held-by v))
+    other what closes links = fit-of (FitAll by on) (nothing-fits by on) v client number what (try_what v turn client number what) (λ body. fit-asked by on v client number what body closes links tidy.links tidy.over.links (held-by v))
 
     fits : (what : What) → closes_handles what ≡ false → FitAll by on v (changes_of v client number what (try_what v turn client number what))
     fits (Ask (request.Link handle path replace)) closes = fit-link by on v client number handle path replace tidy.links (linked-there v tied tidy)

@@ -45,11 +45,12 @@ AlikeOpen-calls_ended status_of calls v = record { alike = Alike-calls_ended sta
 
 -- without one handle a volume is alike, and two that are alike with the same handles stay so
 Alike-without : (v : Volume) (id : ℕ) → Alike v (without_handle v id)
-Alike-without v id = record { files = refl; links = refl; streams = refl; last_file = refl; last_link = refl; last_stream = refl; changes = refl; clock = refl }
+Alike-without v id = record { table = refl; files = refl; links = refl; streams = refl; last_file = refl; last_link = refl; last_stream = refl; changes = refl; clock = refl }
 
 AlikeOpen-without : (v w : Volume) (id : ℕ) → AlikeOpen v w → AlikeOpen (without_handle v id) (without_handle w id)
 AlikeOpen-without v w id same = record {
   alike = record {
+    table = same.alike.table;
     files = same.alike.files;
     links = same.alike.links;
     streams = same.alike.streams;
@@ -276,4 +277,4 @@ leave-leaves v client number =
     u = with_calls_ended (λ _. Cancelled) (pending_by_turn (is_left_behind client) v) v
 
     Alike-left : (w : Volume) (client : ℕ) → Alike w (with_left w client)
-    Alike-left w client = record { files = refl; links = refl; streams = refl; last_file = refl; last_link = refl; last_stream = refl; changes = refl; clock = refl }
+    Alike-left w client = record { table = refl; files = refl; links = refl; streams = refl; last_file = refl; last_link = refl; last_stream = refl; changes = refl; clock = refl }

@@ -26,10 +26,10 @@ use Rattle.fsa_model.specs.Replacement.{Naming, held_to_name, is_any_open, is_no
 use Rattle.fsa_model.specs.Volume.{Handle, Volume}
 use Rattle.fsa_model.specs.Walk.{Walked, Reached, Barred, Diverted, point_of, walk}
 use Rattle.fsa_model.proofs.BreakLaws.{with_breaks-rest}
+use Rattle.fsa_model.proofs.FaultStatuses.{BarsWithout, replace-fails, stop-fails, walk-fails}
 use Rattle.fsa_model.proofs.RowLaws.{option_cases}
 use Rattle.history_laws.specs.TreeChanges.{LeavesChanges, is_under, TreeChange, MovesLink, SetsChangeTime, added_link, added_over, changes_asked, changes_linking, changes_renaming, removed_where, with_tree_changes}
 use Rattle.history_laws.specs.WaitEnds.{is_success}
-use Rattle.history_laws.proofs.FaultStatuses.{IsUndone, replace-undone, stop-fails, walk-undone}
 use Rattle.history_laws.proofs.TreeParts.{Alike, Alike-breaks, Alike-next, Alike-same, SameTree-same, leaves-held_by, leaves-if, leaves-made, leaves-none, leaves-option, where_success-fails}
 
 -- ---- what is changed
@@ -96,7 +96,7 @@ module _ (v : Volume) (client number : ℕ) (what : What) where
   unless_fault : (u : Volume) (naming : Naming) (link : ℕ) (other : Outcome) → Alike v u → LeavesChanges v client number what other
       → LeavesChanges v client number what (option_map_or (λ status. refused u status) (replace_fault u naming link) other)
   unless_fault u naming link other alike goes = leaves-option v client number what (replace_fault u naming link) _ other
-      (λ status is. not_made u status (replace-undone u naming link status is) alike) (λ none. goes)
+      (λ status is. not_made u status (replace-fails is_success u naming link status refl refl refl is) alike) (λ none. goes)
 
   -- ---- a rename
 
@@ -148,7 +148,7 @@ module _ (v : Volume) (client number : ℕ) (what : What) where
       (λ free. leaves-if v client number what (is_any_open broken below) _ _ (λ opened. not_made broken AccessDenied refl alike)
       (λ closed. rename-named broken naming dir alike (table-breaks v naming below) asked)))
 
-  rename-walked : (naming : Naming) (walked : Walked) → IsUndone walked → changes_asked v client number what Nothing ≡ changes_renaming v naming walked
+  rename-walked : (naming : Naming) (walked : Walked) → BarsWithout is_success walked → changes_asked v client number what Nothing ≡ changes_renaming v naming walked
       → LeavesChanges v client number what (rename_walked v naming walked)
   unfolding rename_walked rename_into
   rename-walked naming (Reached dir) undone asked = leaves-if v client number what (is_directory v.files naming.file) _ _ (λ is. rename-directory naming dir asked)
@@ -164,7 +164,7 @@ module _ (v : Volume) (client number : ℕ) (what : What) where
       (λ named. leaves-if v client number what (not (has_any handle.access DELETE)) _ _ (λ lacks. not_made v AccessDenied refl (Alike-same v))
       (λ has. leaves-if v client number what (is_link_marked v handle.link) _ _ (λ marked. not_made v AccessDenied refl (Alike-same v))
       (λ kept. leaves-if v client number what (is_no_name path) _ _ (λ bad. not_made v ObjectNameInvalid refl (Alike-same v))
-      (λ good. rename-walked (naming_by v id handle path replace) (walk v (components path)) (walk-undone v (components path) 1 0) asked))))
+      (λ good. rename-walked (naming_by v id handle path replace) (walk v (components path)) (walk-fails is_success refl refl v (components path) 1 0) asked))))
 
   -- ---- a further link
 
@@ -196,7 +196,7 @@ module _ (v : Volume) (client number : ℕ) (what : What) where
       (λ none. leaves-made v v (with_linked v naming dir None) client number what (record { status = Success; body = Nothing }) (added naming dir None) (rw none at asked) (Alike-same v)
       (SameTree-same (with_linked v naming dir None))))
 
-  link-walked : (naming : Naming) (walked : Walked) → IsUndone walked → changes_asked v client number what Nothing ≡ changes_linking v naming walked
+  link-walked : (naming : Naming) (walked : Walked) → BarsWithout is_success walked → changes_asked v client number what Nothing ≡ changes_linking v naming walked
       → LeavesChanges v client number what (link_walked v naming walked)
   unfolding link_walked
   link-walked naming (Reached dir) undone asked = link-into naming dir asked
@@ -212,7 +212,7 @@ module _ (v : Volume) (client number : ℕ) (what : What) where
       (λ default. leaves-if v client number what (is_link_marked v handle.link) _ _ (λ marked. not_made v AccessDenied refl (Alike-same v))
       (λ kept. leaves-if v client number what (has_all_links v (linked_file v handle.link)) _ _ (λ all. not_made v TooManyLinks refl (Alike-same v))
       (λ fewer. leaves-if v client number what (is_no_name path) _ _ (λ bad. not_made v ObjectNameInvalid refl (Alike-same v))
-      (λ good. link-walked (naming_by v id handle path replace) (walk v (components path)) (walk-undone v (components path) 1 0) asked)))))
+      (λ good. link-walked (naming_by v id handle path replace) (walk v (components path)) (walk-fails is_success refl refl v (components path) 1 0) asked)))))
 
 -- ---- the tries
 

@@ -39,7 +39,7 @@ use Rattle.history_laws.proofs.TreeParts.{Alike, Alike-breaks, Alike-next, Alike
 
 Alike-open : (v : Volume) (asked : Asked) (link : ℕ) (stream : Option ℕ) → Alike v (with_open v asked link stream)
 Alike-open v asked link stream =
-    record { files = refl; links = refl; streams = refl; last_file = refl; last_link = refl; last_stream = refl; changes = refl; clock = refl }
+    record { table = refl; files = refl; links = refl; streams = refl; last_file = refl; last_link = refl; last_stream = refl; changes = refl; clock = refl }
 
 -- what is noted of a change of the link
 abbrev notes : Volume → ℕ → ℕ → ℕ → Option ℕ → List volume.Change
@@ -76,7 +76,7 @@ added-before v asked link file name stream opened next =
       noting-is with_both link FILE_ACTION_ADDED FILE_NOTIFY_CHANGE_FILE_NAME None,
       noting-is (adding with_both link) link FILE_ACTION_ADDED_STREAM FILE_NOTIFY_CHANGE_STREAM_NAME (Some (v.last_stream + 1)),
     )
-    (record { files = refl; links = refl; streams = refl; last_file = refl; last_link = refl; last_stream = refl; changes = refl })
+    (record { table = refl; files = refl; links = refl; streams = refl; last_file = refl; last_link = refl; last_stream = refl; changes = refl })
   where
     with_both : Volume
     with_both = with_open (with_stream v file name) asked link (Some opened)

@@ -32,10 +32,12 @@ use Rattle.fsa_model.proofs.BreakLaws.{with_breaks-rest}
 use Rattle.fsa_model.proofs.RowLaws.{option_cases}
 use Rattle.history_laws.specs.TreeChanges.{LeavesChanges, SameTree, TreeChange, MakesDirectory, MakesFile, MakesStream, AddsLink, MovesLink, RemovesLink, RemovesStream, MarksLink, MarksStream, Writes, Resizes, Overwrites, SetsBasics, SetsSecurity, SetsPoint, SetsChangeTime, changes_asked, where_success, with_move, with_tree_change, with_tree_changes}
 use Rattle.history_laws.specs.WaitEnds.{is_success}
+use Rattle.history_laws.proofs.FitLists.{by-if, by-option}
 
 -- ---- alike
 
 pub record Alike (v w : Volume) : Type 0 where
+  pub table : w.table ≡ v.table
   pub files : w.files ≡ v.files
   pub links : w.links ≡ v.links
   pub streams : w.streams ≡ v.streams
@@ -46,10 +48,11 @@ pub record Alike (v w : Volume) : Type 0 where
   pub clock : w.clock ≡ v.clock
 
 pub Alike-same : (v : Volume) → Alike v v
-Alike-same v = record { files = refl; links = refl; streams = refl; last_file = refl; last_link = refl; last_stream = refl; changes = refl; clock = refl }
+Alike-same v = record { table = refl; files = refl; links = refl; streams = refl; last_file = refl; last_link = refl; last_stream = refl; changes = refl; clock = refl }
 
 pub Alike-next : (u v w : Volume) → Alike u v → Alike v w → Alike u w
 Alike-next u v w one two = record {
+  table = two.table ∙ one.table;
   files = two.files ∙ one.files;
   links = two.links ∙ one.links;
   streams = two.streams ∙ one.streams;
@@ -62,6 +65,7 @@ Alike-next u v w one two = record {
 
 pub Alike-tree : (v w : Volume) → Alike v w → SameTree v w
 Alike-tree v w alike = record {
+  table = alike.table;
   files = alike.files;
   links = alike.links;
   streams = alike.streams;
@@ -76,6 +80,7 @@ SameTree-same v = Alike-tree v v (Alike-same v)
 
 pub SameTree-next : (u v w : Volume) → SameTree u v → SameTree v w → SameTree u w
 SameTree-next u v w one two = record {
+  table = two.table ∙ one.table;
   files = two.files ∙ one.files;
   links = two.links ∙ one.links;
   streams = two.streams ∙ one.streams;
@@ -88,7 +93,7 @@ SameTree-next u v w one two = record {
 -- ---- what leaves a volume alike
 
 pub Alike-end : (v : Volume) (client number : ℕ) (reply : Reply) → Alike v (with_end v client number reply)
-Alike-end v client number reply = record { files = refl; links = refl; streams = refl; last_file = refl; last_link = refl; last_stream = refl; changes = refl; clock = refl }
+Alike-end v client number reply = record { table = refl; files = refl; links = refl; streams = refl; last_file = refl; last_link = refl; last_stream = refl; changes = refl; clock = refl }
 
 pub Alike-calls_ended : (status_of : What → Status) (calls : List (ℕ × Pending)) (v : Volume) → Alike v (with_calls_ended status_of calls v)
 Alike-calls_ended status_of [] v = Alike-same v
@@ -105,13 +110,14 @@ calls_ended-handles status_of (entry ∷ more) v =
 pub Alike-breaks : (v : Volume) (on : HandleSet) (class : Class) (acting : Option ℕ) (key : ℕ) → Alike v (with_breaks v on class acting key)
 Alike-breaks v on class acting key =
     subst (λ w. Alike v w) (sym (with_breaks-rest v on class acting key))
-    (record { files = refl; links = refl; streams = refl; last_file = refl; last_link = refl; last_stream = refl; changes = refl; clock = refl })
+    (record { table = refl; files = refl; links = refl; streams = refl; last_file = refl; last_link = refl; last_stream = refl; changes = refl; clock = refl })
 
 -- ---- the same change of two that are alike
 
 -- the second volume, with what the first has of this
 abbrev over : Volume → Volume → Volume
 over v w = record w {
+  table = v.table;
   files = v.files;
   links = v.links;
   streams = v.streams;
@@ -123,10 +129,10 @@ over v w = record w {
 }
 
 over-is : (v w : Volume) → Alike v w → w ≡ over v w
-over-is v w alike = rw (sym alike.files, sym alike.links, sym alike.streams, sym alike.last_file, sym alike.last_link, sym alike.last_stream, sym alike.changes, sym alike.clock) refl
+over-is v w alike = rw (sym alike.table, sym alike.files, sym alike.links, sym alike.streams, sym alike.last_file, sym alike.last_link, sym alike.last_stream, sym alike.changes, sym alike.clock) refl
 
 over-alike : (v w : Volume) → Alike v (over v w)
-over-alike v w = record { files = refl; links = refl; streams = refl; last_file = refl; last_link = refl; last_stream = refl; changes = refl; clock = refl }
+over-alike v w = record { table = refl; files = refl; links = refl; streams = refl; last_file = refl; last_link = refl; last_stream = refl; changes = refl; clock = refl }
 
 over-noted : (v w : Volume) (link action bits : ℕ) (stream : Option ℕ) → with_change_noted (over v w) link action bits stream ≡ over (with_change_noted v link action bits stream) w
 over-noted v w link action bits stream = elim (option_cases (row_of v.links link)) [
@@ -244,11 +250,9 @@ leaves-made v u w client number what reply changes are alike same =
 -- by what a test or a search finds
 pub leaves-if : (v : Volume) (client number : ℕ) (what : What) (test : Bool) (one other : Outcome) → (test ≡ true → LeavesChanges v client number what one) → (test ≡ false → LeavesChanges v client number what other)
     → LeavesChanges v client number what (if test then one else other)
-leaves-if v client number what true one other first second = first refl
-leaves-if v client number what false one other first second = second refl
+leaves-if v client number what = by-if (LeavesChanges v client number what)
 
 pub leaves-option : {T : Type 0} (v : Volume) (client number : ℕ) (what : What) (found : Option T) (some : T → Outcome) (none : Outcome)
     → ((item : T) → found ≡ Some item → LeavesChanges v client number what (some item)) → (found ≡ None → LeavesChanges v client number what none)
     → LeavesChanges v client number what (option_map_or some found none)
-leaves-option v client number what None some none there missing = missing refl
-leaves-option v client number what (Some item) some none there missing = there item refl
+leaves-option v client number what = by-option (LeavesChanges v client number what)

@@ -52,11 +52,12 @@ use Rattle.history_laws.proofs.TreeParts.{Alike, Alike-breaks, Alike-next, Alike
 
 -- ---- quiet tries
 
--- a volume with the files, links, streams, numbers, changes and clock of another
+-- a volume with the case table, files, links, streams, numbers, changes and clock of another
 Alike-rest : (v w : Volume)
-    → w ≡ record w { files = v.files; links = v.links; streams = v.streams; last_file = v.last_file; last_link = v.last_link; last_stream = v.last_stream; changes = v.changes; clock = v.clock }
+    → w ≡ record w { table = v.table; files = v.files; links = v.links; streams = v.streams; last_file = v.last_file; last_link = v.last_link; last_stream = v.last_stream; changes = v.changes; clock = v.clock }
     → Alike v w
 Alike-rest v w is = record {
+  table = ap (λ (u : Volume). u.table) is;
   files = ap (λ (u : Volume). u.files) is;
   links = ap (λ (u : Volume). u.links) is;
   streams = ap (λ (u : Volume). u.streams) is;
@@ -409,7 +410,7 @@ quiet-tree v turn client number (Ask (request.SetQuota sid limit)) quiet = Alike
 quiet-tree v turn client number (Ask (request.QueryQuota sid)) quiet = Alike-tree v _ (try_query_quota-quiet v sid)
 quiet-tree v turn client number (Ask (request.Cancel cancelled)) quiet = Alike-tree v _ (try_cancel-quiet v client cancelled)
 quiet-tree v turn client number (Tick ticks) quiet =
-    record { files = refl; links = refl; streams = refl; last_file = refl; last_link = refl; last_stream = refl; changes = refl }
+    record { table = refl; files = refl; links = refl; streams = refl; last_file = refl; last_link = refl; last_stream = refl; changes = refl }
 quiet-tree v turn client number (WaitFor earlier) quiet = Alike-tree v _ (try_wait-quiet v client earlier)
 quiet-tree v turn client number _ quiet = cc
 

@@ -1,4 +1,4 @@
--- What every try of a history keeps: links and streams are tied, and the volume is tidy. Between two tries nothing changes of files,
+-- What every try of a history keeps: links and streams are tied, the volume is tidy, and the tree is sound and well formed. Between two tries nothing changes of files,
 -- links and streams, nor of what is noted.
 use Rattle.std.proofs.Common.{◌≡◌, ℕ, zero, suc, ◌==◌, true, false, List, [], ◌∷◌, ◌++◌, get_or, length, refl, sym, subst, ◌∙◌, arith, Some, None, inl, inr}
 use Rattle.std.proofs.lemmas.List.Elements.{All-append, All-cons, All-nil}
@@ -35,8 +35,16 @@ use Rattle.fsa_model.proofs.CoherenceTries.{IsCoherent-try, IsTied-fresh}
 use Rattle.fsa_model.proofs.RowLaws.{option_cases}
 use Rattle.fsa_model.proofs.SettleLaws.{some_equal}
 use Rattle.history_laws.specs.LeftOver.{NothingStaysOver}
+use Rattle.history_laws.specs.SoundTree.{TreeStaysSound}
 use Rattle.history_laws.specs.TreeChanges.{LeadTree, SameTree, TreeChangesAsAsked}
+use Rattle.history_laws.specs.WellFormed.{IsWellFormed, TreeStaysWellFormed}
+use Rattle.history_laws.proofs.FormedKinds.{Formed, formed-same}
+use Rattle.history_laws.proofs.FormedTries.{formed-fresh, try-formed}
 use Rattle.history_laws.proofs.OverCloses.{Tidy}
+use Rattle.fsa_model.proofs.SoundLaws.{IsSoundTree-fresh}
+use Rattle.fsa_model.specs.Sound.{IsSoundTree}
+use Rattle.history_laws.proofs.SoundKinds.{IsSoundTree-same}
+use Rattle.history_laws.proofs.SoundTries.{try-sound}
 use Rattle.history_laws.proofs.TidyTries.{try-tidy}
 use Rattle.history_laws.proofs.TreeParts.{SameTree-next, SameTree-same}
 use Rattle.history_laws.proofs.TreeTries.{try-leaves}
@@ -60,11 +68,17 @@ LeadTree-next (t ∷ more) second u v w one two = (one.0, LeadTree-next more sec
 record Holds (v : Volume) : Type 0 where
   tied : IsTied v
   tidy : Tidy v
+  sound : IsSoundTree v
+  formed : Formed v
 
 pub record HoldsAround (t : Tried) : Type 0 where
   pub tied : IsTied t.before
   pub tidy : Tidy t.before
   pub after : Tidy (left_by t)
+  pub sound : IsSoundTree t.before
+  pub sound_after : IsSoundTree (left_by t)
+  pub formed : IsWellFormed t.before
+  pub formed_after : IsWellFormed (left_by t)
 
 -- nothing that counts here changes
 record Unmoved (v w : Volume) : Type 0 where
@@ -86,7 +100,7 @@ rest_of v w = record v { pending = w.pending; ended = w.ended; watches = w.watch
 Unmoved-rest : (v w : Volume) → w ≡ rest_of v w → Unmoved v w
 Unmoved-rest v w is = subst (λ (u : Volume). Unmoved v u) (sym is) (record {
   untouched = record { oplocks = refl; handles = refl; links = refl; streams = refl; last_link = refl; last_stream = refl; root = λ root. root };
-  tree = record { files = refl; links = refl; streams = refl; last_file = refl; last_link = refl; last_stream = refl; changes = refl };
+  tree = record { table = refl; files = refl; links = refl; streams = refl; last_file = refl; last_link = refl; last_stream = refl; changes = refl };
   last_handle = refl;
 })
 
@@ -105,6 +119,8 @@ Holds-unmoved v w same holds = record {
     streams = rw (same.tree.streams, same.tree.last_stream) holds.tidy.streams;
     handles = rw (same.untouched.handles, same.last_handle) holds.tidy.handles;
   };
+  sound = IsSoundTree-same v w same.tree.table same.tree.files same.tree.links same.tree.streams same.untouched.handles same.tree.last_file same.tree.last_link same.tree.last_stream same.last_handle holds.sound;
+  formed = formed-same v w same.tree.files same.tree.links same.tree.streams same.tree.last_stream holds.formed;
 }
 
 -- ---- tries that lead from one volume to another
@@ -122,9 +138,22 @@ LeadsTo-same v = LeadsTo-none v v (Unmoved-rest v v refl)
 
 LeadsTo-try : (v : Volume) (call : Call) (turn : ℕ) → LeadsTo (record { before = v; call = call; turn = turn } ∷ []) v (volume_after (try v call turn))
 LeadsTo-try v call turn = record {
-  keeps = λ holds. record { tied = (IsCoherent-try v call turn holds.tied).tied; tidy = try-tidy v call turn holds.tied holds.tidy };
+  keeps = λ holds. record {
+    tied = (IsCoherent-try v call turn holds.tied).tied;
+    tidy = try-tidy v call turn holds.tied holds.tidy;
+    sound = try-sound v call turn holds.tied holds.sound;
+    formed = try-formed v call turn holds.tied holds.sound holds.formed;
+  };
   all = λ holds. All-cons HoldsAround (record { before = v; call = call; turn = turn }) []
-      (record { tied = holds.tied; tidy = holds.tidy; after = try-tidy v call turn holds.tied holds.tidy }) (All-nil HoldsAround);
+      (record {
+        tied = holds.tied;
+        tidy = holds.tidy;
+        after = try-tidy v call turn holds.tied holds.tidy;
+        sound = holds.sound;
+        sound_after = try-sound v call turn holds.tied holds.sound;
+        formed = holds.formed.well;
+        formed_after = (try-formed v call turn holds.tied holds.sound holds.formed).well;
+      }) (All-nil HoldsAround);
   lead = (SameTree-same v, SameTree-same (volume_after (try v call turn)));
 }
 
@@ -245,6 +274,8 @@ Holds-fresh setup = record {
     streams = numbered;
     handles = numbered;
   };
+  sound = IsSoundTree-fresh setup;
+  formed = formed-fresh setup;
 }
   where
     numbered : {R : Type 0} → IsNumbered {R = R} [] 0
@@ -265,4 +296,16 @@ pub run-leaves_nothing_over : (setup : Setup) (history : List HistoryEntry) → 
 run-leaves_nothing_over setup history = record {
   tries = λ k d within. (let holds = tries-hold setup history k d within in record { before = holds.tidy.over; after = holds.after.over });
   last = λ r is. (let lead = LeadsTo-from history (begun setup) r is in let holds = lead.keeps (Holds-fresh setup) in holds.tidy.over);
+}
+
+pub run-tree_stays_sound : (setup : Setup) (history : List HistoryEntry) → TreeStaysSound setup history
+run-tree_stays_sound setup history = record {
+  tries = λ k d within. (let holds = tries-hold setup history k d within in record { before = holds.sound; after = holds.sound_after });
+  last = λ r is. (let lead = LeadsTo-from history (begun setup) r is in let holds = lead.keeps (Holds-fresh setup) in holds.sound);
+}
+
+pub run-tree_stays_well_formed : (setup : Setup) (history : List HistoryEntry) → TreeStaysWellFormed setup history
+run-tree_stays_well_formed setup history = record {
+  tries = λ k d within. (let holds = tries-hold setup history k d within in record { before = holds.formed; after = holds.formed_after });
+  last = λ r is. (let lead = LeadsTo-from history (begun setup) r is in let holds = lead.keeps (Holds-fresh setup) in holds.formed.well);
 }

@@ -44,10 +44,10 @@ use Rattle.fsa_model.specs.Walk.{Walked, Reached, Barred, Diverted, point_of, wa
 use Rattle.fsa_model.specs.Write.{try_write, write_at, write_at_place, write_by, write_range, write_stream}
 use Rattle.fsa_model.proofs.CountLaws.{and_left}
 use Rattle.fsa_model.proofs.BreakLaws.{with_breaks-rest}
+use Rattle.fsa_model.proofs.FaultStatuses.{BarsWithout, Gives, giving, stop-fails, walk-fails}
 use Rattle.fsa_model.proofs.RowLaws.{option_cases}
 use Rattle.history_laws.specs.OplockChanges.{IsLinkAt, MayBreak, Opens, OnStream, Marks, Renames, RenamesAbove, RenamesOver, LinksOver, breaks_on_stream, ends_only_behind_breaks, ends_unawaited, may_go_beside, handle_numbered, stream_numbered}
 use Rattle.history_laws.specs.WaitEnds.{is_success}
-use Rattle.history_laws.proofs.FaultStatuses.{Gives, IsUndone, giving, stop-fails, walk-undone}
 use Rattle.history_laws.proofs.SetsByCalls.{at_link, rename-success}
 
 -- ---- ends
@@ -214,7 +214,7 @@ module _ (number : ℕ) (path : List ℕ) (replace : Bool) where
   stops v file rest = past-option (point_of v file) _ _ (λ point. past-undone (stop-fails is_success point.0 refl refl)) (past-other refl)
 
   -- so it comes to the directory of the new name
-  rename-walked : {So : Type 0} (v : Volume) (naming : Naming) (walked : Walked) → IsUndone walked
+  rename-walked : {So : Type 0} (v : Volume) (naming : Naming) (walked : Walked) → BarsWithout is_success walked
       → ((dir : ℕ) → walked ≡ Reached dir → Past (Ask (request.Rename number path replace)) So (rename_into v naming dir))
       → Past (Ask (request.Rename number path replace)) So (rename_walked v naming walked)
   unfolding rename_walked
@@ -226,7 +226,7 @@ module _ (number : ℕ) (path : List ℕ) (replace : Bool) where
       → ((dir : ℕ) → walk v (components naming.path) ≡ Reached dir → Past (Ask (request.Rename number path replace)) So (rename_into v naming dir))
       → Past (Ask (request.Rename number path replace)) So (rename_link v naming access)
   unfolding rename_link
-  rename-link v naming access goes = (let undone = walk-undone v (components naming.path) 1 0 in search (past-if, past-other, rename-walked, undone, goes) depth 60 fits 4000)
+  rename-link v naming access goes = (let undone = walk-fails is_success refl refl v (components naming.path) 1 0 in search (past-if, past-other, rename-walked, undone, goes) depth 60 fits 4000)
 
   rename-by : {So : Type 0} (v : Volume) (id : ℕ) (handle : Handle)
       → ((dir : ℕ) → walk v (components path) ≡ Reached dir → Past (Ask (request.Rename number path replace)) So (rename_into v (naming_by v id handle path replace) dir))

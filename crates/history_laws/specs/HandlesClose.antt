@@ -1,7 +1,8 @@
--- That a handle goes only by its own close or by its client's leaving, and goes where that succeeds; of opens see `AsAsked`. After
+-- That in a try a handle goes only by its own close or by its client's leaving, and goes where that succeeds; of opens see `AsAsked`. After
 -- [MS-FSA] 'Server Requests Closing an Open'.
 use Rattle.std.specs.Prelude.{◌≡◌, ◌==◌, ℕ, true, false, not, List, filter, All, Some}
-use Rattle.fsa_types.specs.Rows.{without_row}
+use Rattle.std.specs.Option.{option_map_or}
+use Rattle.fsa_types.specs.Rows.{row_of, without_row}
 use Rattle.fsa_types.specs.declared.request.Request.TheVariants as request
 use Rattle.fsa_types.specs.declared.request.What.{What}
 use Rattle.fsa_types.specs.declared.request.What.TheVariants.{Ask, Leave}
@@ -27,18 +28,24 @@ pub record ClosesOwn (v : Volume) (client : ℕ) (status : Status) (next : Volum
   pub closes : is_success status ≡ true → next.handles ≡ filter (λ entry. not (entry.1.client == client)) v.handles
   pub refuses : is_success status ≡ false → next.handles ≡ v.handles
 
--- any other request takes none, and leaves them as they were; but a QueryDir may move how far its handle's directory is listed.
--- What handles an open leaves is said in `AsAsked`
-abbrev pub KeepsHandles : What → Volume → Volume → Type 0
-KeepsHandles (Ask (request.Create path wanted share disposition options attributes key)) v next = Unit {0}
-KeepsHandles (Ask (request.QueryDir handle kind expression restart room)) v next = all_unenumerated next.handles ≡ all_unenumerated v.handles
-KeepsHandles what v next = next.handles ≡ v.handles
+-- a QueryDir may change of its own handle which entries are listed, and how far, and leaves all others as they were; when it may, isn't
+-- said here
+pub record ListsOne (v : Volume) (client number : ℕ) (next : Volume) : Type 0 where
+  pub same : all_unenumerated next.handles ≡ all_unenumerated v.handles
+  pub others : (handle : ℕ) → option_map_or (λ own. own == handle) (handle_of v client number) false ≡ false → row_of next.handles handle ≡ row_of v.handles handle
+
+-- any other call but an open, a wait, a tick or a cancellation too, and a close or a leaving that doesn't end, leaves all handles as
+-- they were; but a QueryDir only as `ListsOne` says. What handles an open leaves is said in `AsAsked`
+abbrev pub KeepsHandles : ℕ → What → Volume → Volume → Type 0
+KeepsHandles client (Ask (request.Create path wanted share disposition options attributes key)) v next = Unit {0}
+KeepsHandles client (Ask (request.QueryDir handle kind expression restart room)) v next = ListsOne v client handle next
+KeepsHandles client what v next = next.handles ≡ v.handles
 
 -- after a try of a client's call that asks this and came to this
 abbrev pub HandlesAfter : Volume → ℕ → What → Outcome → Type 0
 HandlesAfter v client (Ask (request.Close number)) (Done next reply) = ClosesOne v client number reply.status next
 HandlesAfter v client Leave (Done next reply) = ClosesOwn v client reply.status next
-HandlesAfter v client what outcome = KeepsHandles what v (volume_after outcome)
+HandlesAfter v client what outcome = KeepsHandles client what v (volume_after outcome)
 
 -- so it is after each try of a history
 abbrev pub HandlesGoWhenClosed : Setup → List HistoryEntry → Type 0

@@ -9,6 +9,8 @@ use Rattle.fsa_model.specs.Setup.{Setup}
 use Rattle.fsa_model.specs.Tries.{Tried, left_by, tries_of}
 use Rattle.fsa_model.specs.Volume.{Volume}
 
+-- nothing is left over in this volume: no mark without a handle, no file but the root without a link, and no link or stream without
+-- its file
 pub record NothingIsLeftOver (v : Volume) : Type 0 where
   -- a link that is marked has a handle that was opened by it, and a stream that is marked has one on it
   pub marked_links : All (λ entry. entry.1.deleted ≡ true → has_row (is_open_by entry.0) v.handles ≡ true) v.links
@@ -23,7 +25,7 @@ pub record LeavesNothingOver (t : Tried) : Type 0 where
   pub before : NothingIsLeftOver t.before
   pub after : NothingIsLeftOver (left_by t)
 
--- in each try of a history, and after its last turn
+-- in each try of a history, and after its last turn where the history can be run
 pub record NothingStaysOver (setup : Setup) (history : List HistoryEntry) : Type 0 where
   pub tries : All LeavesNothingOver (tries_of setup history)
   pub last : (r : Run) → run setup history ≡ Some r → NothingIsLeftOver r.volume

@@ -9,6 +9,7 @@ pub mod Holding
 pub mod Granting
 pub mod AsMade
 pub mod Awaited
+pub mod ReportsInOrder
 pub mod Telling
 pub mod GrantedEnds
 pub mod OplockChanges
@@ -21,4 +22,6 @@ pub mod TreeChanges
 pub mod TreeNotes
 pub mod HandlesClose
 pub mod LeftOver
+pub mod SoundTree
+pub mod WellFormed
 pub mod OpensTell

@@ -1,7 +1,8 @@
 -- What each try of a history changes of files, links and streams, and which change notifications it notes. Each change is of one of
 -- a few kinds, and its kind says what is noted of it. A call that ends SUCCESS makes just the changes that it asks for, in order (an
--- open those of the action that it tells); any other try makes none. After [MS-FSA] 'Server Requests an Open of a File' to 'Server
--- Requests Setting of Security Information', and 'Algorithm for Reporting a Change Notification for a Directory'.
+-- open those of the action that it tells); any other try makes none, and none changes the case table. After [MS-FSA] 'Server Requests
+-- an Open of a File' to 'Server Requests Setting of Security Information', and 'Algorithm for Reporting a Change Notification for a
+-- Directory'.
 use Rattle.std.specs.Cmp.Lexicographic.{pointwise}
 use Rattle.std.specs.Int.RustNames.{bit_or}
 use Rattle.std.specs.Option.{option_map_or}
@@ -342,8 +343,9 @@ changes_of v client number what (Hold w blockers interim) = []
 
 -- ---- all tries of a history
 
--- the same files, links and streams, the same last numbers of these, and the same notes
+-- the same case table; the same files, links and streams, and the same last numbers of these three; and the same notes
 pub record SameTree (v w : Volume) : Type 0 where
+  pub table : w.table ≡ v.table
   pub files : w.files ≡ v.files
   pub links : w.links ≡ v.links
   pub streams : w.streams ≡ v.streams
@@ -352,16 +354,16 @@ pub record SameTree (v w : Volume) : Type 0 where
   pub last_stream : w.last_stream ≡ v.last_stream
   pub changes : w.changes ≡ v.changes
 
--- a try of a client's call of this number that asks this, and came to this, leaves files, links, streams and notes as the changes of
--- the call leave them
+-- a try of a client's call of this number that asks this, and came to this, leaves files, links, streams and notes, and the case table,
+-- as the changes of the call leave them
 abbrev pub LeavesChanges : Volume → ℕ → ℕ → What → Outcome → Type 0
 LeavesChanges v client number what outcome = SameTree (with_tree_changes v (changes_of v client number what outcome)) (volume_after outcome)
 
 abbrev pub ChangesAsAsked : Tried → Type 0
 ChangesAsAsked t = LeavesChanges t.before t.call.client t.call.number t.call.what (try t.before t.call t.turn)
 
--- these tries, one after another, lead from one volume to another; of files, links, streams and notes nothing changes before the first
--- of them, between two, or after the last
+-- these tries, one after another, lead from one volume to another; of the case table, of files, links and streams, their last numbers,
+-- and notes nothing changes before the first of them, between two, or after the last
 abbrev pub LeadTree : List Tried → Volume → Volume → Type 0
 LeadTree [] v w = SameTree v w
 LeadTree (t ∷ more) v w = SameTree v t.before × LeadTree more (left_by t) w

@@ -1,7 +1,8 @@
 -- What a try has to note, said of the volumes before and after it alone: a link that comes, goes or moves, where it was and where it
 -- is; and under a name of the file a named stream that comes, or that goes while its file stays, other bytes of a stream that stays,
 -- and, but for the root, another owner, access list or reparse point, other times but that of the last change, and other attributes.
--- Of marks and of the change time nothing is said. After [MS-FSA] 'Algorithm for Reporting a Change Notification for a Directory'.
+-- Of marks and of the change time nothing is said. Each note is seen from its first directory and from each above that up to the
+-- root. After [MS-FSA] 'Algorithm for Reporting a Change Notification for a Directory'.
 use Rattle.std.specs.Prelude.{◌≡◌, ◌==◌, ◌||◌, ℕ, Bool, true, false, List, [], ◌∷◌, ◌++◌, All, Option, Some, None, option_map}
 use Rattle.fsa_types.specs.Access.{has_any}
 use Rattle.fsa_types.specs.Masks.{FILE_ACTION_ADDED, FILE_ACTION_ADDED_STREAM, FILE_ACTION_MODIFIED, FILE_ACTION_MODIFIED_STREAM, FILE_ACTION_REMOVED, FILE_ACTION_REMOVED_STREAM, FILE_ACTION_RENAMED_NEW_NAME, FILE_ACTION_RENAMED_OLD_NAME, FILE_NOTIFY_CHANGE_ATTRIBUTES, FILE_NOTIFY_CHANGE_CREATION, FILE_NOTIFY_CHANGE_DIR_NAME, FILE_NOTIFY_CHANGE_FILE_NAME, FILE_NOTIFY_CHANGE_LAST_ACCESS, FILE_NOTIFY_CHANGE_LAST_WRITE, FILE_NOTIFY_CHANGE_SECURITY, FILE_NOTIFY_CHANGE_STREAM_NAME, FILE_NOTIFY_CHANGE_STREAM_WRITE}
@@ -9,12 +10,12 @@ use Rattle.fsa_types.specs.Rows.{row_of}
 use Rattle.fsa_model.specs.History.{HistoryEntry}
 use Rattle.fsa_model.specs.Setup.{Setup}
 use Rattle.fsa_model.specs.Tries.{Tried, left_by, tries_of}
-use Rattle.fsa_model.specs.Volume.{Change, File, Stream, Volume}
+use Rattle.fsa_model.specs.Volume.{Change, File, Link, Stream, Volume}
 
 -- ---- a note
 
 -- among these notes is one with this action, with filters that pass this test, whose first directory is this one, with this name;
--- from which directories above it is seen isn't said here
+-- from which directories above it the note is seen, `IsSeenUp` says
 pub record IsNoted (notes : List Change) (action : ℕ) (under : ℕ → Bool) (parent : ℕ) (name : List ℕ) : Type 0 where
   pub before : List Change
   pub note : Change
@@ -32,6 +33,31 @@ is_of_name bits = bits == FILE_NOTIFY_CHANGE_DIR_NAME || bits == FILE_NOTIFY_CHA
 -- the filters have this one among them
 abbrev pub has_filter : ℕ → ℕ → Bool
 has_filter filter bits = has_any bits filter
+
+-- ---- from where a note is seen
+
+-- what is called `name` in this directory is called, in a directory that has a link of this one, by that link's name, `\` and `name`
+pub record IsAbove (v : Volume) (dir : ℕ) (name : List ℕ) (above : ℕ × List ℕ) : Type 0 where
+  pub link : ℕ
+  pub row : Link
+  pub is_there : row_of v.links link ≡ Some row
+  pub of_dir : row.file ≡ dir
+  pub seen : above ≡ (row.parent, row.name ++ 92 ∷ name)
+
+-- the directories above this one, the nearest first, each with what something called `name` in this one is called from there: each has a
+-- link of the one before it, and the last is the root, file 1; of the root there are none
+abbrev pub IsWayUp : Volume → ℕ → List ℕ → List (ℕ × List ℕ) → Type 0
+IsWayUp v dir name [] = dir ≡ 1
+IsWayUp v dir name (next ∷ more) = IsAbove v dir name next × IsWayUp v next.0 next.1 more
+
+-- a note is seen from its first directory, and from each above that up to the root, as these were before the try, with the name that it
+-- has from each
+pub record IsSeenUp (v : Volume) (note : Change) : Type 0 where
+  pub parent : ℕ
+  pub name : List ℕ
+  pub above : List (ℕ × List ℕ)
+  pub seen : note.seen_from ≡ (parent, name) ∷ above
+  pub way : IsWayUp v parent name above
 
 -- ---- links
 
@@ -130,6 +156,8 @@ pub data AttributesNoted (v next : Volume) (notes : List Change) (file old now :
   OtherAttributes : NotedByLink v next notes FILE_ACTION_MODIFIED (has_filter FILE_NOTIFY_CHANGE_ATTRIBUTES) file [] → AttributesNoted v next notes file old now
   AttributesWritten : WriteNoted v next notes file → AttributesNoted v next notes file old now
 
+-- of a file that stays, owner and access list, reparse point, times of creation, of the last access and of the last write, and
+-- attributes are as they were, or noted
 pub record FileNoted (v next : Volume) (notes : List Change) (file : ℕ) (row row_now : File) : Type 0 where
   pub security : SecurityNoted v next notes file row row_now
   pub point : PointNoted v next notes file row row_now
@@ -142,7 +170,7 @@ pub record FileNoted (v next : Volume) (notes : List Change) (file : ℕ) (row r
 
 -- from one volume to the next notes are only added, and those named below are among them; the root, file 1, has no name to be noted
 -- under
-pub record NotesWhatChanges (v next : Volume) : Type 0 where
+pub record NotesChanges (v next : Volume) : Type 0 where
   pub notes : List Change
   pub adds : next.changes ≡ v.changes ++ notes
   pub links : (link : ℕ) → LinkNoted v next notes link
@@ -154,6 +182,17 @@ pub record NotesWhatChanges (v next : Volume) : Type 0 where
   pub streams_gone : (stream : ℕ) (row : Stream) → row_of v.streams stream ≡ Some row → row_of next.streams stream ≡ None → StreamGone v next notes row
   pub files : (file : ℕ) (row row_now : File) → (file == 1) ≡ false → row_of v.files file ≡ Some row → row_of next.files file ≡ Some row_now
       → FileNoted v next notes file row row_now
+
+-- a link that stays keeps its file, and a stream that stays its file and its name
+pub record KeepsOwn (v next : Volume) : Type 0 where
+  pub links : (link : ℕ) (row row_now : Link) → row_of v.links link ≡ Some row → row_of next.links link ≡ Some row_now → row_now.file ≡ row.file
+  pub streams : (stream : ℕ) (row row_now : Stream) → row_of v.streams stream ≡ Some row → row_of next.streams stream ≡ Some row_now → (row_now.file ≡ row.file) × (row_now.name ≡ row.name)
+
+-- so notes are added, and each of them, also one that isn't named above, is seen up to the root; and what stays keeps what it is of
+pub record NotesWhatChanges (v next : Volume) : Type 0 where
+  pub noted : NotesChanges v next
+  pub seen : All (IsSeenUp v) noted.notes
+  pub keeps : KeepsOwn v next
 
 -- so it is from before to after each try of a history
 abbrev pub ChangesAreNoted : Setup → List HistoryEntry → Type 0

@@ -29,6 +29,9 @@ ghost use Rattle.history_laws.specs.OpensTell.{OpensTellWhatTheyDid};
 ghost use Rattle.history_laws.specs.OplockChanges.{OplocksChangeForCause};
 ghost use Rattle.history_laws.specs.Races.{AllComeAfterWaits, Begun, NoneMadeWaiting, Whole};
 ghost use Rattle.history_laws.specs.Releasing.{HoldersRelease, OthersReleaseNone};
+ghost use Rattle.history_laws.specs.ReportsInOrder.{ReportsGoToEarliest};
+ghost use Rattle.history_laws.specs.SoundTree.{TreeStaysSound};
+ghost use Rattle.history_laws.specs.WellFormed.{TreeStaysWellFormed};
 ghost use Rattle.history_laws.specs.Telling.{LeftAsTold, ToldOfOplocks, ToldTargets};
 ghost use Rattle.history_laws.specs.TreeChanges.{TreeChangesAsAsked};
 ghost use Rattle.history_laws.specs.TreeNotes.{ChangesAreNoted};
@@ -171,6 +174,13 @@ pub fn no_awaited_end_or_change_is_missed()
     ensures missed { (setup : Setup) (history : List HistoryEntry) → CallsDiffer history → NothingIsMissed setup history }
 {}
 
+/// In a history that makes no call twice a watch reports only to the earliest pending Notify of its handle, that is, no other of the
+/// handle is pending under an earlier turn; or, where none of its handle is pending, to one that is just made. A Notify that a
+/// settlement takes up, also one that finds no memory for its report, is the earliest pending one of its handle too.
+pub fn the_earliest_notify_is_reported()
+    ensures earliest { (setup : Setup) (history : List HistoryEntry) → CallsDiffer history → ReportsGoToEarliest setup history }
+{}
+
 /// In every history a call ends in a reply that tells of a break only where the call was pending, an oplock was granted to
 /// it of which no break was in progress, and some class of requests, by a break of that oplock, tells just that: SUCCESS,
 /// the level that the class leaves of it, and whether that has to be acknowledged. So it is in the try of each turn's call,
@@ -265,16 +275,17 @@ pub fn opens_tell_what_they_did()
 {}
 
 /// After each try of every history the handles are those from before, as they were: but for an open, which
-/// `opens_and_locks_leave_what_was_asked` speaks of, a close that succeeds, which takes just the handle that it names, a leaving,
-/// that succeeds, which takes just its client's, and a QueryDir, which may move how far its handle's directory is listed.
+/// `opens_and_locks_leave_what_was_asked` speaks of, a close that succeeds, which takes just the handle that it names, a leaving
+/// that succeeds, which takes just its client's, and a QueryDir, which may change of its own handle which entries are listed, and
+/// how far.
 pub fn handles_go_when_closed()
     ensures go { (setup : Setup) (history : List HistoryEntry) → HandlesGoWhenClosed setup history }
 {}
 
 /// In each try of every history files, links and streams, the last numbers of these, and what is noted change just as the call
 /// asks: a call that ends SUCCESS makes its changes in order, an open those of the action that it tells, each of one of a few
-/// kinds that says what is noted of it. A call that ends otherwise, or is pending then, makes none. Where the history can be run,
-/// nothing of these changes before the first try, between two tries, or after the last.
+/// kinds that says what is noted of it. A call that ends otherwise, or is pending then, makes none, and none changes the case table.
+/// Where the history can be run, nothing of these changes before the first try, between two tries, or after the last.
 pub fn the_tree_changes_as_asked()
     ensures asked { (setup : Setup) (history : List HistoryEntry) → TreeChangesAsAsked setup history }
 {}
@@ -284,7 +295,10 @@ pub fn the_tree_changes_as_asked()
 /// of the file a named stream that comes, a stream that goes while its file stays, other bytes of a stream that stays, and, but
 /// for the root, another owner, access list or reparse point, other times, but that of the last change, and other attributes; of
 /// the time of the last write, and of attributes, that the file or a named stream of it was written is enough. Each of these is
-/// under a filter of its kind, a link under either of the two for names. Of marks nothing is said here.
+/// under a filter of its kind, a link under either of the two for names. Each note, also one that isn't named here, is seen from its
+/// first directory and from each above that up to the root, as these were before the try, with the name that it has from each: those
+/// of the directories between, and its own, joined by `\`. A link that stays keeps its file, and a stream its file and its name. Of
+/// marks nothing is said here.
 pub fn what_changes_is_noted()
     ensures noted { (setup : Setup) (history : List HistoryEntry) → ChangesAreNoted setup history }
 {}
@@ -295,4 +309,24 @@ pub fn what_changes_is_noted()
 /// its mark.
 pub fn nothing_is_left_over()
     ensures over { (setup : Setup) (history : List HistoryEntry) → NothingStaysOver setup history }
+{}
+
+/// Before and after each try of every history, and after its last turn where it can be run, the tree is sound, that is: the names
+/// of the links in a directory, marked or not, differ by the volume's case table, and so do those of a file's streams; the root is a
+/// directory without a link; each link is in a directory from which links lead up to the root; a directory has one link at most and no
+/// stream, and where its link is marked for deletion no link, marked or not, is in it; the file of each link and stream is there.
+/// Each handle's link is there, or it is 0, the root's; its stream is one of that link's file, and only a directory's handle has
+/// none. The numbers of files, links, streams and handles rise, none is above the last one given, and no link has the number 0.
+/// With `handles_go_when_closed`: no try removes a link or a stream of which a handle is that it leaves. That two handles differ by
+/// client and number isn't said here.
+pub fn the_tree_stays_sound()
+    ensures sound { (setup : Setup) (history : List HistoryEntry) → TreeStaysSound setup history }
+{}
+
+/// Before and after each try of every history, and after its last turn where it can be run, the tree is well formed: the name of a
+/// link is one that a component of a path can have, and that of a stream is one that can stand behind `:`, or empty for a default
+/// stream; whatever is no directory has its default stream; a file has at most 1,024 links, those that are marked for deletion among
+/// them; and what has a reparse point isn't the root, and nothing is in it, marked for deletion or not.
+pub fn the_tree_stays_well_formed()
+    ensures formed { (setup : Setup) (history : List HistoryEntry) → TreeStaysWellFormed setup history }
 {}
