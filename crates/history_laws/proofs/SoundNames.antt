@@ -130,7 +130,7 @@ module _ (v : Volume) (target dir : ℕ) (name : List ℕ) (sound : IsSoundTree 
   removed-moves link apart own = subst (λ w. SoundFits w (MovesLink link dir name)) (sym removed-is) (removed-takes, rw still refl, rw removed-free tt)
     where
       still : is_directory (without_link noted target).files (linked_file (without_link noted target) link) ≡ false
-      still = ap (λ row. is_directory (without_link noted target).files (option_map_or (λ (its : Link). its.file) row 0)) (others-without noted target link (eqb-swap link target ∙ apart))
+      still = ap (λ found. is_directory (without_link noted target).files (option_map_or (λ (its : Link). its.file) found 0)) (others-without noted target link (eqb-swap link target ∙ apart))
           ∙ no_directory-without noted target (linked_file v link) own
 
   removed-adds : (file : ℕ) → (linked_file v target == file) ≡ false → lives v.files file ≡ true → is_directory v.files file ≡ false
