@@ -9,6 +9,7 @@ use Rattle.fsa_model.specs.History.{HistoryEntry, Run, run}
 use Rattle.fsa_model.specs.Reports.{settling_after}
 use Rattle.fsa_model.specs.Schedule.{HasAllCalls, Scheduled, plain}
 use Rattle.fsa_model.specs.Script.{script_of}
+use Rattle.fsa_model.specs.Sound.{IsSoundTree}
 use Rattle.fsa_model.specs.Text.{shows_no_memory, text}
 use Rattle.fsa_model.specs.Waiting.{is_wait}
 use Rattle.fsa_model.specs.Watched.{WatchesReport}
@@ -16,23 +17,23 @@ use Rattle.history_laws.specs.AsAsked.{OpensAndLocksAsAsked}
 use Rattle.history_laws.specs.AsMade.{PendsAsMade}
 use Rattle.history_laws.specs.AsTried.{CallsPendAsTried}
 use Rattle.history_laws.specs.Awaited.{NothingIsMissed}
+use Rattle.history_laws.specs.EachVolume.{HoldsOfEachVolume}
 use Rattle.history_laws.specs.EndsAsFound.{CallsEndAsFound}
 use Rattle.history_laws.specs.GrantedEnds.{GrantedCallsEndForCause}
 use Rattle.history_laws.specs.Granting.{GrantedCallsPend}
 use Rattle.history_laws.specs.HandlesClose.{HandlesGoWhenClosed}
 use Rattle.history_laws.specs.Holding.{CalledOffEnd, PendingStay}
-use Rattle.history_laws.specs.LeftOver.{NothingStaysOver}
+use Rattle.history_laws.specs.LeftOver.{NothingIsLeftOver}
 use Rattle.history_laws.specs.OpensTell.{OpensTellWhatTheyDid}
 use Rattle.history_laws.specs.OplockChanges.{OplocksChangeForCause}
 use Rattle.history_laws.specs.Releasing.{HoldersRelease, OthersReleaseNone}
 use Rattle.history_laws.specs.Races.{AllComeAfterWaits, Begun, Whole}
 use Rattle.history_laws.specs.ReportsInOrder.{ReportsGoToEarliest}
-use Rattle.history_laws.specs.SoundTree.{TreeStaysSound}
 use Rattle.history_laws.specs.Telling.{LeftAsTold, ToldOfOplocks, ToldTargets}
 use Rattle.history_laws.specs.TreeChanges.{TreeChangesAsAsked}
 use Rattle.history_laws.specs.TreeNotes.{ChangesAreNoted}
 use Rattle.history_laws.specs.WaitEnds.{SettlesWaits, StallsExactly, cancels_in, ends_otherwise, is_wait_end, leaves_in}
-use Rattle.history_laws.specs.WellFormed.{TreeStaysWellFormed}
+use Rattle.history_laws.specs.WellFormed.{IsWellFormed}
 use Rattle.history_laws.specs.WhyPending.{CallsPendForCause}
 use Rattle.wire_io.specs.Source.{ReadsWhole}
 use Rattle.wire_io.specs.Sink.{Written, Appends, AppendsFront, AppendsPart}
@@ -137,9 +138,9 @@ pub record HoldsThroughout (setup : Setup) (history : List HistoryEntry) : Type 
   pub opens_tell_what_they_did : OpensTellWhatTheyDid setup history
   pub handles_go_when_closed : HandlesGoWhenClosed setup history
   pub the_tree_changes_as_asked : TreeChangesAsAsked setup history
-  pub nothing_is_left_over : NothingStaysOver setup history
-  pub the_tree_stays_sound : TreeStaysSound setup history
-  pub the_tree_stays_well_formed : TreeStaysWellFormed setup history
+  pub nothing_is_left_over : HoldsOfEachVolume NothingIsLeftOver setup history
+  pub the_tree_stays_sound : HoldsOfEachVolume IsSoundTree setup history
+  pub the_tree_stays_well_formed : HoldsOfEachVolume IsWellFormed setup history
   pub what_changes_is_noted : ChangesAreNoted setup history
   pub watches_report_exactly : WatchesReport setup history
   pub the_earliest_notify_is_reported : ReportsGoToEarliest setup history

@@ -26,7 +26,7 @@ use Rattle.history_laws.proofs.AnyLaws.{any-filter_and}
 use Rattle.history_laws.proofs.CausesOfCalls.{filter-all, filter-twice, is_among}
 use Rattle.history_laws.proofs.KeptHandles.{what-kept}
 use Rattle.history_laws.proofs.TreeParts.{calls_ended-handles}
-use Rattle.history_laws.proofs.TreeRuns.{tries-hold}
+use Rattle.history_laws.proofs.TreeRuns.{run-holds}
 
 -- ---- closes and leavings
 
@@ -136,5 +136,4 @@ try-handles v call turn numbered = elim (cases_Bool (has_left v call.client)) [
 pub handles-go_when_closed : (setup : Setup) (history : List HistoryEntry) → HandlesGoWhenClosed setup history
 handles-go_when_closed setup history k d within =
     let t : Tried = get_or (tries_of setup history) k d in
-    let holds = tries-hold setup history k d within in
-    try-handles t.before t.call t.turn holds.tidy.handles
+    try-handles t.before t.call t.turn ((run-holds setup history).tries k d within).before.tidy.handles

@@ -28,7 +28,7 @@ use Rattle.history_laws.proofs.NotedNames.{linking-noted, renaming-noted}
 use Rattle.history_laws.proofs.NotedRows.{IsSeenSame, notes-then}
 use Rattle.history_laws.proofs.SeenTries.{try-seen}
 use Rattle.history_laws.proofs.SeenUp.{NotesUp}
-use Rattle.history_laws.proofs.TreeRuns.{HoldsAround, tries-hold}
+use Rattle.history_laws.proofs.TreeRuns.{Holds, run-holds}
 use Rattle.history_laws.proofs.TreeTries.{try-leaves}
 
 -- what a call asks for
@@ -74,7 +74,7 @@ same-seen v w same = record {
 
 pub run-changes_noted : (setup : Setup) (history : List HistoryEntry) → ChangesAreNoted setup history
 run-changes_noted setup history = λ k d within. (let t : Tried = get_or (tries_of setup history) k d in
-    let holds : HoldsAround t = tries-hold setup history k d within in
+    let holds : Holds t.before = ((run-holds setup history).tries k d within).before in
     let changes : List TreeChange = changes_of t.before t.call.client t.call.number t.call.what (try t.before t.call t.turn) in
     let leaves : SameTree (with_tree_changes t.before changes) (left_by t) = try-leaves t.before t.call t.turn holds.tied in
     let noted : NotesChanges t.before (left_by t) = notes-then t.before (with_tree_changes t.before changes) (left_by t)

@@ -34,10 +34,10 @@ use Rattle.fsa_model.proofs.CoherenceTied.{IsTied-alike, IsUntouched}
 use Rattle.fsa_model.proofs.CoherenceTries.{IsCoherent-try, IsTied-fresh}
 use Rattle.fsa_model.proofs.RowLaws.{option_cases}
 use Rattle.fsa_model.proofs.SettleLaws.{some_equal}
-use Rattle.history_laws.specs.LeftOver.{NothingStaysOver}
-use Rattle.history_laws.specs.SoundTree.{TreeStaysSound}
+use Rattle.history_laws.specs.EachVolume.{HoldsAround, HoldsOfEachVolume}
+use Rattle.history_laws.specs.LeftOver.{NothingIsLeftOver}
 use Rattle.history_laws.specs.TreeChanges.{LeadTree, SameTree, TreeChangesAsAsked}
-use Rattle.history_laws.specs.WellFormed.{IsWellFormed, TreeStaysWellFormed}
+use Rattle.history_laws.specs.WellFormed.{IsWellFormed}
 use Rattle.history_laws.proofs.FormedKinds.{Formed, formed-same}
 use Rattle.history_laws.proofs.FormedTries.{formed-fresh, try-formed}
 use Rattle.history_laws.proofs.OverCloses.{Tidy}
@@ -65,20 +65,11 @@ LeadTree-next (t ∷ more) second u v w one two = (one.0, LeadTree-next more sec
 
 -- ---- what is kept
 
-record Holds (v : Volume) : Type 0 where
-  tied : IsTied v
-  tidy : Tidy v
-  sound : IsSoundTree v
-  formed : Formed v
-
-pub record HoldsAround (t : Tried) : Type 0 where
-  pub tied : IsTied t.before
-  pub tidy : Tidy t.before
-  pub after : Tidy (left_by t)
-  pub sound : IsSoundTree t.before
-  pub sound_after : IsSoundTree (left_by t)
-  pub formed : IsWellFormed t.before
-  pub formed_after : IsWellFormed (left_by t)
+pub record Holds (v : Volume) : Type 0 where
+  pub tied : IsTied v
+  pub tidy : Tidy v
+  pub sound : IsSoundTree v
+  pub formed : Formed v
 
 -- nothing that counts here changes
 record Unmoved (v w : Volume) : Type 0 where
@@ -123,44 +114,39 @@ Holds-unmoved v w same holds = record {
   formed = formed-same v w same.tree.files same.tree.links same.tree.streams same.tree.last_stream holds.formed;
 }
 
+Holds-try : (v : Volume) (call : Call) (turn : ℕ) → Holds v → Holds (volume_after (try v call turn))
+Holds-try v call turn holds = record {
+  tied = (IsCoherent-try v call turn holds.tied).tied;
+  tidy = try-tidy v call turn holds.tied holds.tidy;
+  sound = try-sound v call turn holds.tied holds.sound;
+  formed = try-formed v call turn holds.tied holds.sound holds.formed;
+}
+
 -- ---- tries that lead from one volume to another
 
 record LeadsTo (tries : List Tried) (v w : Volume) : Type 0 where
   keeps : Holds v → Holds w
-  all : Holds v → All HoldsAround tries
+  all : Holds v → All (HoldsAround Holds) tries
   lead : LeadTree tries v w
 
 LeadsTo-none : (v w : Volume) → Unmoved v w → LeadsTo [] v w
-LeadsTo-none v w same = record { keeps = Holds-unmoved v w same; all = λ holds. All-nil HoldsAround; lead = same.tree }
+LeadsTo-none v w same = record { keeps = Holds-unmoved v w same; all = λ holds. All-nil (HoldsAround Holds); lead = same.tree }
 
 LeadsTo-same : (v : Volume) → LeadsTo [] v v
 LeadsTo-same v = LeadsTo-none v v (Unmoved-rest v v refl)
 
 LeadsTo-try : (v : Volume) (call : Call) (turn : ℕ) → LeadsTo (record { before = v; call = call; turn = turn } ∷ []) v (volume_after (try v call turn))
 LeadsTo-try v call turn = record {
-  keeps = λ holds. record {
-    tied = (IsCoherent-try v call turn holds.tied).tied;
-    tidy = try-tidy v call turn holds.tied holds.tidy;
-    sound = try-sound v call turn holds.tied holds.sound;
-    formed = try-formed v call turn holds.tied holds.sound holds.formed;
-  };
-  all = λ holds. All-cons HoldsAround (record { before = v; call = call; turn = turn }) []
-      (record {
-        tied = holds.tied;
-        tidy = holds.tidy;
-        after = try-tidy v call turn holds.tied holds.tidy;
-        sound = holds.sound;
-        sound_after = try-sound v call turn holds.tied holds.sound;
-        formed = holds.formed.well;
-        formed_after = (try-formed v call turn holds.tied holds.sound holds.formed).well;
-      }) (All-nil HoldsAround);
+  keeps = Holds-try v call turn;
+  all = λ holds. All-cons (HoldsAround Holds) (record { before = v; call = call; turn = turn }) []
+      (record { before = holds; after = Holds-try v call turn holds }) (All-nil (HoldsAround Holds));
   lead = (SameTree-same v, SameTree-same (volume_after (try v call turn)));
 }
 
 LeadsTo-next : (first second : List Tried) (u v w : Volume) → LeadsTo first u v → LeadsTo second v w → LeadsTo (first ++ second) u w
 LeadsTo-next first second u v w one two = record {
   keeps = λ holds. two.keeps (one.keeps holds);
-  all = λ holds. All-append HoldsAround first second (one.all holds) (two.all (one.keeps holds));
+  all = λ holds. All-append (HoldsAround Holds) first second (one.all holds) (two.all (one.keeps holds));
   lead = LeadTree-next first second u v w one.lead two.lead;
 }
 
@@ -249,12 +235,12 @@ LeadsTo-from (entry ∷ more) r after is = elim (option_cases (turn_on r entry))
 ]
 
 -- also where there is no such turn
-all-from : (history : List HistoryEntry) (r : Run) → Holds r.volume → All HoldsAround (tries_from r history)
-all-from [] r holds = All-nil HoldsAround
+all-from : (history : List HistoryEntry) (r : Run) → Holds r.volume → All (HoldsAround Holds) (tries_from r history)
+all-from [] r holds = All-nil (HoldsAround Holds)
 all-from (entry ∷ more) r holds =
     let here : LeadsTo (tries_of_turn r.volume entry.call entry.starved) r.volume (settlement r.volume entry.call entry.starved).volume = LeadsTo-turn r.volume entry.call entry.starved in
-    All-append HoldsAround (tries_of_turn r.volume entry.call entry.starved) _ (here.all holds) (elim (option_cases (turn_on r entry)) [
-      | inl none ↦ rw none (All-nil HoldsAround)
+    All-append (HoldsAround Holds) (tries_of_turn r.volume entry.call entry.starved) _ (here.all holds) (elim (option_cases (turn_on r entry)) [
+      | inl none ↦ rw none (All-nil (HoldsAround Holds))
       | inr some ↦ rw some.1 (all-from more some.0 (subst (λ (w : Volume). Holds w) (sym (turn_on-settled r entry some.0 some.1)) (here.keeps holds)))
     ])
 
@@ -283,29 +269,33 @@ Holds-fresh setup = record {
 
 -- ---- the laws
 
-pub tries-hold : (setup : Setup) (history : List HistoryEntry) → All HoldsAround (tries_of setup history)
-tries-hold setup history = all-from history (begun setup) (Holds-fresh setup)
+-- all of it holds of each volume
+pub run-holds : (setup : Setup) (history : List HistoryEntry) → HoldsOfEachVolume Holds setup history
+run-holds setup history = record {
+  tries = all-from history (begun setup) (Holds-fresh setup);
+  last = λ r is. LeadsTo.keeps (LeadsTo-from history (begun setup) r is) (Holds-fresh setup);
+}
+
+-- and so does what follows from it
+part-holds : (part : Volume → Type 0) → ((v : Volume) → Holds v → part v) → (setup : Setup) (history : List HistoryEntry) → HoldsOfEachVolume part setup history
+part-holds part of_all setup history =
+    let holds : HoldsOfEachVolume Holds setup history = run-holds setup history in
+    record {
+      tries = λ k d within. (let t : Tried = get_or (tries_of setup history) k d in let around = holds.tries k d within in record { before = of_all t.before around.before; after = of_all (left_by t) around.after });
+      last = λ r is. of_all r.volume (holds.last r is);
+    }
+
+pub run-leaves_nothing_over : (setup : Setup) (history : List HistoryEntry) → HoldsOfEachVolume NothingIsLeftOver setup history
+run-leaves_nothing_over setup history = part-holds NothingIsLeftOver (λ v holds. holds.tidy.over) setup history
+
+pub run-tree_stays_sound : (setup : Setup) (history : List HistoryEntry) → HoldsOfEachVolume IsSoundTree setup history
+run-tree_stays_sound setup history = part-holds IsSoundTree (λ v holds. holds.sound) setup history
+
+pub run-tree_stays_well_formed : (setup : Setup) (history : List HistoryEntry) → HoldsOfEachVolume IsWellFormed setup history
+run-tree_stays_well_formed setup history = part-holds IsWellFormed (λ v holds. holds.formed.well) setup history
 
 pub run-changes_as_asked : (setup : Setup) (history : List HistoryEntry) → TreeChangesAsAsked setup history
 run-changes_as_asked setup history = record {
-  tries = λ k d within. (let t : Tried = get_or (tries_of setup history) k d in try-leaves t.before t.call t.turn (tries-hold setup history k d within).tied);
+  tries = λ k d within. (let t : Tried = get_or (tries_of setup history) k d in try-leaves t.before t.call t.turn ((run-holds setup history).tries k d within).before.tied);
   between = λ r is. LeadsTo.lead (LeadsTo-from history (begun setup) r is);
-}
-
-pub run-leaves_nothing_over : (setup : Setup) (history : List HistoryEntry) → NothingStaysOver setup history
-run-leaves_nothing_over setup history = record {
-  tries = λ k d within. (let holds = tries-hold setup history k d within in record { before = holds.tidy.over; after = holds.after.over });
-  last = λ r is. (let lead = LeadsTo-from history (begun setup) r is in let holds = lead.keeps (Holds-fresh setup) in holds.tidy.over);
-}
-
-pub run-tree_stays_sound : (setup : Setup) (history : List HistoryEntry) → TreeStaysSound setup history
-run-tree_stays_sound setup history = record {
-  tries = λ k d within. (let holds = tries-hold setup history k d within in record { before = holds.sound; after = holds.sound_after });
-  last = λ r is. (let lead = LeadsTo-from history (begun setup) r is in let holds = lead.keeps (Holds-fresh setup) in holds.sound);
-}
-
-pub run-tree_stays_well_formed : (setup : Setup) (history : List HistoryEntry) → TreeStaysWellFormed setup history
-run-tree_stays_well_formed setup history = record {
-  tries = λ k d within. (let holds = tries-hold setup history k d within in record { before = holds.formed; after = holds.formed_after });
-  last = λ r is. (let lead = LeadsTo-from history (begun setup) r is in let holds = lead.keeps (Holds-fresh setup) in holds.formed.well);
 }

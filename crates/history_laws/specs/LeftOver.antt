@@ -1,12 +1,8 @@
--- That nothing is left over before or after any try of a history, nor after its last turn: what is marked for deletion still has a
--- handle; each file but the root has a link; and the file of each link and each stream is there. After [MS-FSA] 'Server Requests
--- Closing an Open'.
-use Rattle.std.specs.Prelude.{◌≡◌, ◌==◌, true, false, List, All, Some}
+-- That nothing is left over in a volume: what is marked for deletion still has a handle; each file but the root has a link; and the
+-- file of each link and each stream is there. After [MS-FSA] 'Server Requests Closing an Open'.
+use Rattle.std.specs.Prelude.{◌≡◌, ◌==◌, true, false, All}
 use Rattle.fsa_types.specs.Rows.{lives}
-use Rattle.fsa_model.specs.History.{HistoryEntry, Run, run}
 use Rattle.fsa_model.specs.Lookups.{has_row, is_open_by, is_open_on}
-use Rattle.fsa_model.specs.Setup.{Setup}
-use Rattle.fsa_model.specs.Tries.{Tried, left_by, tries_of}
 use Rattle.fsa_model.specs.Volume.{Volume}
 
 -- nothing is left over in this volume: no mark without a handle, no file but the root without a link, and no link or stream without
@@ -19,13 +15,3 @@ pub record NothingIsLeftOver (v : Volume) : Type 0 where
   pub files : All (λ entry. (entry.0 == 1) ≡ false → has_row (λ link. link.file == entry.0) v.links ≡ true) v.files
   pub links : All (λ entry. lives v.files entry.1.file ≡ true) v.links
   pub streams : All (λ entry. lives v.files entry.1.file ≡ true) v.streams
-
--- so it is before a try and after it
-pub record LeavesNothingOver (t : Tried) : Type 0 where
-  pub before : NothingIsLeftOver t.before
-  pub after : NothingIsLeftOver (left_by t)
-
--- in each try of a history, and after its last turn where the history can be run
-pub record NothingStaysOver (setup : Setup) (history : List HistoryEntry) : Type 0 where
-  pub tries : All LeavesNothingOver (tries_of setup history)
-  pub last : (r : Run) → run setup history ≡ Some r → NothingIsLeftOver r.volume

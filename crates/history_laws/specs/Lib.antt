@@ -22,6 +22,6 @@ pub mod TreeChanges
 pub mod TreeNotes
 pub mod HandlesClose
 pub mod LeftOver
-pub mod SoundTree
+pub mod EachVolume
 pub mod WellFormed
 pub mod OpensTell

@@ -1,14 +1,11 @@
--- That the tree stays well formed over a history: names are ones that a component or a stream part of a path can have, what is no
+-- That the tree of a volume is well formed: names are ones that a component or a stream part of a path can have, what is no
 -- directory has its default stream, a file has at most 1,024 links, and what has a reparse point isn't the root and has nothing in it.
 -- After [MS-FSCC] 'Pathname', 'Filename' and 'Streamname', and [MS-FSA] 'Per File', 'Per Link' and 'Per Stream'.
-use Rattle.std.specs.Prelude.{ℕ, ◌≡◌, ◌≤◌, ◌==◌, ◌&&◌, true, false, List, All, Some, None, is_some, length}
+use Rattle.std.specs.Prelude.{ℕ, ◌≡◌, ◌≤◌, ◌==◌, ◌&&◌, true, false, List, All, None, is_some, length}
 use Rattle.std.specs.List.{list_any}
 use Rattle.fsa_types.specs.Paths.{component_fault, is_bad_stream, is_colon, is_separator}
-use Rattle.fsa_model.specs.History.{HistoryEntry, Run, run}
 use Rattle.fsa_model.specs.Lookups.{has_child, has_row}
 use Rattle.fsa_model.specs.Once.{how_many}
-use Rattle.fsa_model.specs.Setup.{Setup}
-use Rattle.fsa_model.specs.Tries.{Tried, left_by, tries_of}
 use Rattle.fsa_model.specs.Volume.{Volume}
 
 -- a link's name is one that a component of a path can have; it has no `\`, where paths are cut
@@ -30,13 +27,3 @@ pub record IsWellFormed (v : Volume) : Type 0 where
   pub few_links : All (λ entry. how_many (λ link. link.1.file == entry.0) v.links ≤ 1024) v.files
   -- what has a reparse point isn't the root, and nothing is in it, marked for deletion or not
   pub points : All (λ entry. is_some entry.1.point ≡ true → ((entry.0 == 1) ≡ false) × (has_child v.links entry.0 ≡ false)) v.files
-
--- so it is before a try and after it
-pub record LeavesWellFormed (t : Tried) : Type 0 where
-  pub before : IsWellFormed t.before
-  pub after : IsWellFormed (left_by t)
-
--- in each try of a history, and after its last turn where the history can be run
-pub record TreeStaysWellFormed (setup : Setup) (history : List HistoryEntry) : Type 0 where
-  pub tries : All LeavesWellFormed (tries_of setup history)
-  pub last : (r : Run) → run setup history ≡ Some r → IsWellFormed r.volume

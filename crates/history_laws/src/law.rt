@@ -10,6 +10,7 @@ ghost use Rattle.fsa_model.specs.Engine.{CallsDiffer};
 ghost use Rattle.fsa_model.specs.Schedule.{AreNumbered, HasAllCalls, Scheduled, plain};
 ghost use Rattle.fsa_model.specs.Script.{script_of};
 ghost use Rattle.fsa_model.specs.Setup.{Script, Setup};
+ghost use Rattle.fsa_model.specs.Sound.{IsSoundTree};
 ghost use Rattle.fsa_model.specs.Text.{shows_no_memory, text};
 ghost use Rattle.fsa_model.specs.Turn.{Turned, try, turn};
 ghost use Rattle.fsa_model.specs.Volume.{Volume};
@@ -18,20 +19,20 @@ ghost use Rattle.history_laws.specs.AsAsked.{OpensAndLocksAsAsked};
 ghost use Rattle.history_laws.specs.AsMade.{PendsAsMade};
 ghost use Rattle.history_laws.specs.AsTried.{CallsPendAsTried};
 ghost use Rattle.history_laws.specs.Awaited.{NothingIsMissed};
+ghost use Rattle.history_laws.specs.EachVolume.{HoldsOfEachVolume};
 ghost use Rattle.history_laws.specs.EndsAsFound.{CallsEndAsFound};
 ghost use Rattle.history_laws.specs.GrantedEnds.{GrantedCallsEndForCause};
 ghost use Rattle.history_laws.specs.Granting.{GrantedCallsPend};
 ghost use Rattle.history_laws.specs.HandlesClose.{HandlesGoWhenClosed};
 ghost use Rattle.history_laws.specs.Holding.{CalledOffEnd, PendingStay};
 ghost use Rattle.history_laws.specs.Named.{IsReadScript};
-ghost use Rattle.history_laws.specs.LeftOver.{NothingStaysOver};
+ghost use Rattle.history_laws.specs.LeftOver.{NothingIsLeftOver};
 ghost use Rattle.history_laws.specs.OpensTell.{OpensTellWhatTheyDid};
 ghost use Rattle.history_laws.specs.OplockChanges.{OplocksChangeForCause};
 ghost use Rattle.history_laws.specs.Races.{AllComeAfterWaits, Begun, NoneMadeWaiting, Whole};
 ghost use Rattle.history_laws.specs.Releasing.{HoldersRelease, OthersReleaseNone};
 ghost use Rattle.history_laws.specs.ReportsInOrder.{ReportsGoToEarliest};
-ghost use Rattle.history_laws.specs.SoundTree.{TreeStaysSound};
-ghost use Rattle.history_laws.specs.WellFormed.{TreeStaysWellFormed};
+ghost use Rattle.history_laws.specs.WellFormed.{IsWellFormed};
 ghost use Rattle.history_laws.specs.Telling.{LeftAsTold, ToldOfOplocks, ToldTargets};
 ghost use Rattle.history_laws.specs.TreeChanges.{TreeChangesAsAsked};
 ghost use Rattle.history_laws.specs.TreeNotes.{ChangesAreNoted};
@@ -308,7 +309,7 @@ pub fn what_changes_is_noted()
 /// has a link; and the file of each link and of each stream is there. So nothing that is marked outlasts its last handle with
 /// its mark.
 pub fn nothing_is_left_over()
-    ensures over { (setup : Setup) (history : List HistoryEntry) → NothingStaysOver setup history }
+    ensures over { (setup : Setup) (history : List HistoryEntry) → HoldsOfEachVolume NothingIsLeftOver setup history }
 {}
 
 /// Before and after each try of every history, and after its last turn where it can be run, the tree is sound, that is: the names
@@ -320,7 +321,7 @@ pub fn nothing_is_left_over()
 /// With `handles_go_when_closed`: no try removes a link or a stream of which a handle is that it leaves. That two handles differ by
 /// client and number isn't said here.
 pub fn the_tree_stays_sound()
-    ensures sound { (setup : Setup) (history : List HistoryEntry) → TreeStaysSound setup history }
+    ensures sound { (setup : Setup) (history : List HistoryEntry) → HoldsOfEachVolume IsSoundTree setup history }
 {}
 
 /// Before and after each try of every history, and after its last turn where it can be run, the tree is well formed: the name of a
@@ -328,5 +329,5 @@ pub fn the_tree_stays_sound()
 /// stream; whatever is no directory has its default stream; a file has at most 1,024 links, those that are marked for deletion among
 /// them; and what has a reparse point isn't the root, and nothing is in it, marked for deletion or not.
 pub fn the_tree_stays_well_formed()
-    ensures formed { (setup : Setup) (history : List HistoryEntry) → TreeStaysWellFormed setup history }
+    ensures formed { (setup : Setup) (history : List HistoryEntry) → HoldsOfEachVolume IsWellFormed setup history }
 {}
