@@ -28,6 +28,7 @@ pub mod FormedTries
 pub mod GrantedCalls
 pub mod GrantedEnds
 pub mod HandlesClose
+pub mod HandlesDiffer
 pub mod HeldTries
 pub mod HoldersRelease
 pub mod HoldersStay

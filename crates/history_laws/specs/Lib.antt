@@ -21,6 +21,7 @@ pub mod AsAsked
 pub mod TreeChanges
 pub mod TreeNotes
 pub mod HandlesClose
+pub mod HandlesDiffer
 pub mod LeftOver
 pub mod EachVolume
 pub mod WellFormed

@@ -24,6 +24,7 @@ ghost use Rattle.history_laws.specs.EndsAsFound.{CallsEndAsFound};
 ghost use Rattle.history_laws.specs.GrantedEnds.{GrantedCallsEndForCause};
 ghost use Rattle.history_laws.specs.Granting.{GrantedCallsPend};
 ghost use Rattle.history_laws.specs.HandlesClose.{HandlesGoWhenClosed};
+ghost use Rattle.history_laws.specs.HandlesDiffer.{HandlesDiffer};
 ghost use Rattle.history_laws.specs.Holding.{CalledOffEnd, PendingStay};
 ghost use Rattle.history_laws.specs.Named.{IsReadScript};
 ghost use Rattle.history_laws.specs.LeftOver.{NothingIsLeftOver};
@@ -281,6 +282,12 @@ pub fn opens_tell_what_they_did()
 /// how far.
 pub fn handles_go_when_closed()
     ensures go { (setup : Setup) (history : List HistoryEntry) → HandlesGoWhenClosed setup history }
+{}
+
+/// In a history that makes no call twice no two handles have the same client and number, before and after each try and,
+/// where it can be run, after its last turn. So a client's number names one handle at most.
+pub fn two_handles_differ()
+    ensures differ { (setup : Setup) (history : List HistoryEntry) → CallsDiffer history → HoldsOfEachVolume HandlesDiffer setup history }
 {}
 
 /// In each try of every history files, links and streams, the last numbers of these, and what is noted change just as the call
