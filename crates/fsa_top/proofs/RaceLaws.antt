@@ -25,6 +25,7 @@ use Rattle.history_laws.proofs.OpensTell.{opens-tell_what_they_did}
 use Rattle.history_laws.proofs.OplockChanges.{oplocks-change_for_cause}
 use Rattle.history_laws.proofs.PendingStay.{pending-stay}
 use Rattle.history_laws.proofs.HandlesClose.{handles-go_when_closed}
+use Rattle.history_laws.proofs.HandlesDiffer.{handles-differ}
 use Rattle.history_laws.proofs.HoldersRelease.{holders-release, others-release_none}
 use Rattle.history_laws.proofs.ScheduledCalls.{Scheduled-free}
 use Rattle.history_laws.proofs.WaitedFor.{free-over}
@@ -95,6 +96,7 @@ throughout script history free differ = record {
   caching_is_coherent = run-coherent script.setup history;
   opens_tell_what_they_did = opens-tell_what_they_did script.setup history;
   handles_go_when_closed = handles-go_when_closed script.setup history;
+  two_handles_differ = handles-differ script.setup history differ;
   the_tree_changes_as_asked = run-changes_as_asked script.setup history;
   nothing_is_left_over = run-leaves_nothing_over script.setup history;
   the_tree_stays_sound = run-tree_stays_sound script.setup history;

@@ -325,8 +325,7 @@ pub fn nothing_is_left_over()
 /// stream, and where its link is marked for deletion no link, marked or not, is in it; the file of each link and stream is there.
 /// Each handle's link is there, or it is 0, the root's; its stream is one of that link's file, and only a directory's handle has
 /// none. The numbers of files, links, streams and handles rise, none is above the last one given, and no link has the number 0.
-/// With `handles_go_when_closed`: no try removes a link or a stream of which a handle is that it leaves. That two handles differ by
-/// client and number isn't said here.
+/// With `handles_go_when_closed`: no try removes a link or a stream of which a handle is that it leaves.
 pub fn the_tree_stays_sound()
     ensures sound { (setup : Setup) (history : List HistoryEntry) → HoldsOfEachVolume IsSoundTree setup history }
 {}
