@@ -101,12 +101,12 @@ TakesUpReleased setup history =
 -- takes up just those held calls that its own call released. A break or a lock ends exactly by its holder's own call, an
 -- acknowledgement, an unlock, a close or a leaving, and in the turn of any other call none ends and no held call is taken up.
 -- Caching by oplocks is coherent. An open tells what it did; a handle goes just by a close of its own, or a leaving of its client, that
--- succeeds; a client's number names one handle at most; a try changes and notes of files, links and streams just what its call asks for,
--- and that only where it ends SUCCESS; what is marked for deletion has a handle; the tree stays sound, with what handles are of in it, and
--- well formed: names are ones that a path can have, what is no directory has its default stream, a file has at most 1,024 links, and what
--- has a reparse point isn't the root and has nothing in it. Names, named streams and bytes that change are noted, and of each file but the
--- root its owner, access list, reparse point, attributes, and times but that of the last change; and each watch reports exactly the
--- matching changes since its last report, to its handle's earliest pending Notify, or to one just made where none is pending
+-- succeeds; no two handles have the same client and number; a try changes and notes of files, links and streams just what its call asks
+-- for, and that only where it ends SUCCESS; what is marked for deletion has a handle; the tree stays sound, with what handles are of in
+-- it, and well formed: names are ones that a path can have, what is no directory has its default stream, a file has at most 1,024 links,
+-- and what has a reparse point isn't the root and has nothing in it. Names, named streams and bytes that change are noted, and of each
+-- file but the root its owner, access list, reparse point, attributes, and times but that of the last change; and each watch reports
+-- exactly the matching changes since its last report, to its handle's earliest pending Notify, or to one just made where none is pending
 pub record HoldsThroughout (setup : Setup) (history : List HistoryEntry) : Type 0 where
   pub makes_no_call_twice : CallsDiffer history
   pub calls_come_after_waits : AllComeAfterWaits setup history

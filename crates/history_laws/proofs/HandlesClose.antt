@@ -52,11 +52,11 @@ filter-agree p q (x ∷ xs) agree =
     ]
 
 -- the handle is none of these
-abbrev is_spared : List (ℕ × Handle) → ℕ × Handle → Bool
+abbrev pub is_spared : List (ℕ × Handle) → ℕ × Handle → Bool
 is_spared handles entry = not (is_among handles entry.0)
 
 -- closes of handles take away just these
-all_closed : (handles : List (ℕ × Handle)) (v : Volume) → (with_all_closed handles v).handles ≡ filter (is_spared handles) v.handles
+pub all_closed : (handles : List (ℕ × Handle)) (v : Volume) → (with_all_closed handles v).handles ≡ filter (is_spared handles) v.handles
 all_closed [] v = sym (filter-all (λ (entry : ℕ × Handle). true) v.handles (λ entry. refl))
 all_closed (first ∷ more) v =
     all_closed more (with_closed v first.0 first.1)

@@ -14,7 +14,7 @@ use Rattle.fsa_types.specs.declared.request.CallId.{CallId}
 use Rattle.fsa_types.specs.declared.request.Request.TheVariants as request
 use Rattle.fsa_types.specs.declared.request.What.{What}
 use Rattle.fsa_types.specs.declared.request.What.TheVariants.{Ask, Leave}
-use Rattle.fsa_types.specs.declared.status.Status.TheVariants.{Cancelled, Stalled}
+use Rattle.fsa_types.specs.declared.status.Status.TheVariants.{Cancelled}
 use Rattle.fsa_model.specs.Close.{close_at, handles_of_client, is_left_behind, pending_by_turn, try_close, try_leave, with_all_closed, with_calls_ended, with_client_gone, with_closed}
 use Rattle.fsa_model.specs.Edits.{with_end}
 use Rattle.fsa_model.specs.Engine.{CallsDiffer, is_entry_of, own_tried}
@@ -32,7 +32,7 @@ use Rattle.fsa_model.specs.Tries.{tried_in, tries_from, tries_of_steps, tries_of
 use Rattle.fsa_model.specs.Try.{try, try_what}
 use Rattle.fsa_model.specs.Turn.{answered, settlement, turn_number, volume_after}
 use Rattle.fsa_model.specs.Volume.{Handle, Pending, Volume, fresh}
-use Rattle.fsa_model.specs.Waiting.{all_wait, is_held, next_ready, waits_in_order, with_stalled}
+use Rattle.fsa_model.specs.Waiting.{is_held, next_ready, with_stalled}
 use Rattle.fsa_model.proofs.CoherenceRuns.{turn_on-settled}
 use Rattle.fsa_model.proofs.CountLaws.{how_many-append, how_many-filter_le, how_many-map, how_many-some}
 use Rattle.fsa_model.proofs.GrantedLaws.{closed-handles}
@@ -48,7 +48,8 @@ use Rattle.history_laws.specs.EachVolume.{HoldsAround, HoldsOfEachVolume}
 use Rattle.history_laws.specs.HandlesDiffer.{HandlesDiffer}
 use Rattle.history_laws.proofs.AsAsked.{OpensIn, OpensSo, creates}
 use Rattle.history_laws.proofs.KeptHandles.{what-kept}
-use Rattle.history_laws.proofs.TreeParts.{calls_ended-handles}
+use Rattle.history_laws.proofs.HandlesClose.{all_closed, is_spared}
+use Rattle.history_laws.proofs.TreeParts.{calls_ended-handles, stalled-handles}
 use Rattle.history_laws.proofs.TurnByTurn.{Differ, new-call, own-may, own-takes_up, run-keeps, settled-keeps}
 
 -- ---- how many handles of a call there are
@@ -93,11 +94,7 @@ none-closed : (v : Volume) (id : ℕ) (handle : Handle) → OpensNone v (with_cl
 none-closed v id handle client number = rw (closed-handles v id handle) (how_many-filter_le (is_its client number) _ v.handles)
 
 none-all_closed : (handles : List (ℕ × Handle)) (v : Volume) → OpensNone v (with_all_closed handles v)
-none-all_closed [] v client number = omega arith
-none-all_closed (first ∷ more) v client number =
-    let one = none-closed v first.0 first.1 client number in
-    let rest = none-all_closed more (with_closed v first.0 first.1) client number in
-    omega arith
+none-all_closed handles v client number = rw (all_closed handles v) (how_many-filter_le (is_its client number) (is_spared handles) v.handles)
 
 close : (v : Volume) (client number : ℕ) → OpensNone v (volume_after (try_close v client number))
 unfolding try_close close_at
@@ -203,47 +200,41 @@ kept-tried v turn pending (Stay w interim) own adds kept = kept-grown v w own ad
 kept-tried v turn pending (Hold w blockers interim) own adds kept = kept-grown v w own adds kept
 
 -- by what ends without a try
-kept-ended : (v : Volume) (client number : ℕ) (reply : Reply) → OpenedByEnds v → OpenedByEnds (with_end v client number reply)
-kept-ended v client number reply kept = kept-grown v (with_end v client number reply) (none-same v (with_end v client number reply) refl) (record { more = record { client = client; number = number; reply = reply } ∷ []; is = refl }) kept
+kept-untried : (v : Volume) (client number : ℕ) (reply : Reply) → OpenedByEnds v → OpenedByEnds (with_end v client number reply)
+kept-untried v client number reply kept = kept-grown v (with_end v client number reply) (none-same v (with_end v client number reply) refl) (record { more = record { client = client; number = number; reply = reply } ∷ []; is = refl }) kept
 
 -- a try ends calls, and takes no end away
 try-adds : (v : Volume) (call : Call) (turn : ℕ) → MaySettle v → AddsEnds v.ended (volume_after (try v call turn)).ended
 try-adds v call turn may = tried-begins v turn call.what (try v call turn) (try-keeps v call turn may.oplocks)
 
 -- by the turn's own call
-kept-own : (v : Volume) (call : Call) → MayTurn v → OpenedByEnds v → OpenedByEnds (own_tried v call)
-kept-own v call may kept = kept-answered v call (turn_number v) (try v call (turn_number v)) (try-own v call (turn_number v)) (try-adds v call (turn_number v) may.take_up.may) kept
+kept-by_own : (v : Volume) (call : Call) → MayTurn v → OpenedByEnds v → OpenedByEnds (own_tried v call)
+kept-by_own v call may kept = kept-answered v call (turn_number v) (try v call (turn_number v)) (try-own v call (turn_number v)) (try-adds v call (turn_number v) may.take_up.may) kept
 
 -- by each step of its settlement
 kept-taken_up : (s : Settling) (entry : ℕ × Pending) → MaySettle s.volume → IsNext s.volume entry → OpenedByEnds s.volume → OpenedByEnds (taken_up s entry).volume
 kept-taken_up s entry may next kept = elim (cases_Bool (is_held entry.1)) [
   | inr waits ↦ rw waits (let comes = comes_over s entry.1 waits next.ready in
       subst (λ (w : Volume). OpenedByEnds w) (sym comes.is)
-      (kept-ended comes.seen entry.1.call.client entry.1.call.number comes.reply (λ client number. rw (comes.untouched.opens, comes.untouched.ended) (kept client number))))
+      (kept-untried comes.seen entry.1.call.client entry.1.call.number comes.reply (λ client number. rw (comes.untouched.opens, comes.untouched.ended) (kept client number))))
   | inl held ↦ rw held (elim (cases_Bool (starves s.starved entry.1)) [
-    | inl starving ↦ rw starving (kept-ended s.volume entry.1.call.client entry.1.call.number _ kept)
+    | inl starving ↦ rw starving (kept-untried s.volume entry.1.call.client entry.1.call.number _ kept)
     | inr plenty ↦ rw plenty (kept-tried s.volume entry.0 entry.1 (try s.volume entry.1.call entry.0) (try-own s.volume entry.1.call entry.0) (try-adds s.volume entry.1.call entry.0 may) kept)
   ])
 ]
 
 -- by waits that end where all wait
 kept-stalled : (v : Volume) → OpenedByEnds v → OpenedByEnds (with_stalled v)
-kept-stalled v kept = kept-grown v (with_stalled v) (none-same v (with_stalled v) handles) (stalled-kept v).kept.keeps.ended kept
-  where
-    handles : (with_stalled v).handles ≡ v.handles
-    handles = elim (cases_Bool (all_wait v)) [
-      | inl all ↦ rw all (calls_ended-handles (λ _. Stalled) (waits_in_order v) v)
-      | inr some ↦ rw some refl
-    ]
+kept-stalled v kept = kept-grown v (with_stalled v) (none-same v (with_stalled v) (stalled-handles v)) (stalled-kept v).kept.keeps.ended kept
 
 -- by a turn
 kept-settled : (v : Volume) (call : Call) (starved : List CallId) → MayTurn v → times call.client call.number v ≡ 0 → OpenedByEnds v → OpenedByEnds (settlement v call starved).volume
 kept-settled v call starved may new kept =
-    settled-keeps OpenedByEnds kept-taken_up v call starved (own-may v call may new) (kept-stalled (taken_up_all (own_tried v call) starved).volume) (kept-own v call may kept)
+    settled-keeps OpenedByEnds kept-taken_up v call starved (own-may v call may new) (kept-stalled (taken_up_all (own_tried v call) starved).volume) (kept-by_own v call may kept)
 
 -- ---- so handles differ
 
--- two that pass are two
+-- where two items pass a test, it counts at least two
 two-pass : {X : Type 0} (p : X → Bool) (xs : List X) (i j : ℕ) (d : X) → i < j → j < length xs → p (get_or xs i d) ≡ true → p (get_or xs j d) ≡ true → 2 ≤ how_many p xs
 two-pass p [] i j d less within one other = absurd (omega arith)
 two-pass p (x ∷ xs) i zero d less within one other = absurd (omega arith)
@@ -267,7 +258,7 @@ one-differ v few i j d less within =
           absurd (omega arith))
     ]
 
--- where no call is there twice
+-- where no call is there twice, of each there is one handle at most
 once-few : (v : Volume) → IsOnce v → OpenedByEnds v → (client number : ℕ) → opened_by client number v ≤ 1
 once-few v once kept client number =
     let one : times client number v ≤ 1 = once client number in
@@ -333,7 +324,7 @@ all-turn v call starved may new kept =
     let start : Settling = record { volume = own_tried v call; starved = starved; taken = [] } in
     All-cons (HoldsAround HandlesDiffer) (record { before = v; call = call; turn = turn_number v }) (tries_of_steps (length (own_tried v call).pending) start)
     (around v call (turn_number v) may.take_up.once (omega arith) kept)
-    (all-steps (own_tried v call) (length (own_tried v call).pending) start (GoesOn-begins (own_tried v call) starved (own-takes_up v call may new)) (kept-own v call may kept))
+    (all-steps (own_tried v call) (length (own_tried v call).pending) start (GoesOn-begins (own_tried v call) starved (own-takes_up v call may new)) (kept-by_own v call may kept))
 
 -- of these turns, also where the last of them can't be done
 all-from : (history : List HistoryEntry) (r : Run) → MayTurn r.volume → Differ r.volume history → OpenedByEnds r.volume → All (HoldsAround HandlesDiffer) (tries_from r history)

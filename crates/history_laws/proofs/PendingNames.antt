@@ -12,7 +12,7 @@ use Rattle.fsa_types.specs.declared.request.Call.{Call}
 use Rattle.fsa_types.specs.declared.request.Request.TheVariants.{Close}
 use Rattle.fsa_types.specs.declared.request.What.{What}
 use Rattle.fsa_types.specs.declared.request.What.TheVariants.{Ask, Leave}
-use Rattle.fsa_types.specs.declared.status.Status.TheVariants.{Cancelled, Stalled}
+use Rattle.fsa_types.specs.declared.status.Status.TheVariants.{Cancelled}
 use Rattle.fsa_model.specs.Close.{close_at, closed_status, handle_named, handles_of_client, is_call_on, is_left_behind, is_open_or_wait, names, pending_by_turn, try_close, try_leave, with_all_closed, with_calls_ended, with_client_gone, with_closed}
 use Rattle.fsa_model.specs.Edits.{is_call, with_end, with_pending}
 use Rattle.fsa_model.specs.Engine.{CallsDiffer, own_tried}
@@ -27,7 +27,7 @@ use Rattle.fsa_model.specs.Setup.{Setup}
 use Rattle.fsa_model.specs.Try.{try}
 use Rattle.fsa_model.specs.Turn.{answered, settlement, turn_number, volume_after}
 use Rattle.fsa_model.specs.Volume.{Handle, Pending, Volume, fresh}
-use Rattle.fsa_model.specs.Waiting.{all_wait, is_held, waits_in_order, with_stalled}
+use Rattle.fsa_model.specs.Waiting.{is_held, with_stalled}
 use Rattle.fsa_model.proofs.CoherenceLaws.{All-in_order}
 use Rattle.fsa_model.proofs.CountLaws.{and_left, and_right, how_many-append, how_many-either, how_many-filter, how_many-filter_le, how_many-in_order, how_many-none, how_many-some, how_many-weaker, some-how_many}
 use Rattle.fsa_model.proofs.GrantedLaws.{closed-handles, find-filtered}
@@ -47,6 +47,7 @@ use Rattle.history_laws.proofs.LeavingLaws.{ended-gone, tried_fewer}
 use Rattle.history_laws.proofs.OpensStay.{EndsAtOnce, calling_off-ends, closes_handles, may_call_off, names_open_one, what-ends_at_once, what-stays_open}
 use Rattle.history_laws.proofs.TurnByTurn.{new-call, own-may, run-keeps, settled-keeps}
 use Rattle.history_laws.proofs.WaitRuns.{left-stalled, left-taken_up, left-try}
+use Rattle.history_laws.proofs.TreeParts.{stalled-handles}
 
 -- the call is no open and no wait, and names no handle that its client has open
 abbrev is_astray : Volume → Call → Bool
@@ -132,16 +133,10 @@ CallsNamed-taken_up s entry may next tidy = CallsNamed-onward s.volume (taken_up
 
 pub CallsNamed-stalled : (v : Volume) → CallsNamed v → CallsNamed (with_stalled v)
 CallsNamed-stalled v tidy = CallsNamed-onward v (with_stalled v) (record {
-  stay = HandlesStay-same handles (stalled-kept v).same.handles;
+  stay = HandlesStay-same (stalled-handles v) (stalled-kept v).same.handles;
   pending = λ test. (stalled-kept v).kept.keeps.pending (λ e. test e.1.call);
   left = λ client. rw (left-stalled client v) refl;
 }) tidy
-  where
-    handles : (with_stalled v).handles ≡ v.handles
-    handles = elim (cases_Bool (all_wait v)) [
-      | inl all ↦ rw all (SameWatching.handles (watching-calls_ended (λ _. Stalled) (waits_in_order v) v))
-      | inr some ↦ rw some refl
-    ]
 
 -- ---- a handle closes
 

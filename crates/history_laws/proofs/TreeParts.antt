@@ -15,7 +15,7 @@ use Rattle.fsa_types.specs.declared.request.DaclChange.{DaclChange}
 use Rattle.fsa_types.specs.declared.request.DaclChange.TheVariants.{Keep, Remove, Put}
 use Rattle.fsa_types.specs.declared.request.What.{What}
 use Rattle.fsa_types.specs.declared.status.Status.{Status}
-use Rattle.fsa_types.specs.declared.status.Status.TheVariants.{Success}
+use Rattle.fsa_types.specs.declared.status.Status.TheVariants.{Stalled, Success}
 use Rattle.fsa_model.specs.Breaks.{with_breaks}
 use Rattle.fsa_model.specs.Changes.{with_change_noted}
 use Rattle.fsa_model.specs.Close.{name_bit, with_calls_ended}
@@ -27,6 +27,7 @@ use Rattle.fsa_model.specs.Outcome.{Outcome, Done, refused}
 use Rattle.fsa_model.specs.Security.{asks_something, with_change_time, with_dacl_asked, with_owner_asked}
 use Rattle.fsa_model.specs.SetBasic.{basic_bits, with_basics}
 use Rattle.fsa_model.specs.Volume.{Pending, Volume}
+use Rattle.fsa_model.specs.Waiting.{all_wait, waits_in_order, with_stalled}
 use Rattle.fsa_model.specs.Waits.{held_by}
 use Rattle.fsa_model.proofs.BreakLaws.{with_breaks-rest}
 use Rattle.fsa_model.proofs.RowLaws.{option_cases}
@@ -106,6 +107,12 @@ pub calls_ended-handles : (status_of : What → Status) (calls : List (ℕ × Pe
 calls_ended-handles status_of [] v = refl
 calls_ended-handles status_of (entry ∷ more) v =
     calls_ended-handles status_of more (with_end v entry.1.call.client entry.1.call.number (record { status = status_of entry.1.call.what; body = Nothing }))
+
+pub stalled-handles : (v : Volume) → (with_stalled v).handles ≡ v.handles
+stalled-handles v = elim (cases_Bool (all_wait v)) [
+  | inl all ↦ rw all (calls_ended-handles (λ _. Stalled) (waits_in_order v) v)
+  | inr some ↦ rw some refl
+]
 
 pub Alike-breaks : (v : Volume) (on : HandleSet) (class : Class) (acting : Option ℕ) (key : ℕ) → Alike v (with_breaks v on class acting key)
 Alike-breaks v on class acting key =

@@ -1,4 +1,5 @@
--- What is said of each volume of a history: it holds before and after each try, and after the last turn.
+-- What is said of each volume of a history before and after its tries, and after its last turn. Where the history can be run nothing
+-- changes between two tries of handles, files, links and streams (`CachingIsCoherent`, `TreeChangesAsAsked`).
 use Rattle.std.specs.Prelude.{◌≡◌, List, All, Some}
 use Rattle.fsa_model.specs.History.{HistoryEntry, Run, run}
 use Rattle.fsa_model.specs.Setup.{Setup}

@@ -1,4 +1,5 @@
--- That the handles of a volume differ: no two have the same client and number. After [MS-FSA] 'Per Open'.
+-- That the handles of a volume differ: no two have the same client and number, as `AreOpens` says of the code's volumes. After [MS-SMB2]
+-- 'Per Open', where Open.FileId is unique within a session.
 use Rattle.std.specs.Prelude.{◌≡◌, false, AllPairs}
 use Rattle.fsa_model.specs.Lookups.{is_opened_by}
 use Rattle.fsa_model.specs.Volume.{Volume}

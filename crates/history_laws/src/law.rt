@@ -285,7 +285,7 @@ pub fn handles_go_when_closed()
 {}
 
 /// In a history that makes no call twice no two handles have the same client and number, before and after each try and,
-/// where it can be run, after its last turn. So a client's number names one handle at most.
+/// where it can be run, after its last turn. So a client's number names just the handle that its open left.
 pub fn two_handles_differ()
     ensures differ { (setup : Setup) (history : List HistoryEntry) → CallsDiffer history → HoldsOfEachVolume HandlesDiffer setup history }
 {}
