@@ -47,6 +47,7 @@ pub mod NotedTries
 pub mod OpenedStay
 pub mod OpensStay
 pub mod OpensTell
+pub mod OpensAllowed
 pub mod OplockChanges
 pub mod OrderLaws
 pub mod OthersRelease

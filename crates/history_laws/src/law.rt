@@ -28,6 +28,7 @@ ghost use Rattle.history_laws.specs.HandlesDiffer.{HandlesDiffer};
 ghost use Rattle.history_laws.specs.Holding.{CalledOffEnd, PendingStay};
 ghost use Rattle.history_laws.specs.Named.{IsReadScript};
 ghost use Rattle.history_laws.specs.LeftOver.{NothingIsLeftOver};
+ghost use Rattle.history_laws.specs.OpensAllowed.{OpensSucceedWhereAllowed};
 ghost use Rattle.history_laws.specs.OpensTell.{OpensTellWhatTheyDid};
 ghost use Rattle.history_laws.specs.OplockChanges.{OplocksChangeForCause};
 ghost use Rattle.history_laws.specs.Races.{AllComeAfterWaits, Begun, NoneMadeWaiting, Whole};
@@ -274,6 +275,18 @@ pub fn opens_and_locks_leave_what_was_asked()
 /// overwrite on what was missing. Beside breaks it tells only that it opened.
 pub fn opens_tell_what_they_did()
     ensures told { (setup : Setup) (history : List HistoryEntry) → OpensTellWhatTheyDid setup history }
+{}
+
+/// Where a try of any history ends an open with SUCCESS or OPLOCK_BREAK_IN_PROGRESS, it was allowed: its client hasn't left; it asks for
+/// masks, rights and options that there are and that don't exclude each other, by a path without a fault that leads to the root, to a
+/// name, or to a directory in which one is missing and the disposition makes it. The name isn't marked for deletion, nor the named
+/// stream. What is there is of the kind asked for, and has no reparse point but with OPEN_REPARSE_POINT. Its owner and access list grant
+/// the client what is wanted, and DELETE for `supersede`, WRITE_DATA for another overwrite and for a named stream that is made; for a
+/// name that is made its directory grants WRITE_DATA for a file and APPEND_DATA for a directory. A READONLY file isn't written,
+/// overwritten or given a stream, nothing READONLY and not the root is to go at the close, and an overwrite asks for HIDDEN and SYSTEM
+/// where the file has them. Of other refusals than these nothing is said here.
+pub fn opens_succeed_where_allowed()
+    ensures allowed { (setup : Setup) (history : List HistoryEntry) → OpensSucceedWhereAllowed setup history }
 {}
 
 /// After each try of every history the handles are those from before, as they were: but for an open, which
