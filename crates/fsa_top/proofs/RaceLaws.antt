@@ -21,6 +21,7 @@ use Rattle.history_laws.proofs.GrantedEnds.{granted_calls-end_for_cause}
 use Rattle.history_laws.proofs.MadeCalls.{pends-as_made}
 use Rattle.history_laws.proofs.NoneMissed.{nothing-missed}
 use Rattle.history_laws.proofs.NotedTries.{run-changes_noted}
+use Rattle.history_laws.proofs.OpensAllowed.{opens-succeed_where_allowed}
 use Rattle.history_laws.proofs.OpensTell.{opens-tell_what_they_did}
 use Rattle.history_laws.proofs.OplockChanges.{oplocks-change_for_cause}
 use Rattle.history_laws.proofs.PendingStay.{pending-stay}
@@ -94,6 +95,7 @@ throughout script history free differ = record {
   only_holders_release_held_calls = holders-release script.setup history differ;
   other_calls_release_none = others-release_none script.setup history differ;
   caching_is_coherent = run-coherent script.setup history;
+  opens_succeed_where_allowed = opens-succeed_where_allowed script.setup history;
   opens_tell_what_they_did = opens-tell_what_they_did script.setup history;
   handles_go_when_closed = handles-go_when_closed script.setup history;
   two_handles_differ = handles-differ script.setup history differ;

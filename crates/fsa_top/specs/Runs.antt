@@ -25,6 +25,7 @@ use Rattle.history_laws.specs.HandlesClose.{HandlesGoWhenClosed}
 use Rattle.history_laws.specs.HandlesDiffer.{HandlesDiffer}
 use Rattle.history_laws.specs.Holding.{CalledOffEnd, PendingStay}
 use Rattle.history_laws.specs.LeftOver.{NothingIsLeftOver}
+use Rattle.history_laws.specs.OpensAllowed.{OpensSucceedWhereAllowed}
 use Rattle.history_laws.specs.OpensTell.{OpensTellWhatTheyDid}
 use Rattle.history_laws.specs.OplockChanges.{OplocksChangeForCause}
 use Rattle.history_laws.specs.Releasing.{HoldersRelease, OthersReleaseNone}
@@ -100,13 +101,14 @@ TakesUpReleased setup history =
 -- its handle closes. A call breaks only what its kind names, and doesn't end with SUCCESS while it has to wait for that. A turn
 -- takes up just those held calls that its own call released. A break or a lock ends exactly by its holder's own call, an
 -- acknowledgement, an unlock, a close or a leaving, and in the turn of any other call none ends and no held call is taken up.
--- Caching by oplocks is coherent. An open tells what it did; a handle goes just by a close of its own, or a leaving of its client, that
--- succeeds; no two handles have the same client and number; a try changes and notes of files, links and streams just what its call asks
--- for, and that only where it ends SUCCESS; what is marked for deletion has a handle; the tree stays sound, with what handles are of in
--- it, and well formed: names are ones that a path can have, what is no directory has its default stream, a file has at most 1,024 links,
--- and what has a reparse point isn't the root and has nothing in it. Names, named streams and bytes that change are noted, and of each
--- file but the root its owner, access list, reparse point, attributes, and times but that of the last change; and each watch reports
--- exactly the matching changes since its last report, to its handle's earliest pending Notify, or to one just made where none is pending
+-- Caching by oplocks is coherent. An open succeeds only where it is allowed, and tells what it did; a handle goes just by a close of its
+-- own, or a leaving of its client, that succeeds; no two handles have the same client and number; a try changes and notes of files, links
+-- and streams just what its call asks for, and that only where it ends SUCCESS; what is marked for deletion has a handle; the tree stays
+-- sound, with what handles are of in it, and well formed: names are ones that a path can have, what is no directory has its default
+-- stream, a file has at most 1,024 links, and what has a reparse point isn't the root and has nothing in it. Names, named streams and
+-- bytes that change are noted, and of each file but the root its owner, access list, reparse point, attributes, and times but that of the
+-- last change; and each watch reports exactly the matching changes since its last report, to its handle's earliest pending Notify, or to
+-- one just made where none is pending
 pub record HoldsThroughout (setup : Setup) (history : List HistoryEntry) : Type 0 where
   pub makes_no_call_twice : CallsDiffer history
   pub calls_come_after_waits : AllComeAfterWaits setup history
@@ -136,6 +138,7 @@ pub record HoldsThroughout (setup : Setup) (history : List HistoryEntry) : Type 
   pub only_holders_release_held_calls : HoldersRelease setup history
   pub other_calls_release_none : OthersReleaseNone setup history
   pub caching_is_coherent : CachingIsCoherent setup history
+  pub opens_succeed_where_allowed : OpensSucceedWhereAllowed setup history
   pub opens_tell_what_they_did : OpensTellWhatTheyDid setup history
   pub handles_go_when_closed : HandlesGoWhenClosed setup history
   pub two_handles_differ : HoldsOfEachVolume HandlesDiffer setup history
