@@ -29,7 +29,7 @@ use Rattle.fsa_model.specs.Try.{try, try_what}
 use Rattle.fsa_model.specs.Volume.{Link, Volume}
 use Rattle.fsa_model.specs.Walk.{Walked, Reached, Barred, Diverted, last_name, point_of, walk}
 use Rattle.history_laws.specs.AsAsked.{is_opened}
-use Rattle.history_laws.specs.OpensAllowed.{OpensSucceedWhereAllowed, SucceedsWhereAllowed, is_allowed, may_make, may_make_name, may_make_stream, may_open_directory, may_open_found, may_open_link, may_open_stream, may_open_walked, replaces, right_to_replace}
+use Rattle.history_laws.specs.OpensAllowed.{OpensSucceedWhereAllowed, SucceedsWhereAllowed, is_allowed, may_make, may_make_name, may_make_stream, may_open_directory, may_open_found, may_open_link, may_open_stream, may_open_walked, is_overwriting, overwriting_right}
 use Rattle.history_laws.proofs.AsAsked.{IsUnopened, walk-unopened}
 
 -- two checks that share a condition are one
@@ -39,15 +39,15 @@ neither-of_two true true other first second = cc
 neither-of_two true false other first second = second
 
 -- the tables of dispositions are those of the open
-replaces-as : (disposition : Disposition) → replaces disposition ≡ overwrites disposition
-replaces-as Supersede = refl
-replaces-as OpenExisting = refl
-replaces-as CreateNew = refl
-replaces-as OpenIf = refl
-replaces-as Overwrite = refl
-replaces-as OverwriteIf = refl
+overwriting-as : (disposition : Disposition) → is_overwriting disposition ≡ overwrites disposition
+overwriting-as Supersede = refl
+overwriting-as OpenExisting = refl
+overwriting-as CreateNew = refl
+overwriting-as OpenIf = refl
+overwriting-as Overwrite = refl
+overwriting-as OverwriteIf = refl
 
-right-as : (disposition : Disposition) → right_to_replace disposition ≡ replacing_right disposition
+right-as : (disposition : Disposition) → overwriting_right disposition ≡ replacing_right disposition
 right-as Supersede = refl
 right-as OpenExisting = refl
 right-as CreateNew = refl
@@ -132,7 +132,7 @@ module _ (v : Volume) (asked : Asked) where
       allows-unless v (is_readonly v file && deletes_on_close asked) _ _ refl (λ stays.
       allows-unless v (overwrites asked.disposition && uncovers (attributes_of v file) asked.attributes) _ _ refl (λ covered.
       allows-any _ _ (rw (
-        replaces-as asked.disposition,
+        overwriting-as asked.disposition,
         right-as asked.disposition,
         neither-of_two (names_stream asked.path) (is_marked v stream) (only_makes asked.disposition) living fits,
         not-false (grants v file asked.client (bit_or (access_of asked) (replacing_right asked.disposition))) granted,

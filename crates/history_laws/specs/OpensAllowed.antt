@@ -1,11 +1,12 @@
 -- That an open succeeds only where it is allowed: its client hasn't left; it asks for what can be asked; its path leads to the root, to a
--- name, or to a directory in which one is missing and may be made; that name isn't marked for deletion, nor the named stream; what is there
--- is of the kind that is asked for, and has no reparse point but with OPEN_REPARSE_POINT; its owner and access list grant the client what
--- is wanted and what the disposition does to it, or the directory that something is made in it; and READONLY, HIDDEN and SYSTEM are
--- respected. How a path is walked, and what an access list grants, is as in `Walk` and `Access`. What handles are in its way, and which
--- breaks it waits for, say `EndsAsFound` and `OplockChanges`. After [MS-FSA] 'Server Requests an Open of a File', 'Creation of a New File',
--- 'Open of an Existing File' and 'Algorithm to Check Access to an Existing File'; that a new named stream asks for WRITE_DATA, that a
--- stream part excludes DIRECTORY_FILE, and that the root can't be deleted, is this project's own.
+-- name, or to a directory in which one is missing; the disposition opens what is there, or makes what is missing; neither the name nor the
+-- named stream is marked for deletion; what is there is of the kind that is asked for, and has no reparse point but with
+-- OPEN_REPARSE_POINT; its owner and access list grant the client what is wanted and what the disposition does to it or, where a name is
+-- made, its directory grants that; and READONLY, HIDDEN and SYSTEM are respected. What can be asked, what is a file's or a directory's, how
+-- a path is walked, and what an access list grants is as in `Open`, `Walk` and `Access`. Handles and breaks in its way aren't spoken of
+-- here, but in `EndsAsFound`, `OplockChanges` and `WhyPending`. After [MS-FSA] 'Server Requests an Open of a File', 'Creation of a New
+-- File', 'Open of an Existing File' and 'Algorithm to Check Access to an Existing File'; that a client leaves, that a new named stream asks
+-- for WRITE_DATA, that a stream part excludes DIRECTORY_FILE, and that the root can't be deleted, is this project's own.
 use Rattle.std.specs.Int.RustNames.{bit_or}
 use Rattle.std.specs.Option.{option_map_or}
 use Rattle.std.specs.Prelude.{◌≡◌, ◌==◌, ◌&&◌, ◌||◌, not, ℕ, Bool, true, false, List, length, All, is_some, if◌then◌else◌}
@@ -36,39 +37,40 @@ is_askable asked =
     not (is_invalid asked) && not (wants_no_right asked) && not (lacks_delete asked) && not (is_some (path_fault asked.path)) && not (has_stream_part asked.path && wants_directory asked)
 
 -- the right to what a disposition does to a stream that is there
-abbrev pub right_to_replace : Disposition → ℕ
-right_to_replace Supersede = DELETE
-right_to_replace OpenExisting = 0
-right_to_replace CreateNew = 0
-right_to_replace OpenIf = 0
-right_to_replace Overwrite = WRITE_DATA
-right_to_replace OverwriteIf = WRITE_DATA
+abbrev pub overwriting_right : Disposition → ℕ
+overwriting_right Supersede = DELETE
+overwriting_right OpenExisting = 0
+overwriting_right CreateNew = 0
+overwriting_right OpenIf = 0
+overwriting_right Overwrite = WRITE_DATA
+overwriting_right OverwriteIf = WRITE_DATA
 
--- the disposition makes what is missing; it replaces what is there
+-- the disposition makes what is missing
 abbrev pub may_make : Disposition → Bool
 may_make OpenExisting = false
 may_make Overwrite = false
 may_make _ = true
 
-abbrev pub replaces : Disposition → Bool
-replaces Supersede = true
-replaces Overwrite = true
-replaces OverwriteIf = true
-replaces _ = false
+-- it overwrites what is there
+abbrev pub is_overwriting : Disposition → Bool
+is_overwriting Supersede = true
+is_overwriting Overwrite = true
+is_overwriting OverwriteIf = true
+is_overwriting _ = false
 
--- a file with HIDDEN or SYSTEM, where the open asks for what is made without it
-abbrev pub hides_more : ℕ → ℕ → Bool
-hides_more kept asked = (has_any kept HIDDEN && not (has_any asked HIDDEN)) || (has_any kept SYSTEM && not (has_any asked SYSTEM))
+-- the file has HIDDEN or SYSTEM, and the attributes asked for don't
+abbrev pub lacks_hiding : ℕ → ℕ → Bool
+lacks_hiding kept asked = (has_any kept HIDDEN && not (has_any asked HIDDEN)) || (has_any kept SYSTEM && not (has_any asked SYSTEM))
 
--- a stream that is there may be opened: a named stream isn't marked, and the disposition isn't `create`; the file grants what is wanted,
+-- a stream that is there may be opened: where the path names a stream, that isn't marked and the disposition isn't `create`; the file grants what is wanted,
 -- and what the disposition does to the stream; where the file is READONLY, neither WRITE_DATA nor APPEND_DATA is wanted, nothing is
 -- overwritten, and it isn't to go at the close; and an overwrite asks for HIDDEN and SYSTEM where the file has them
 abbrev pub may_open_stream : Volume → Asked → ℕ → ℕ → Bool
 may_open_stream v asked file stream =
     not (names_stream asked.path && (is_marked v stream || only_makes asked.disposition))
-    && grants v file asked.client (bit_or (access_of asked) (right_to_replace asked.disposition))
-    && not (is_readonly v file && (has_any (access_of asked) (bit_or WRITE_DATA APPEND_DATA) || replaces asked.disposition || deletes_on_close asked))
-    && not (replaces asked.disposition && hides_more (attributes_of v file) asked.attributes)
+    && grants v file asked.client (bit_or (access_of asked) (overwriting_right asked.disposition))
+    && not (is_readonly v file && (has_any (access_of asked) (bit_or WRITE_DATA APPEND_DATA) || is_overwriting asked.disposition || deletes_on_close asked))
+    && not (is_overwriting asked.disposition && lacks_hiding (attributes_of v file) asked.attributes)
 
 -- a named stream that is missing from a file may be made: the disposition makes what is missing; the file grants what is wanted, and
 -- WRITE_DATA, and isn't READONLY

@@ -277,14 +277,16 @@ pub fn opens_tell_what_they_did()
     ensures told { (setup : Setup) (history : List HistoryEntry) → OpensTellWhatTheyDid setup history }
 {}
 
-/// Where a try of any history ends an open with SUCCESS or OPLOCK_BREAK_IN_PROGRESS, it was allowed: its client hasn't left; it asks for
-/// masks, rights and options that there are and that don't exclude each other, by a path without a fault that leads to the root, to a
-/// name, or to a directory in which one is missing and the disposition makes it. The name isn't marked for deletion, nor the named
-/// stream. What is there is of the kind asked for, and has no reparse point but with OPEN_REPARSE_POINT. Its owner and access list grant
-/// the client what is wanted, and DELETE for `supersede`, WRITE_DATA for another overwrite and for a named stream that is made; for a
-/// name that is made its directory grants WRITE_DATA for a file and APPEND_DATA for a directory. A READONLY file isn't written,
-/// overwritten or given a stream, nothing READONLY and not the root is to go at the close, and an overwrite asks for HIDDEN and SYSTEM
-/// where the file has them. Of other refusals than these nothing is said here.
+/// Where a try of any history ends an open with SUCCESS or OPLOCK_BREAK_IN_PROGRESS, it was allowed. Its client hasn't left. It asks
+/// for masks, rights and options that there are, for some right, for options that exclude neither each other nor the disposition, and
+/// for DELETE with DELETE_ON_CLOSE. Its path has no fault, no stream part with DIRECTORY_FILE, and leads to the root, to a name, or to
+/// a directory in which one is missing; `create` finds missing what the path names, `open` and `overwrite` find it there. The name
+/// isn't marked for deletion, nor the named stream. What is there is of the kind asked for, and has no reparse point but with
+/// OPEN_REPARSE_POINT. Its owner and access list grant the client what is wanted, and DELETE for `supersede`, WRITE_DATA for another
+/// overwrite and for a named stream that is made; of a name that is made its directory grants WRITE_DATA for a file and APPEND_DATA for
+/// a directory. A READONLY file isn't opened with WRITE_DATA or APPEND_DATA, overwritten, or given a named stream; neither the root, nor
+/// what the open finds READONLY, nor what it makes READONLY under a missing name is to go at the close; and an overwrite asks for HIDDEN
+/// and SYSTEM where the file has them. Of handles and breaks in its way nothing is said here, nor when an open is refused.
 pub fn opens_succeed_where_allowed()
     ensures allowed { (setup : Setup) (history : List HistoryEntry) → OpensSucceedWhereAllowed setup history }
 {}

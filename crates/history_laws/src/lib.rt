@@ -1,11 +1,12 @@
 //! What is proved of histories and their texts: in which order a script's calls are made, that they all are, that a text tells
 //! its history, how a wait ends, what stands before a call, how long a pending call stays, whose calls release it, that what is
 //! called off ends, how long a call stays pending that was granted an oplock, for what causes it ends, what it is told of a
-//! break, for what causes oplocks change, with which status a call ends by what it finds, that opens and locks leave what was
-//! asked for and opens tell what they did, when handles go and that they differ, what a try changes of files, links and streams,
-//! which of these changes are noted, that nothing marked is left over and the tree stays sound and well formed, for what causes
-//! a call is pending, that what is pending is as it was made and as its try left it, that nothing is missed that it waits for,
-//! and to which Notify a watch reports. It has no product code: the laws are said by functions that do nothing.
+//! break, for what causes oplocks change, with which status a call ends by what it finds, that opens succeed only where they are
+//! allowed, that opens and locks leave what was asked for and opens tell what they did, when handles go and that they differ,
+//! what a try changes of files, links and streams, which of these changes are noted, that nothing marked is left over and the
+//! tree stays sound and well formed, for what causes a call is pending, that what is pending is as it was made and as its try
+//! left it, that nothing is missed that it waits for, and to which Notify a watch reports. It has no product code: the laws are
+//! said by functions that do nothing.
 #![tactic(auto)]
 
 mod law;
