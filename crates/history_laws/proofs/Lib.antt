@@ -47,7 +47,7 @@ pub mod NotedTries
 pub mod OpenedStay
 pub mod OpensStay
 pub mod OpensTell
-pub mod OpensAllowed
+pub mod OpenChecks
 pub mod OplockChanges
 pub mod OrderLaws
 pub mod OthersRelease

@@ -26,4 +26,4 @@ pub mod LeftOver
 pub mod EachVolume
 pub mod WellFormed
 pub mod OpensTell
-pub mod OpensAllowed
+pub mod OpenChecks

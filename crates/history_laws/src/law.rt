@@ -28,7 +28,7 @@ ghost use Rattle.history_laws.specs.HandlesDiffer.{HandlesDiffer};
 ghost use Rattle.history_laws.specs.Holding.{CalledOffEnd, PendingStay};
 ghost use Rattle.history_laws.specs.Named.{IsReadScript};
 ghost use Rattle.history_laws.specs.LeftOver.{NothingIsLeftOver};
-ghost use Rattle.history_laws.specs.OpensAllowed.{OpensSucceedWhereAllowed};
+ghost use Rattle.history_laws.specs.OpenChecks.{OpensEndByChecks};
 ghost use Rattle.history_laws.specs.OpensTell.{OpensTellWhatTheyDid};
 ghost use Rattle.history_laws.specs.OplockChanges.{OplocksChangeForCause};
 ghost use Rattle.history_laws.specs.Races.{AllComeAfterWaits, Begun, NoneMadeWaiting, Whole};
@@ -277,18 +277,21 @@ pub fn opens_tell_what_they_did()
     ensures told { (setup : Setup) (history : List HistoryEntry) → OpensTellWhatTheyDid setup history }
 {}
 
-/// Where a try of any history ends an open with SUCCESS or OPLOCK_BREAK_IN_PROGRESS, it was allowed. Its client hasn't left. It asks
-/// for masks, rights and options that there are, for some right, for options that exclude neither each other nor the disposition, and
-/// for DELETE with DELETE_ON_CLOSE. Its path has no fault, no stream part with DIRECTORY_FILE, and leads to the root, to a name, or to
-/// a directory in which one is missing; `create` finds missing what the path names, `open` and `overwrite` find it there. The name
-/// isn't marked for deletion, nor the named stream. What is there is of the kind asked for, and has no reparse point but with
-/// OPEN_REPARSE_POINT. Its owner and access list grant the client what is wanted, and DELETE for `supersede`, WRITE_DATA for another
-/// overwrite and for a named stream that is made; of a name that is made its directory grants WRITE_DATA for a file and APPEND_DATA for
-/// a directory. A READONLY file isn't opened with WRITE_DATA or APPEND_DATA, overwritten, or given a named stream; neither the root, nor
-/// what the open finds READONLY, nor what it makes READONLY under a missing name is to go at the close; and an overwrite asks for HIDDEN
-/// and SYSTEM where the file has them. Of handles and breaks in its way nothing is said here, nor when an open is refused.
-pub fn opens_succeed_where_allowed()
-    ensures allowed { (setup : Setup) (history : List HistoryEntry) → OpensSucceedWhereAllowed setup history }
+/// In each try of every history an open ends with the status of the first of its checks that fails (`checks_of`, in their order); where
+/// none fails it ends SUCCESS, OPLOCK_BREAK_IN_PROGRESS or SHARING_VIOLATION, or is held. The checks are, first, of its client, that it
+/// hasn't left; of masks, rights and options, that there are such, that some right is wanted, that options exclude neither each other nor
+/// the disposition, and that DELETE is wanted with DELETE_ON_CLOSE; of the path, that it has no fault, nor a stream part with
+/// DIRECTORY_FILE, and is neither barred nor diverted on the way. Then, of a name that is missing, that the disposition makes it; that it
+/// isn't made READONLY where it is to go at the close; and that its directory grants WRITE_DATA for a file and APPEND_DATA for a
+/// directory. Of one that is there, that it isn't marked for deletion; that what it names has no reparse point, but with
+/// OPEN_REPARSE_POINT, that the disposition isn't `create` where the path names no stream, and that it is of the kind asked for; of a
+/// named stream, that it isn't marked, and there or missing as the disposition has it; that owner and access list grant what is wanted,
+/// with DELETE for `supersede`, and WRITE_DATA for another overwrite and for a named stream that is made; of a READONLY file, that it
+/// isn't opened with WRITE_DATA or APPEND_DATA, overwritten, or given a named stream; that neither the root nor what is READONLY is to go
+/// at the close; and of an overwrite, that it asks for HIDDEN and SYSTEM where the file has them. Of handles and breaks in its way
+/// nothing is said here.
+pub fn opens_end_as_their_checks_say()
+    ensures checked { (setup : Setup) (history : List HistoryEntry) → OpensEndByChecks setup history }
 {}
 
 /// After each try of every history the handles are those from before, as they were: but for an open, which

@@ -18,7 +18,7 @@ pub use law::{
     granted_calls_end_for_a_cause, granted_calls_pend_while_unbroken, handles_go_when_closed,
     holders_are_told_what_breaks_leave, no_awaited_end_or_change_is_missed,
     no_scheduled_call_is_made_waiting, nothing_is_left_over, only_holders_release_held_calls,
-    opens_and_locks_leave_what_was_asked, opens_succeed_where_allowed, opens_tell_what_they_did,
+    opens_and_locks_leave_what_was_asked, opens_end_as_their_checks_say, opens_tell_what_they_did,
     oplocks_change_for_a_cause, pending_calls_are_as_made, pending_calls_stay, scripts_are_read,
     starved_calls_end_without_memory, text_without_no_memory_is_plain,
     the_earliest_notify_is_reported, the_tree_changes_as_asked, the_tree_stays_sound,
