@@ -27,4 +27,4 @@ pub mod EachVolume
 pub mod WellFormed
 pub mod OpensTell
 pub mod OpenChecks
-pub mod NameSteps
+pub mod NamingSteps

@@ -1,30 +1,30 @@
--- The checks of an open, in their order, and that each open ends as they say: with the status of the first that fails; and where none
--- fails, it succeeds, clashes with a handle, or is held. What they look at: that its client hasn't left; what it asks for; what its path
--- leads to, and whether the disposition opens what is there, or makes what is missing; marks for deletion; the kind of what is there, and
--- a reparse point without OPEN_REPARSE_POINT; the owner and the access list of what is there, by what is wanted and what the disposition
--- does to it, or where a name is made those of its directory; and READONLY, HIDDEN and SYSTEM. What can be asked, what is a file's or a
--- directory's, how a path is walked, and what an access list grants is as in `Open`, `Walk` and `Access`. Handles and breaks in its way
--- aren't spoken of here, but in `EndsAsFound`, `OplockChanges` and `WhyPending`. After [MS-FSA] 'Server Requests an Open of a File',
--- 'Creation of a New File', 'Open of an Existing File' and 'Algorithm to Check Access to an Existing File'; that a client leaves, that a
--- new named stream asks for WRITE_DATA, that a stream part excludes DIRECTORY_FILE, and that the root can't be deleted, is this
--- project's own.
+-- The checks of an open, in their order, and that each try of an open ends as they say: by the first that fails, with its reply and nothing
+-- changed; where none fails, with SUCCESS, OPLOCK_BREAK_IN_PROGRESS or SHARING_VIOLATION, or held. Comments say what has to hold; a table
+-- has when it doesn't, and how the open ends then. What a path has as its components and stream part, which names are the same, how a path
+-- is walked, and what an access list grants is as in `Paths`, `Lookups`, `Walk` and `Open`. Handles and breaks in the way of an open aren't
+-- spoken of here, but in `EndsAsFound`, `OplockChanges` and `WhyPending`. After [MS-FSA] 'Server Requests an Open of a File', 'Creation of a
+-- New File', 'Open of an Existing File' and 'Algorithm to Check Access to an Existing File'. This project's own are the order of the
+-- checks, which options and attributes there are, that a client leaves, that a stream part excludes DIRECTORY_FILE, that a stream part or
+-- an overwrite is of a file alone, that a new named stream asks for WRITE_DATA, and that the root can't be deleted.
 use Rattle.std.specs.Int.RustNames.{bit_or}
 use Rattle.std.specs.Option.{option_map_or}
-use Rattle.std.specs.Prelude.{◌≡◌, ◌==◌, ◌&&◌, ◌||◌, not, ℕ, Bool, true, false, List, [], ◌∷◌, ◌++◌, length, All, Option, Some, None, is_some, if◌then◌else◌}
-use Rattle.fsa_types.specs.Access.{has_any}
-use Rattle.fsa_types.specs.Masks.{APPEND_DATA, DELETE, HIDDEN, IO_REPARSE_TAG_SYMLINK, READONLY, SYSTEM, WRITE_DATA}
-use Rattle.fsa_types.specs.Paths.{components, path_fault}
+use Rattle.std.specs.Prelude.{◌≡◌, ◌==◌, ◌&&◌, ◌||◌, not, ℕ, Bool, true, false, List, [], ◌∷◌, ◌++◌, length, All, Option, Some, None, is_some, unwrap_or, if◌then◌else◌}
+use Rattle.fsa_types.specs.Access.{has_any, has_other, map_generic}
+use Rattle.fsa_types.specs.Masks.{APPEND_DATA, DELETE, DELETE_ON_CLOSE, DIRECTORY_FILE, HIDDEN, IO_REPARSE_TAG_SYMLINK, NON_DIRECTORY_FILE, OPEN_REPARSE_POINT, READONLY, SYSTEM, WRITE_DATA, known_attributes, known_options, known_rights, known_shares}
+use Rattle.fsa_types.specs.Paths.{components, path_fault, rest_of, stream_part}
 use Rattle.fsa_types.specs.Rows.{row_of}
+use Rattle.fsa_types.specs.declared.reply.Body.TheVariants.{Nothing, Stopped}
+use Rattle.fsa_types.specs.declared.reply.Reply.{Reply}
 use Rattle.fsa_types.specs.declared.request.Call.{Call}
 use Rattle.fsa_types.specs.declared.request.Disposition.{Disposition}
 use Rattle.fsa_types.specs.declared.request.Disposition.TheVariants.{Supersede, OpenExisting, CreateNew, OpenIf, Overwrite, OverwriteIf}
 use Rattle.fsa_types.specs.declared.request.Request.TheVariants as request
 use Rattle.fsa_types.specs.declared.request.What.TheVariants.{Ask}
 use Rattle.fsa_types.specs.declared.status.Status.{Status}
-use Rattle.fsa_types.specs.declared.status.Status.TheVariants.{Success, OplockBreakInProgress, Reparse, StoppedOnSymlink, AccessDenied, CannotDelete, DeletePending, FileIsADirectory, InvalidHandle, InvalidParameter, NotADirectory, ObjectNameCollision, ObjectNameInvalid, ObjectNameNotFound, SharingViolation}
+use Rattle.fsa_types.specs.declared.status.Status.TheVariants.{Success, OplockBreakInProgress, Reparse, StoppedOnSymlink, AccessDenied, CannotDelete, DeletePending, FileIsADirectory, InvalidHandle, InvalidParameter, NotADirectory, ObjectNameCollision, ObjectNameInvalid, ObjectNameNotFound, ObjectPathNotFound, SharingViolation}
 use Rattle.fsa_model.specs.History.{HistoryEntry}
 use Rattle.fsa_model.specs.Lookups.{attributes_of, child_of, has_left, is_directory, is_marked, stream_of}
-use Rattle.fsa_model.specs.Open.{Asked, access_of, asks_for_file, deletes_on_close, grants, has_stream_part, is_invalid, is_other_kind, is_readonly, lacks_delete, names_stream, only_makes, opens_point, stream_name, wants_directory, wants_no_right}
+use Rattle.fsa_model.specs.Open.{Asked, grants}
 use Rattle.fsa_model.specs.Outcome.{Outcome, Done, Stay, Hold}
 use Rattle.fsa_model.specs.Setup.{Setup}
 use Rattle.fsa_model.specs.Tries.{Tried, tries_of}
@@ -34,18 +34,29 @@ use Rattle.fsa_model.specs.Walk.{Walked, Reached, Barred, Diverted, last_name, p
 
 -- ---- checks
 
--- whether it fails, and the status then
+-- whether it fails, and the reply then
 abbrev pub Check : Type 0
-Check = Bool × Status
+Check = Bool × Reply
 
--- the status of the first that fails
-abbrev pub first_failing : List Check → Option Status
+-- a reply of a status alone
+abbrev pub with_status : Status → Reply
+with_status status = record { status = status; body = Nothing }
+
+-- the reply of the first check that fails
+abbrev pub first_failing : List Check → Option Reply
 first_failing [] = None
 first_failing (check ∷ more) = if check.0 then Some check.1 else first_failing more
 
--- ---- what a disposition does
+-- a reparse point stops an open, as a symbolic link or as another, and is told with what is left of the path; a file without one has no
+-- such reply
+abbrev pub stopped_by : Option (ℕ × List ℕ) → List ℕ → Reply
+stopped_by point rest =
+    option_map_or (λ told. record { status = if told.0 == IO_REPARSE_TAG_SYMLINK then StoppedOnSymlink else Reparse; body = Stopped told.0 told.1 rest }) point
+    (with_status ObjectPathNotFound)
 
--- the right to what it does to a stream that is there
+-- ---- what is asked for
+
+-- the right to what a disposition does to a stream that is there
 abbrev pub overwriting_right : Disposition → ℕ
 overwriting_right Supersede = DELETE
 overwriting_right OpenExisting = 0
@@ -55,10 +66,15 @@ overwriting_right Overwrite = WRITE_DATA
 overwriting_right OverwriteIf = WRITE_DATA
 
 -- it makes what is missing
-abbrev pub may_make : Disposition → Bool
-may_make OpenExisting = false
-may_make Overwrite = false
-may_make _ = true
+abbrev pub makes_missing : Disposition → Bool
+makes_missing OpenExisting = false
+makes_missing Overwrite = false
+makes_missing _ = true
+
+-- it takes what is there
+abbrev pub takes_existing : Disposition → Bool
+takes_existing CreateNew = false
+takes_existing _ = true
 
 -- it overwrites what is there
 abbrev pub is_overwriting : Disposition → Bool
@@ -67,119 +83,145 @@ is_overwriting Overwrite = true
 is_overwriting OverwriteIf = true
 is_overwriting _ = false
 
--- ---- the checks of each place
+abbrev pub has_option : Asked → ℕ → Bool
+has_option asked option = has_any asked.options option
 
--- the file has HIDDEN or SYSTEM, and the attributes asked for don't
+-- the path has a stream part, which may be `::$DATA`; and it is that of a named stream
+abbrev pub has_stream_part : Asked → Bool
+has_stream_part asked = is_some (stream_part asked.path)
+
+abbrev pub is_for_named : Asked → Bool
+is_for_named asked = option_map_or (λ name. not (length name == 0)) (stream_part asked.path) false
+
+-- HIDDEN or SYSTEM, one that the file has, isn't asked for
 abbrev pub lacks_hiding : ℕ → ℕ → Bool
 lacks_hiding kept asked = (has_any kept HIDDEN && not (has_any asked HIDDEN)) || (has_any kept SYSTEM && not (has_any asked SYSTEM))
 
--- the file has a reparse point, and that is the one of a symbolic link
-abbrev pub is_symbolic_link : Volume → ℕ → Bool
-is_symbolic_link v file = option_map_or (λ point. point.0 == IO_REPARSE_TAG_SYMLINK) (point_of v file) false
+-- the file is READONLY
+abbrev pub is_read_only : Volume → ℕ → Bool
+is_read_only v file = has_any (attributes_of v file) READONLY
 
--- Before the path: of the client, that it hasn't left; of what it asks, that masks and rights are ones that there are, that options
--- exclude neither each other nor the disposition, that some right is wanted, DELETE with DELETE_ON_CLOSE; that the path has no fault, and
--- no stream part, `::$DATA` too, with DIRECTORY_FILE
-abbrev pub checks_of_asked : Volume → Asked → List Check
-checks_of_asked v asked =
-    (has_left v asked.client, InvalidHandle)
-    ∷ (is_invalid asked, InvalidParameter)
-    ∷ (wants_no_right asked, AccessDenied)
-    ∷ (lacks_delete asked, InvalidParameter)
-    ∷ (is_some (path_fault asked.path), ObjectNameInvalid)
-    ∷ (has_stream_part asked.path && wants_directory asked, NotADirectory)
+-- ---- the checks of each place
+
+-- Before the walk: the client hasn't left; share, options and attributes have no unknown bit, and options exclude neither each other nor
+-- the disposition; some right is wanted, and none that is unknown; DELETE, with DELETE_ON_CLOSE; the path has no fault and, with
+-- DIRECTORY_FILE, no stream part, not even `::$DATA`
+abbrev pub checks_of_request : Volume → Asked → List Check
+checks_of_request v asked =
+    (has_left v asked.client, with_status InvalidHandle)
+    ∷ (has_other asked.share known_shares, with_status InvalidParameter)
+    ∷ (has_other asked.options known_options, with_status InvalidParameter)
+    ∷ (has_other asked.attributes known_attributes, with_status InvalidParameter)
+    ∷ (has_option asked DIRECTORY_FILE && has_option asked NON_DIRECTORY_FILE, with_status InvalidParameter)
+    ∷ (has_option asked DIRECTORY_FILE && is_overwriting asked.disposition, with_status InvalidParameter)
+    ∷ (asked.wanted == 0, with_status AccessDenied)
+    ∷ (has_other asked.wanted known_rights, with_status AccessDenied)
+    ∷ (has_option asked DELETE_ON_CLOSE && not (has_any (map_generic asked.wanted) DELETE), with_status InvalidParameter)
+    ∷ (is_some (path_fault asked.path), with_status ObjectNameInvalid)
+    ∷ (has_stream_part asked && has_option asked DIRECTORY_FILE, with_status NotADirectory)
     ∷ []
 
--- A name that is missing from this directory: the disposition makes what is missing; what is made isn't READONLY where it is to go at the
--- close; and the directory grants APPEND_DATA for a directory and WRITE_DATA for a file
+-- A name that is missing from this directory: the disposition makes what is missing; READONLY isn't asked for with DELETE_ON_CLOSE; and
+-- the directory grants APPEND_DATA for a directory and WRITE_DATA for a file
 abbrev pub checks_of_missing : Volume → Asked → ℕ → List Check
 checks_of_missing v asked dir =
-    (not (may_make asked.disposition), ObjectNameNotFound)
-    ∷ (deletes_on_close asked && has_any asked.attributes READONLY, CannotDelete)
-    ∷ (not (grants v dir asked.client (if wants_directory asked then APPEND_DATA else WRITE_DATA)), AccessDenied)
+    (not (makes_missing asked.disposition), with_status ObjectNameNotFound)
+    ∷ (has_option asked DELETE_ON_CLOSE && has_any asked.attributes READONLY, with_status CannotDelete)
+    ∷ (not (grants v dir asked.client (if has_option asked DIRECTORY_FILE then APPEND_DATA else WRITE_DATA)), with_status AccessDenied)
     ∷ []
 
 -- A named stream that is missing from a file: the disposition makes what is missing; the file grants what is wanted, and WRITE_DATA; and it
 -- isn't READONLY
 abbrev pub checks_of_new_stream : Volume → Asked → ℕ → List Check
 checks_of_new_stream v asked file =
-    (not (may_make asked.disposition), ObjectNameNotFound)
-    ∷ (not (grants v file asked.client (bit_or (access_of asked) WRITE_DATA)), AccessDenied)
-    ∷ (is_readonly v file, AccessDenied)
+    (not (makes_missing asked.disposition), with_status ObjectNameNotFound)
+    ∷ (not (grants v file asked.client (bit_or (map_generic asked.wanted) WRITE_DATA)), with_status AccessDenied)
+    ∷ (is_read_only v file, with_status AccessDenied)
     ∷ []
 
--- A stream that is there: where the path names a stream, that isn't marked, and the disposition isn't `create`; the file grants what is
--- wanted, and what the disposition does to the stream; where it is READONLY, neither WRITE_DATA nor APPEND_DATA is wanted and nothing is
--- overwritten, and then, it isn't to go at the close; and an overwrite asks for HIDDEN and SYSTEM where the file has them
+-- A stream that is there: a named one isn't marked, and the disposition takes it; the file grants what is wanted, and what the disposition
+-- does to the stream; where it is READONLY, neither WRITE_DATA nor APPEND_DATA is wanted, nothing is overwritten, and DELETE_ON_CLOSE isn't
+-- asked; an overwrite asks for each of HIDDEN and SYSTEM that the file has
 abbrev pub checks_of_stream : Volume → Asked → ℕ → ℕ → List Check
 checks_of_stream v asked file stream =
-    (names_stream asked.path && is_marked v stream, DeletePending)
-    ∷ (names_stream asked.path && only_makes asked.disposition, ObjectNameCollision)
-    ∷ (not (grants v file asked.client (bit_or (access_of asked) (overwriting_right asked.disposition))), AccessDenied)
-    ∷ (is_readonly v file && (has_any (access_of asked) (bit_or WRITE_DATA APPEND_DATA) || is_overwriting asked.disposition), AccessDenied)
-    ∷ (is_readonly v file && deletes_on_close asked, CannotDelete)
-    ∷ (is_overwriting asked.disposition && lacks_hiding (attributes_of v file) asked.attributes, AccessDenied)
+    (is_for_named asked && is_marked v stream, with_status DeletePending)
+    ∷ (is_for_named asked && not (takes_existing asked.disposition), with_status ObjectNameCollision)
+    ∷ (not (grants v file asked.client (bit_or (map_generic asked.wanted) (overwriting_right asked.disposition))), with_status AccessDenied)
+    ∷ (is_read_only v file && has_any (map_generic asked.wanted) (bit_or WRITE_DATA APPEND_DATA), with_status AccessDenied)
+    ∷ (is_read_only v file && is_overwriting asked.disposition, with_status AccessDenied)
+    ∷ (is_read_only v file && has_option asked DELETE_ON_CLOSE, with_status CannotDelete)
+    ∷ (is_overwriting asked.disposition && lacks_hiding (attributes_of v file) asked.attributes, with_status AccessDenied)
     ∷ []
 
--- A directory: nothing is asked that can be asked of a file alone (NON_DIRECTORY_FILE, a stream part, an overwrite); it grants what is
--- wanted; and it is to go at the close only where it is neither READONLY nor the root, which link 0 stands for
+-- A directory: nothing is asked that can be asked of a file alone; it grants what is wanted; and DELETE_ON_CLOSE is asked neither of the
+-- root, which link 0 stands for, nor of one that is READONLY
 abbrev pub checks_of_directory : Volume → Asked → ℕ → ℕ → List Check
 checks_of_directory v asked link file =
-    (asks_for_file asked, FileIsADirectory)
-    ∷ (not (grants v file asked.client (access_of asked)), AccessDenied)
-    ∷ (deletes_on_close asked && (link == 0 || is_readonly v file), CannotDelete)
+    (has_option asked NON_DIRECTORY_FILE, with_status FileIsADirectory)
+    ∷ (has_stream_part asked, with_status FileIsADirectory)
+    ∷ (is_overwriting asked.disposition, with_status FileIsADirectory)
+    ∷ (not (grants v file asked.client (map_generic asked.wanted)), with_status AccessDenied)
+    ∷ (has_option asked DELETE_ON_CLOSE && (link == 0 || is_read_only v file), with_status CannotDelete)
     ∷ []
 
--- What is there: its reparse point, if it has one, is what is opened; the disposition isn't `create`, unless the path names a stream; it is
--- a directory where one is asked for; and then those of the directory, or of the stream, there or missing
+-- What is there: it has no reparse point, or OPEN_REPARSE_POINT is asked for; the disposition takes it, unless a named stream is asked for; it
+-- is a directory where one is asked for; and then those of the directory, or of the stream, there or missing
 abbrev pub checks_of_found : Volume → Asked → ℕ → ℕ → List Check
 checks_of_found v asked link file =
-    (is_symbolic_link v file && not (opens_point asked), StoppedOnSymlink)
-    ∷ (is_some (point_of v file) && not (opens_point asked), Reparse)
-    ∷ (only_makes asked.disposition && not (names_stream asked.path), ObjectNameCollision)
-    ∷ (is_other_kind asked (is_directory v.files file), NotADirectory)
+    (is_some (point_of v file) && not (has_option asked OPEN_REPARSE_POINT), stopped_by (point_of v file) [])
+    ∷ (not (takes_existing asked.disposition) && not (is_for_named asked), with_status ObjectNameCollision)
+    ∷ (has_option asked DIRECTORY_FILE && not (is_directory v.files file), with_status NotADirectory)
     ∷ (if is_directory v.files file then checks_of_directory v asked link file
-    else option_map_or (λ stream. checks_of_stream v asked file stream) (stream_of v file (stream_name asked.path)) (checks_of_new_stream v asked file))
+    else option_map_or (λ stream. checks_of_stream v asked file stream) (stream_of v file (unwrap_or (stream_part asked.path) [])) (checks_of_new_stream v asked file))
 
--- A name that is there: it isn't marked, and then those of what it names
+-- A name that is there: it isn't marked, and then those of what it names; a link that is found has a row
 abbrev pub checks_of_link : Volume → Asked → ℕ → List Check
-checks_of_link v asked link = option_map_or (λ row. (row.deleted, DeletePending) ∷ checks_of_found v asked link row.file) (row_of v.links link) ((true, ObjectNameNotFound) ∷ [])
+checks_of_link v asked link =
+    option_map_or (λ row. (row.deleted, with_status DeletePending) ∷ checks_of_found v asked link row.file) (row_of v.links link)
+    ((true, with_status ObjectNameNotFound) ∷ [])
 
 -- Where the path leads: to the root, which is file 1; to a name, there or missing; or it is barred on the way, with the status of the walk,
--- or stopped by the reparse point of a file
+-- or stopped by a reparse point there, whatever the options
 abbrev pub checks_of_walked : Volume → Asked → Walked → List Check
 checks_of_walked v asked (Reached dir) =
     if length (components asked.path) == 0 then checks_of_found v asked 0 1
     else option_map_or (λ link. checks_of_link v asked link) (child_of v dir (last_name (components asked.path))) (checks_of_missing v asked dir)
-checks_of_walked v asked (Barred status) = (true, status) ∷ []
-checks_of_walked v asked (Diverted file next) = (is_symbolic_link v file, StoppedOnSymlink) ∷ (true, Reparse) ∷ []
+checks_of_walked v asked (Barred status) = (true, with_status status) ∷ []
+checks_of_walked v asked (Diverted file next) = (true, stopped_by (point_of v file) (rest_of asked.path next)) ∷ []
 
 -- all checks of an open but those of handles and breaks, in order
 abbrev pub checks_of : Volume → Asked → List Check
-checks_of v asked = checks_of_asked v asked ++ checks_of_walked v asked (walk v (components asked.path))
+checks_of v asked = checks_of_request v asked ++ checks_of_walked v asked (walk v (components asked.path))
 
 -- ---- how an open ends
 
--- the statuses that come only where all these checks pass
-abbrev pub is_passing : Status → Bool
-is_passing Success = true
-is_passing OplockBreakInProgress = true
-is_passing SharingViolation = true
-is_passing _ = false
+-- the statuses behind these checks
+abbrev pub is_behind_checks : Status → Bool
+is_behind_checks Success = true
+is_behind_checks OplockBreakInProgress = true
+is_behind_checks SharingViolation = true
+is_behind_checks _ = false
 
--- an open of which this is the status of the first check that fails, if one does, came to this: it has ended with that status; or, where
--- none fails, with one of those that come only then, or is held; it isn't pending otherwise
-abbrev pub EndsBy : Option Status → Outcome → Type 0
-EndsBy failing (Done next reply) = failing ≡ (if is_passing reply.status then None else Some reply.status)
-EndsBy failing (Hold next blockers interim) = failing ≡ None
-EndsBy failing (Stay next interim) = ⊥
+-- none of them has failed: it has ended with such a status, or is held; it isn't pending otherwise
+abbrev pub IsBehindThem : Outcome → Type 0
+IsBehindThem (Done next reply) = is_behind_checks reply.status ≡ true
+IsBehindThem (Hold next blockers interim) = Unit {0}
+IsBehindThem (Stay next interim) = ⊥
 
--- a try of this call came to this: so it is where it is an open
+-- an open came to this, of which this is the reply of the first check that fails, if one does: it has ended with that, which has none of
+-- the statuses behind the checks, and the volume is as it was; or it came to what there is behind them
+abbrev pub EndsBy : Volume → Option Reply → Outcome → Type 0
+EndsBy v (Some reply) outcome = (outcome ≡ Done v reply) × (is_behind_checks reply.status ≡ false)
+EndsBy v None outcome = IsBehindThem outcome
+
+-- a try of this call came to this; where it is an open, it ends by its checks
 abbrev pub OpenEndsByChecks : Volume → Call → Outcome → Type 0
 OpenEndsByChecks v call outcome =
     (path : List ℕ) (wanted share : ℕ) (disposition : Disposition) (options attributes key : ℕ)
     → call.what ≡ Ask (request.Create path wanted share disposition options attributes key)
-    → EndsBy (first_failing (checks_of v (record { client = call.client; number = call.number; path = path; wanted = wanted; share = share; disposition = disposition; options = options; attributes = attributes; key = key }))) outcome
+    → EndsBy v
+    (first_failing (checks_of v (record { client = call.client; number = call.number; path = path; wanted = wanted; share = share; disposition = disposition; options = options; attributes = attributes; key = key })))
+    outcome
 
 -- so it is in each try of a history
 abbrev pub OpensEndByChecks : Setup → List HistoryEntry → Type 0
