@@ -19,9 +19,10 @@ use Rattle.history_laws.proofs.EndsAsFound.{calls-end_as_found}
 use Rattle.history_laws.proofs.GrantedCalls.{granted_calls-pend}
 use Rattle.history_laws.proofs.GrantedEnds.{granted_calls-end_for_cause}
 use Rattle.history_laws.proofs.MadeCalls.{pends-as_made}
+use Rattle.history_laws.proofs.NamingSteps.{namings-end_as_their_steps_say}
 use Rattle.history_laws.proofs.NoneMissed.{nothing-missed}
 use Rattle.history_laws.proofs.NotedTries.{run-changes_noted}
-use Rattle.history_laws.proofs.OpensAllowed.{opens-succeed_where_allowed}
+use Rattle.history_laws.proofs.OpenChecks.{opens-end_as_their_checks_say}
 use Rattle.history_laws.proofs.OpensTell.{opens-tell_what_they_did}
 use Rattle.history_laws.proofs.OplockChanges.{oplocks-change_for_cause}
 use Rattle.history_laws.proofs.PendingStay.{pending-stay}
@@ -95,7 +96,8 @@ throughout script history free differ = record {
   only_holders_release_held_calls = holders-release script.setup history differ;
   other_calls_release_none = others-release_none script.setup history differ;
   caching_is_coherent = run-coherent script.setup history;
-  opens_succeed_where_allowed = opens-succeed_where_allowed script.setup history;
+  opens_end_as_their_checks_say = opens-end_as_their_checks_say script.setup history;
+  renames_and_links_end_as_their_steps_say = namings-end_as_their_steps_say script.setup history;
   opens_tell_what_they_did = opens-tell_what_they_did script.setup history;
   handles_go_when_closed = handles-go_when_closed script.setup history;
   two_handles_differ = handles-differ script.setup history differ;

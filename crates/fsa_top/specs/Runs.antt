@@ -25,7 +25,8 @@ use Rattle.history_laws.specs.HandlesClose.{HandlesGoWhenClosed}
 use Rattle.history_laws.specs.HandlesDiffer.{HandlesDiffer}
 use Rattle.history_laws.specs.Holding.{CalledOffEnd, PendingStay}
 use Rattle.history_laws.specs.LeftOver.{NothingIsLeftOver}
-use Rattle.history_laws.specs.OpensAllowed.{OpensSucceedWhereAllowed}
+use Rattle.history_laws.specs.NamingSteps.{NamingsEndBySteps}
+use Rattle.history_laws.specs.OpenChecks.{OpensEndByChecks}
 use Rattle.history_laws.specs.OpensTell.{OpensTellWhatTheyDid}
 use Rattle.history_laws.specs.OplockChanges.{OplocksChangeForCause}
 use Rattle.history_laws.specs.Releasing.{HoldersRelease, OthersReleaseNone}
@@ -138,7 +139,8 @@ pub record HoldsThroughout (setup : Setup) (history : List HistoryEntry) : Type 
   pub only_holders_release_held_calls : HoldersRelease setup history
   pub other_calls_release_none : OthersReleaseNone setup history
   pub caching_is_coherent : CachingIsCoherent setup history
-  pub opens_succeed_where_allowed : OpensSucceedWhereAllowed setup history
+  pub opens_end_as_their_checks_say : OpensEndByChecks setup history
+  pub renames_and_links_end_as_their_steps_say : NamingsEndBySteps setup history
   pub opens_tell_what_they_did : OpensTellWhatTheyDid setup history
   pub handles_go_when_closed : HandlesGoWhenClosed setup history
   pub two_handles_differ : HoldsOfEachVolume HandlesDiffer setup history

@@ -28,6 +28,7 @@ ghost use Rattle.history_laws.specs.HandlesDiffer.{HandlesDiffer};
 ghost use Rattle.history_laws.specs.Holding.{CalledOffEnd, PendingStay};
 ghost use Rattle.history_laws.specs.Named.{IsReadScript};
 ghost use Rattle.history_laws.specs.LeftOver.{NothingIsLeftOver};
+ghost use Rattle.history_laws.specs.NamingSteps.{NamingsEndBySteps};
 ghost use Rattle.history_laws.specs.OpenChecks.{OpensEndByChecks};
 ghost use Rattle.history_laws.specs.OpensTell.{OpensTellWhatTheyDid};
 ghost use Rattle.history_laws.specs.OplockChanges.{OplocksChangeForCause};
@@ -277,21 +278,36 @@ pub fn opens_tell_what_they_did()
     ensures told { (setup : Setup) (history : List HistoryEntry) → OpensTellWhatTheyDid setup history }
 {}
 
-/// In each try of every history an open ends with the status of the first of its checks that fails (`checks_of`, in their order); where
-/// none fails it ends SUCCESS, OPLOCK_BREAK_IN_PROGRESS or SHARING_VIOLATION, or is held. The checks are, first, of its client, that it
-/// hasn't left; of masks, rights and options, that there are such, that some right is wanted, that options exclude neither each other nor
-/// the disposition, and that DELETE is wanted with DELETE_ON_CLOSE; of the path, that it has no fault, nor a stream part with
-/// DIRECTORY_FILE, and is neither barred nor diverted on the way. Then, of a name that is missing, that the disposition makes it; that it
-/// isn't made READONLY where it is to go at the close; and that its directory grants WRITE_DATA for a file and APPEND_DATA for a
-/// directory. Of one that is there, that it isn't marked for deletion; that what it names has no reparse point, but with
-/// OPEN_REPARSE_POINT, that the disposition isn't `create` where the path names no stream, and that it is of the kind asked for; of a
-/// named stream, that it isn't marked, and there or missing as the disposition has it; that owner and access list grant what is wanted,
-/// with DELETE for `supersede`, and WRITE_DATA for another overwrite and for a named stream that is made; of a READONLY file, that it
-/// isn't opened with WRITE_DATA or APPEND_DATA, overwritten, or given a named stream; that neither the root nor what is READONLY is to go
-/// at the close; and of an overwrite, that it asks for HIDDEN and SYSTEM where the file has them. Of handles and breaks in its way
-/// nothing is said here.
+/// In each try of every history an open is ended by the first of its checks that fails (`checks_of`, in their order), with its reply and
+/// nothing changed; where none fails it ends SUCCESS, OPLOCK_BREAK_IN_PROGRESS or SHARING_VIOLATION, or is held. The checks are: the client
+/// hasn't left; share, options and attributes have no unknown bit, and options exclude neither each other nor the disposition; some right
+/// is wanted, and none that is unknown; DELETE, with DELETE_ON_CLOSE; the path has no fault, nor a stream part with DIRECTORY_FILE, and is
+/// neither barred nor stopped by a reparse point on the way. Of a last name that is missing: the disposition makes it; READONLY isn't asked
+/// for with DELETE_ON_CLOSE; its directory grants WRITE_DATA for a file, APPEND_DATA for a directory. Of one that is there, or the root: it
+/// isn't marked; it has no reparse point, or OPEN_REPARSE_POINT is asked for; the disposition isn't `create`, but for a named stream;
+/// DIRECTORY_FILE asks for no file, and NON_DIRECTORY_FILE, a stream part or an overwrite for no directory; a named stream isn't marked, and
+/// is there or missing as the disposition has it; owner and access list grant what is wanted, with DELETE where `supersede` meets a stream
+/// that is there, and WRITE_DATA for another overwrite or a named stream that is made; a READONLY file isn't opened with WRITE_DATA or
+/// APPEND_DATA, overwritten, or given a named stream; DELETE_ON_CLOSE is asked neither of the root nor of what is READONLY; and an overwrite
+/// asks for each of HIDDEN and SYSTEM that the file has. Of handles and breaks in its way nothing is said here.
 pub fn opens_end_as_their_checks_say()
     ensures checked { (setup : Setup) (history : List HistoryEntry) → OpensEndByChecks setup history }
+{}
+
+/// In each try of every history a rename and a link come to what their steps say (`steps_of_rename`, `steps_of_link`, in their order): the
+/// first check that fails ends them, with its reply and nothing changed; the first breaks for which they have to wait hold them; and where
+/// there are neither, they end SUCCESS and leave oplocks as they were. The checks of both are that the client hasn't left and has the
+/// handle; that the handle's link isn't marked; that the path has no fault, isn't the root's, has no stream part, and is neither barred nor
+/// stopped by a reparse point on the way; and where another file's link has the name or, of a rename, another link, that it isn't marked,
+/// that a replacement is asked for, that neither its file nor the handle's is a directory, that its file isn't READONLY and grants DELETE,
+/// and behind the breaks of oplocks on handles opened by it, that none of these is open. A rename asks too that the handle is neither the
+/// root's nor on a named stream, and has DELETE; that a directory goes neither into itself nor below itself and, behind the breaks below it,
+/// that no handle below it is open; and that another directory grants WRITE_DATA for a file and APPEND_DATA for a directory; last come the
+/// breaks of oplocks on handles opened by the renamed link. A link asks too that the handle is on the default stream of a file, which has
+/// fewer than 1,024 links, and that the directory grants WRITE_DATA; of a link of the file itself that has the name, only that a replacement
+/// is asked for.
+pub fn renames_and_links_end_as_their_steps_say()
+    ensures ended { (setup : Setup) (history : List HistoryEntry) → NamingsEndBySteps setup history }
 {}
 
 /// After each try of every history the handles are those from before, as they were: but for an open, which
