@@ -42,8 +42,9 @@ use Rattle.fsa_model.specs.Tries.{Tried, tries_of}
 use Rattle.fsa_model.specs.Try.{try}
 use Rattle.fsa_model.specs.Volume.{Handle, Link, Volume}
 use Rattle.fsa_model.specs.Waits.{held_by, waits_for}
-use Rattle.fsa_model.specs.Walk.{Walked, Reached, Barred, Diverted, into, last_name, point_of, then_walk, through, walk, walk_from}
+use Rattle.fsa_model.specs.Walk.{Walked, Reached, Barred, Diverted, last_name, point_of, walk}
 use Rattle.fsa_model.specs.Watching.{watch_of, with_watch_begun}
+use Rattle.fsa_model.proofs.FaultStatuses.{BarsWithout, walk-fails}
 use Rattle.fsa_model.proofs.BreakLaws.{with_breaks-rest}
 use Rattle.fsa_model.proofs.CoherenceBreaks.{handles-breaks}
 use Rattle.fsa_model.proofs.FrameOplocks.{try_oplock-frame}
@@ -74,38 +75,6 @@ noted v link action bits stream = elim (option_cases (row_of v.links link)) [
 overwritten : (v : Volume) (link stream : ℕ) (named : Bool) → IsAlike v (with_overwrite_noted v link stream named)
 overwritten v link stream true = noted v link FILE_ACTION_MODIFIED_STREAM stream_overwrite_filters (Some stream)
 overwritten v link stream false = noted v link FILE_ACTION_MODIFIED overwrite_filters None
-
--- what bars a walk is no success of an open
-abbrev pub IsUnopened : Walked → Type 0
-IsUnopened (Barred status) = is_opened status ≡ false
-IsUnopened _ = Unit {0}
-
-through-unopened : (v : Volume) (file next : ℕ) → IsUnopened (through v file next)
-through-unopened v file next = elim (cases_Bool (is_some (point_of v file))) [
-  | inl point ↦ rw point tt
-  | inr none ↦ elim (cases_Bool (is_directory v.files file)) [ inl is ↦ rw (none, is) tt | inr isnt ↦ rw (none, isnt) refl ]
-]
-
-into-unopened : (v : Volume) (dir : ℕ) (name : List ℕ) (next : ℕ) → IsUnopened (into v dir name next)
-into-unopened v dir name next = elim (option_cases (child_of v dir name)) [
-  | inl none ↦ rw none refl
-  | inr link ↦ elim (option_cases (row_of v.links link.0)) [
-    | inl gone ↦ rw (link.1, gone) refl
-    | inr row ↦ elim (cases_Bool row.0.deleted) [ inl is ↦ rw (link.1, row.1, is) refl | inr isnt ↦ rw (link.1, row.1, isnt) (through-unopened v row.0.file next) ]
-  ]
-]
-
-then-unopened : (go_on : ℕ → Walked) (walked : Walked) → ((dir : ℕ) → IsUnopened (go_on dir)) → IsUnopened walked → IsUnopened (then_walk go_on walked)
-then-unopened go_on (Reached dir) on before = on dir
-then-unopened go_on (Barred status) on before = before
-then-unopened go_on (Diverted file next) on before = tt
-
-pub walk-unopened : (v : Volume) (names : List (List ℕ)) (dir place : ℕ) → IsUnopened (walk_from v dir place names)
-walk-unopened v [] dir place = tt
-walk-unopened v (name ∷ names) dir place = elim (cases_Bool (length names == 0)) [
-  | inl last ↦ rw last tt
-  | inr inner ↦ rw inner (then-unopened (λ next. walk_from v next (place + 1) names) (into v dir name (place + 1)) (λ next. walk-unopened v names next (place + 1)) (into-unopened v dir name (place + 1)))
-]
 
 -- ---- opens
 
@@ -354,7 +323,7 @@ module _ (v : Volume) (call : Call) (asked : Asked) (of_client : asked.client �
   unfolding create_walked
   walked (Reached dir) reached = open-if (length (components asked.path) == 0) _ _ (λ root. found 0 1 (rw (reached, root) refl) (rw (reached, root) refl)) (λ below. by_name dir reached below)
   walked (Barred status) reached =
-      (let bars : IsUnopened (walk v (components asked.path)) = walk-unopened v (components asked.path) 1 0 in open-refused v status (rw reached at bars) refl refl)
+      (let bars : BarsWithout is_opened (walk v (components asked.path)) = walk-fails is_opened refl refl v (components asked.path) 1 0 in open-refused v status (rw reached at bars) refl refl)
   walked (Diverted file next) reached = stops file (rest_of asked.path next)
 
   pub creates : OpensSo v call asked (try_create v asked)

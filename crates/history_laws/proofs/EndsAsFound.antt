@@ -42,8 +42,9 @@ use Rattle.fsa_model.specs.Try.{try, try_what}
 use Rattle.fsa_model.specs.Volume.{Handle, Link, Volume}
 use Rattle.fsa_model.specs.Waiting.{has_ended, is_pending, try_wait}
 use Rattle.fsa_model.specs.Waits.{waits_for, held_by}
-use Rattle.fsa_model.specs.Walk.{Walked, Reached, Barred, Diverted, into, last_name, point_of, then_walk, walk, walk_from}
+use Rattle.fsa_model.specs.Walk.{Walked, Reached, Barred, Diverted, last_name, point_of, walk}
 use Rattle.fsa_model.specs.Write.{can_write, try_write, write_at, write_at_place, write_by, write_bytes, write_grown, write_range, write_stream, write_unlocked}
+use Rattle.fsa_model.proofs.FaultStatuses.{BarsWithout, walk-fails}
 use Rattle.fsa_model.proofs.BreakLaws.{with_breaks-rest}
 use Rattle.fsa_model.proofs.SoundWaits.{touched}
 use Rattle.history_laws.specs.EndsAsFound.{CallsEndAsFound, EndsAsFound, may_end_as_found, place_of}
@@ -253,37 +254,10 @@ wait v client number =
 
 -- ---- opens
 
--- a walk is barred by one of two statuses, with which any open may end
-abbrev BarsSo : Volume → ℕ → Asked → Walked → Type 0
-BarsSo v client asked (Barred status) = may_end_as_found v client (opens_so asked) status ≡ true
-BarsSo v client asked _ = Unit {0}
-
 module _ (v : Volume) (client : ℕ) (asked : Asked) where
-  bars-if : (test : Bool) (one other : Walked) → BarsSo v client asked one → BarsSo v client asked other → BarsSo v client asked (if test then one else other)
-  bars-if true one other holds fails = holds
-  bars-if false one other holds fails = fails
-
-  bars-option : {X : Type 0} (found : Option X) (some : X → Walked) (none : Walked) → ((x : X) → BarsSo v client asked (some x)) → BarsSo v client asked none
-      → BarsSo v client asked (option_map_or some found none)
-  bars-option None some none with_some with_none = with_none
-  bars-option (Some x) some none with_some with_none = with_some x
-
-  bars-then : (go_on : ℕ → Walked) (walked : Walked) → ((dir : ℕ) → BarsSo v client asked (go_on dir)) → BarsSo v client asked walked
-      → BarsSo v client asked (then_walk go_on walked)
-  bars-then go_on (Reached dir) on before = on dir
-  bars-then go_on (Barred status) on before = before
-  bars-then go_on (Diverted file next) on before = tt
-
-  bars-into : (dir : ℕ) (name : List ℕ) (next : ℕ) → BarsSo v client asked (into v dir name next)
-  bars-into dir name next =
-      bars-option (child_of v dir name) _ _ (λ link. bars-option (row_of v.links link) _ _ (λ (row : Link). bars-if row.deleted _ _ refl
-      (bars-if (is_some (point_of v row.file)) _ _ tt (bars-if (is_directory v.files row.file) _ _ tt refl))) refl) refl
-
-  bars-walk : (names : List (List ℕ)) (dir place : ℕ) → BarsSo v client asked (walk_from v dir place names)
-  bars-walk [] dir place = tt
-  bars-walk (name ∷ names) dir place =
-      bars-if (length names == 0) _ _ tt (bars-then (λ next. walk_from v next (place + 1) names) (into v dir name (place + 1))
-      (λ next. bars-walk names next (place + 1)) (bars-into dir name (place + 1)))
+  -- a walk is barred with a status with which any open may end
+  abbrev may_not_end : Status → Bool
+  may_not_end status = not (may_end_as_found v client (opens_so asked) status)
 
   -- it is opened as it is
   existing : (link : ℕ) (stream : Option ℕ) (on : HandleSet) → set_of_path v asked.path ≡ Some on → clashes v asked on ≡ false → overwrites asked.disposition ≡ false
@@ -375,7 +349,9 @@ module _ (v : Volume) (client : ℕ) (asked : Asked) where
   walked : (way : Walked) → walk v (components asked.path) ≡ way → Ends v client (opens_so asked) (create_walked v asked way)
   unfolding create_walked
   walked (Reached dir) reached = ends-if (length (components asked.path) == 0) _ _ (λ root. found 0 1 (rw (reached, root) refl)) (λ below. by_name dir reached below)
-  walked (Barred status) reached = ends-done (subst (λ (way : Walked). BarsSo v client asked way) reached (bars-walk (components asked.path) 1 0))
+  walked (Barred status) reached =
+      (let bars : BarsWithout may_not_end (walk v (components asked.path)) = walk-fails may_not_end refl refl v (components asked.path) 1 0 in
+      ends-done (not-false (may_end_as_found v client (opens_so asked) status) (rw reached at bars)))
   walked (Diverted file next) reached = stops file (rest_of asked.path next)
 
   opens : Ends v client (opens_so asked) (try_create v asked)

@@ -36,6 +36,7 @@ pub mod KeptHandles
 pub mod KeptOwn
 pub mod LeavingLaws
 pub mod MadeCalls
+pub mod NamingSteps
 pub mod NextLaws
 pub mod NoneBefore
 pub mod NoneMissed
@@ -107,6 +108,7 @@ pub mod TriesByBreaks
 pub mod TurnBlockers
 pub mod TurnByTurn
 pub mod TurnTargets
+pub mod UnawaitedBreaks
 pub mod UnreadyStay
 pub mod WaitRuns
 pub mod WaitedFor

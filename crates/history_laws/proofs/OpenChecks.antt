@@ -1,11 +1,12 @@
 -- Each open ends as its checks say: the definitions of the open are followed check by check, beside the list of checks. Where one fails,
 -- the open is refused with its reply; where it passes, the rest of the list goes with the rest of the open. Checks with one status that the
 -- definition joins are taken one by one.
-use Rattle.std.proofs.Common.{◌≡◌, ℕ, Bool, true, false, ◌+◌, ◌==◌, ◌&&◌, ◌||◌, not, List, [], ◌∷◌, length, get_or, refl, inl, inr, Option, Some, None}
+use Rattle.std.proofs.Common.{◌≡◌, ℕ, Bool, true, false, ◌==◌, ◌&&◌, ◌||◌, not, List, [], ◌∷◌, length, get_or, refl, inl, inr, Option, Some, None}
 use Rattle.std.specs.Int.RustNames.{bit_or}
 use Rattle.std.specs.Option.{option_map_or}
 use Rattle.std.specs.Prelude.{if◌then◌else◌, is_some, unwrap_or}
 use Rattle.std.proofs.lemmas.Bool.{cases_Bool}
+use Rattle.fsa_model.proofs.FaultStatuses.{BarsWithout, walk-fails}
 use Rattle.fsa_model.proofs.RowLaws.{option_cases}
 use Rattle.fsa_types.specs.Access.{has_any, has_other}
 use Rattle.fsa_types.specs.Masks.{APPEND_DATA, IO_REPARSE_TAG_SYMLINK, READONLY, WRITE_DATA, known_attributes, known_options, known_rights, known_shares}
@@ -30,7 +31,7 @@ use Rattle.fsa_model.specs.Setup.{Setup}
 use Rattle.fsa_model.specs.Tries.{Tried, tries_of}
 use Rattle.fsa_model.specs.Try.{try}
 use Rattle.fsa_model.specs.Volume.{Link, Volume}
-use Rattle.fsa_model.specs.Walk.{Walked, Reached, Barred, Diverted, into, last_name, point_of, then_walk, through, walk, walk_from}
+use Rattle.fsa_model.specs.Walk.{Walked, Reached, Barred, Diverted, last_name, point_of, walk}
 use Rattle.history_laws.specs.OpenChecks.{Check, EndsBy, OpenEndsByChecks, OpensEndByChecks, checks_of, checks_of_directory, checks_of_found, checks_of_link, checks_of_missing, checks_of_new_stream, checks_of_stream, checks_of_walked, first_failing, is_behind_checks, is_for_named, is_overwriting, makes_missing, overwriting_right, stopped_by, takes_existing, with_status}
 
 -- ---- tables
@@ -75,40 +76,6 @@ part-as (Some name) = refl
 
 named-as : (asked : Asked) → is_for_named asked ≡ names_stream asked.path
 named-as asked = part-as (stream_part asked.path)
-
--- ---- walks
-
--- a walk is barred with no status that there is behind the checks
-abbrev IsBarredSo : Walked → Type 0
-IsBarredSo (Barred status) = is_behind_checks status ≡ false
-IsBarredSo _ = Unit {0}
-
-through-barred : (v : Volume) (file next : ℕ) → IsBarredSo (through v file next)
-through-barred v file next = elim (cases_Bool (is_some (point_of v file))) [
-  | inl point ↦ rw point tt
-  | inr none ↦ elim (cases_Bool (is_directory v.files file)) [ inl is ↦ rw (none, is) tt | inr isnt ↦ rw (none, isnt) refl ]
-]
-
-into-barred : (v : Volume) (dir : ℕ) (name : List ℕ) (next : ℕ) → IsBarredSo (into v dir name next)
-into-barred v dir name next = elim (option_cases (child_of v dir name)) [
-  | inl none ↦ rw none refl
-  | inr link ↦ elim (option_cases (row_of v.links link.0)) [
-    | inl gone ↦ rw (link.1, gone) refl
-    | inr row ↦ elim (cases_Bool row.0.deleted) [ inl is ↦ rw (link.1, row.1, is) refl | inr isnt ↦ rw (link.1, row.1, isnt) (through-barred v row.0.file next) ]
-  ]
-]
-
-then-barred : (go_on : ℕ → Walked) (walked : Walked) → ((dir : ℕ) → IsBarredSo (go_on dir)) → IsBarredSo walked → IsBarredSo (then_walk go_on walked)
-then-barred go_on (Reached dir) on before = on dir
-then-barred go_on (Barred status) on before = before
-then-barred go_on (Diverted file next) on before = tt
-
-walk-barred : (v : Volume) (names : List (List ℕ)) (dir place : ℕ) → IsBarredSo (walk_from v dir place names)
-walk-barred v [] dir place = tt
-walk-barred v (name ∷ names) dir place = elim (cases_Bool (length names == 0)) [
-  | inl last ↦ rw last tt
-  | inr inner ↦ rw inner (then-barred (λ next. walk_from v next (place + 1) names) (into v dir name (place + 1)) (λ next. walk-barred v names next (place + 1)) (into-barred v dir name (place + 1)))
-]
 
 -- ---- claims
 
@@ -291,7 +258,7 @@ module _ (v : Volume) (asked : Asked) where
       by-option v _ (child_of v dir (last_name (components asked.path))) _ _ (λ link is. by-as v _ _ _ (rw (below, is) refl) (by_link link))
       (λ none. by-as v _ _ _ (rw (below, none) refl) (made dir (last_name (components asked.path))))
 
-  walked : (way : Walked) → IsBarredSo way → By v (first_failing (checks_of_walked v asked way)) (create_walked v asked way)
+  walked : (way : Walked) → BarsWithout is_behind_checks way → By v (first_failing (checks_of_walked v asked way)) (create_walked v asked way)
   unfolding create_walked
   walked (Reached dir) barred =
       by-if v _ (length (components asked.path) == 0) _ _ (λ root. by-as v _ _ _ (rw root refl) (found 0 1)) (λ below. by_name dir below)
@@ -321,7 +288,7 @@ module _ (v : Volume) (asked : Asked) where
       by-split v _ (asked.wanted == 0) (has_other asked.wanted known_rights) _ _ (by-check v (asked.wanted == 0) _ _ _ refl (λ some. by-check v (has_other asked.wanted known_rights) _ _ _ refl
       (λ known. by-check v (lacks_delete asked) _ _ _ refl (λ deletes. by-check v (is_some (path_fault asked.path)) _ _ _ refl
       (λ formed. by-check v (opens.has_stream_part asked.path && wants_directory asked) _ _ _ refl
-      (λ plain. walked (walk v (components asked.path)) (walk-barred v (components asked.path) 1 0))))))))))))))))))
+      (λ plain. walked (walk v (components asked.path)) (walk-fails is_behind_checks refl refl v (components asked.path) 1 0))))))))))))))))))
 
 -- ---- each try
 

@@ -33,10 +33,10 @@ use Rattle.fsa_model.specs.Tries.{Tried, tries_of}
 use Rattle.fsa_model.specs.Try.{try}
 use Rattle.fsa_model.specs.Volume.{Link, Volume}
 use Rattle.fsa_model.specs.Walk.{Walked, Reached, Barred, Diverted, last_name, point_of, walk}
+use Rattle.fsa_model.proofs.FaultStatuses.{BarsWithout, walk-fails}
 use Rattle.fsa_model.proofs.RowLaws.{option_cases}
 use Rattle.history_laws.specs.AsAsked.{is_opened}
 use Rattle.history_laws.specs.OpensTell.{OpensTellWhatTheyDid, TellsAction, TellsWhatItDid, may_tell}
-use Rattle.history_laws.proofs.AsAsked.{IsUnopened, walk-unopened}
 
 -- ---- what a disposition lets an open tell
 
@@ -259,7 +259,7 @@ module _ (v : Volume) (asked : Asked) where
       tells-if (length (components asked.path) == 0) _ _ (λ root. found 0 1 (rw (reached, root) refl))
       (λ below. by_name dir reached below)
   walked (Barred status) reached =
-      (let bars : IsUnopened (walk v (components asked.path)) = walk-unopened v (components asked.path) 1 0 in tells-refused v status (rw reached at bars))
+      (let bars : BarsWithout is_opened (walk v (components asked.path)) = walk-fails is_opened refl refl v (components asked.path) 1 0 in tells-refused v status (rw reached at bars))
   walked (Diverted file next) reached = stops file (rest_of asked.path next)
 
   create-tells : TellsSo v asked (try_create v asked)
