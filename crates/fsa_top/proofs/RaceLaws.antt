@@ -14,6 +14,7 @@ use Rattle.history_laws.specs.Races.{NoneMadeWaiting, Whole}
 use Rattle.history_laws.proofs.AsAsked.{opens-and_locks_as_asked}
 use Rattle.history_laws.proofs.AsToldCalls.{left-as_told}
 use Rattle.history_laws.proofs.AsTried.{calls-pend_as_tried}
+use Rattle.history_laws.proofs.CallChecks.{calls-end_as_their_checks_say}
 use Rattle.history_laws.proofs.CalledOff.{called_off-end}
 use Rattle.history_laws.proofs.EndsAsFound.{calls-end_as_found}
 use Rattle.history_laws.proofs.GrantedCalls.{granted_calls-pend}
@@ -96,6 +97,7 @@ throughout script history free differ = record {
   only_holders_release_held_calls = holders-release script.setup history differ;
   other_calls_release_none = others-release_none script.setup history differ;
   caching_is_coherent = run-coherent script.setup history;
+  calls_end_as_their_checks_say = calls-end_as_their_checks_say script.setup history;
   opens_end_as_their_checks_say = opens-end_as_their_checks_say script.setup history;
   renames_and_links_end_as_their_steps_say = namings-end_as_their_steps_say script.setup history;
   opens_tell_what_they_did = opens-tell_what_they_did script.setup history;

@@ -17,6 +17,7 @@ use Rattle.history_laws.specs.AsAsked.{OpensAndLocksAsAsked}
 use Rattle.history_laws.specs.AsMade.{PendsAsMade}
 use Rattle.history_laws.specs.AsTried.{CallsPendAsTried}
 use Rattle.history_laws.specs.Awaited.{NothingIsMissed}
+use Rattle.history_laws.specs.CallChecks.{CallsEndByChecks}
 use Rattle.history_laws.specs.EachVolume.{HoldsOfEachVolume}
 use Rattle.history_laws.specs.EndsAsFound.{CallsEndAsFound}
 use Rattle.history_laws.specs.GrantedEnds.{GrantedCallsEndForCause}
@@ -139,6 +140,7 @@ pub record HoldsThroughout (setup : Setup) (history : List HistoryEntry) : Type 
   pub only_holders_release_held_calls : HoldersRelease setup history
   pub other_calls_release_none : OthersReleaseNone setup history
   pub caching_is_coherent : CachingIsCoherent setup history
+  pub calls_end_as_their_checks_say : CallsEndByChecks setup history
   pub opens_end_as_their_checks_say : OpensEndByChecks setup history
   pub renames_and_links_end_as_their_steps_say : NamingsEndBySteps setup history
   pub opens_tell_what_they_did : OpensTellWhatTheyDid setup history

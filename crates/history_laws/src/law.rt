@@ -19,6 +19,7 @@ ghost use Rattle.history_laws.specs.AsAsked.{OpensAndLocksAsAsked};
 ghost use Rattle.history_laws.specs.AsMade.{PendsAsMade};
 ghost use Rattle.history_laws.specs.AsTried.{CallsPendAsTried};
 ghost use Rattle.history_laws.specs.Awaited.{NothingIsMissed};
+ghost use Rattle.history_laws.specs.CallChecks.{CallsEndByChecks};
 ghost use Rattle.history_laws.specs.EachVolume.{HoldsOfEachVolume};
 ghost use Rattle.history_laws.specs.EndsAsFound.{CallsEndAsFound};
 ghost use Rattle.history_laws.specs.GrantedEnds.{GrantedCallsEndForCause};
@@ -276,6 +277,17 @@ pub fn opens_and_locks_leave_what_was_asked()
 /// overwrite on what was missing. Beside breaks it tells only that it opened.
 pub fn opens_tell_what_they_did()
     ensures told { (setup : Setup) (history : List HistoryEntry) → OpensTellWhatTheyDid setup history }
+{}
+
+/// In each try of every history a call but an open, a rename and a link, which have laws of their own, is ended by the first of its checks
+/// that fails (`checks_of_call`, in their order), with its status and nothing changed. Where none fails it ends with another status, of
+/// those that there are behind the checks of such a call (`may_end_behind`), or is held or stays pending, as such a call may (`may_be_held`,
+/// `may_stay`). Behind its checks a new length ends by whether the stream may be so long, and a query of a reparse point by whether its
+/// buffer has room; of most others, without a break or a lock in their way, there is only SUCCESS. The checks are of the client, that it
+/// hasn't left, and of the handle, that it is there; then, as the request has it, of what the handle is on, the rights that it was granted,
+/// the ranges, buffers, masks and times that are asked, marks, links and points that are there, and limits.
+pub fn calls_end_as_their_checks_say()
+    ensures checked { (setup : Setup) (history : List HistoryEntry) → CallsEndByChecks setup history }
 {}
 
 /// In each try of every history an open is ended by the first of its checks that fails (`checks_of`, in their order), with its reply and
