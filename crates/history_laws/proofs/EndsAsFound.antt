@@ -170,7 +170,7 @@ fault-cases false true full = inr (inl refl)
 fault-cases false false true = inr (inr refl)
 fault-cases false false false = inl refl
 
-growth-cases : (v : Volume) (stream bytes : ℕ) → (growth_fault v stream bytes ≡ None) ⊎ (growth_fault v stream bytes ≡ Some QuotaExceeded) ⊎ (growth_fault v stream bytes ≡ Some DiskFull)
+pub growth-cases : (v : Volume) (stream bytes : ℕ) → (growth_fault v stream bytes ≡ None) ⊎ (growth_fault v stream bytes ≡ Some QuotaExceeded) ⊎ (growth_fault v stream bytes ≡ Some DiskFull)
 growth-cases v stream bytes = fault-cases _ _ _
 
 -- so does a write, and then by the room that there is

@@ -12,6 +12,7 @@ pub mod BackedCloses
 pub mod BackedTries
 pub mod BrokenGrants
 pub mod ByBreaks
+pub mod CallChecks
 pub mod CalledOff
 pub mod CallsApart
 pub mod CallsOfRuns

@@ -82,7 +82,7 @@ module _ {directory : Bool} {what : What} {v : Volume} where
 ruleset going = (early-if, early-option, early-same, early-held, early-listed, refl)
 
 -- why a stream can't grow
-growth-such : {such : Status → Bool} (w : Volume) (stream bytes : ℕ) → such QuotaExceeded ≡ true → such DiskFull ≡ true → Gives such (growth_fault w stream bytes)
+pub growth-such : {such : Status → Bool} (w : Volume) (stream bytes : ℕ) → such QuotaExceeded ≡ true → such DiskFull ≡ true → Gives such (growth_fault w stream bytes)
 growth-such w stream bytes quota full = search (giving, quota, full)
 
 -- ---- reads, writes, new lengths, locks and marks for deletion

@@ -27,4 +27,5 @@ pub mod EachVolume
 pub mod WellFormed
 pub mod OpensTell
 pub mod OpenChecks
+pub mod CallChecks
 pub mod NamingSteps
