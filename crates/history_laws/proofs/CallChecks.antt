@@ -3,7 +3,7 @@
 -- list goes with the rest of the definition. Checks with one status that the definition joins are taken one by one. Behind the last check
 -- each end has a status that there is for such a call. In a sound volume the link of a handle has a row, so that there is a file by it; and
 -- what a call breaks leaves streams as they were, so that a new length finds the room that there was before.
-use Rattle.std.proofs.Common.{◌≡◌, ℕ, ◌^◌, Bool, arith, sym, true, false, ◌+◌, ◌==◌, ◌&&◌, ◌||◌, not, List, [], ◌∷◌, length, get_or, refl, inl, inr, subst, Option, Some, None}
+use Rattle.std.proofs.Common.{◌≡◌, ℕ, ◌^◌, Bool, arith, sym, true, false, ◌+◌, ◌==◌, ◌&&◌, ◌||◌, not, List, [], ◌∷◌, length, get_or, refl, ap, ◌∙◌, inl, inr, subst, Option, Some, None}
 use Rattle.std.specs.List.{find, list_any}
 use Rattle.std.specs.Option.{option_map_or}
 use Rattle.std.specs.Prelude.{if◌then◌else◌, is_none, is_some, nat_le, nat_lt, unwrap_or}
@@ -74,7 +74,7 @@ use Rattle.fsa_model.proofs.FaultStatuses.{Gives}
 use Rattle.fsa_model.proofs.RowLaws.{find-none, option_cases, row_of-all}
 use Rattle.fsa_model.proofs.SettleLaws.{some_equal}
 use Rattle.fsa_model.proofs.SoundWaits.{touched}
-use Rattle.history_laws.specs.CallChecks.{CallEndsByChecks, CallsEndByChecks, ComesToFirst, checks_asked, checks_by_handle, checks_of_ack, checks_of_call, checks_of_delete_reparse, checks_of_flush, checks_of_get_reparse, checks_of_lock, checks_of_notify, checks_of_oplock, checks_of_query_dir, checks_of_query_info, checks_of_read, checks_of_set_basic, checks_of_set_disposition, checks_of_set_end, checks_of_set_reparse, checks_of_set_security, checks_of_unlock, checks_of_write, fails_with, file_by, is_any_locked, is_change, is_other_open, is_own_oplock, is_time, lacks, lacks_both, least_room, may_be_held, may_end_behind, may_stay, needs_attributes_right, some_oplock}
+use Rattle.history_laws.specs.CallChecks.{CallEndsByChecks, CallsEndByChecks, ComesToFirst, begins_anew, checks_asked, checks_by_handle, checks_of_ack, checks_of_call, checks_of_delete_reparse, checks_of_flush, checks_of_get_reparse, checks_of_lock, checks_of_notify, checks_of_oplock, checks_of_query_dir, checks_of_query_info, checks_of_read, checks_of_set_basic, checks_of_set_disposition, checks_of_set_end, checks_of_set_reparse, checks_of_set_security, checks_of_unlock, checks_of_write, fails_with, file_by, is_any_locked, is_change, is_other_open, is_own_oplock, is_time, lacks, lacks_both, least_room, may_be_held, may_end_behind, may_stay, needs_attributes_right, some_oplock}
 use Rattle.history_laws.specs.OpenChecks.{Check, first_failing, with_status}
 use Rattle.history_laws.proofs.EndsAsFound.{growth-cases}
 use Rattle.history_laws.proofs.NoneBefore.{growth-such}
@@ -286,10 +286,10 @@ keeps-read : (level target : Level) → has_read (in_both level target) ≡ true
 keeps-read Nil target reads = cc
 keeps-read _ target reads = refl
 
--- an enumeration that doesn't stand at its start isn't begun anew
-starts-anew : (handle : Handle) (expression : List ℕ) (restart : Bool) → is_start (begun_enumeration handle expression restart).1 ≡ false → not restart ≡ true
-starts-anew handle expression true later = cc
-starts-anew handle expression false later = refl
+-- the cursor is at the start exactly where the listing begins anew
+starts-anew : (handle : Handle) (expression : List ℕ) (restart : Bool) → is_start (begun_enumeration handle expression restart).1 ≡ begins_anew handle restart
+starts-anew handle expression true = refl
+starts-anew handle expression false = elim (option_cases handle.enumeration) [ inl none ↦ rw none refl | inr kept ↦ rw kept.1 refl ]
 
 -- a row passes where its number is found
 row-found : {R : Type 0} (test : R → Bool) (rows : List (ℕ × R)) → has_row test rows ≡ is_some (number_of test rows)
@@ -423,11 +423,16 @@ module _ (v : Volume) (client number : ℕ) where
 
 module _ (v : Volume) (client number : ℕ) where
   -- nothing is left, or the first entry doesn't fit, or some are given
-  entries : (id : ℕ) (kind : DirKind) (expression asked : List ℕ) (cursor : Cursor) (found : List DirectoryEntry) (restart : Bool) (room : ℕ) → (is_start cursor ≡ false → not restart ≡ true)
+  entries : (id : ℕ) (handle : Handle) (kind : DirKind) (expression asked : List ℕ) (cursor : Cursor) (found : List DirectoryEntry) (restart : Bool) (room : ℕ)
+      → handle_of v client number ≡ Some id → row_of v.handles id ≡ Some handle → is_start cursor ≡ begins_anew handle restart
       → By v client (Ask (request.QueryDir number kind asked restart room)) None (list_entries v id kind expression cursor found room)
   unfolding list_entries
-  entries id kind expression asked cursor found restart room anew =
-      behind-if (length found == 0) _ _ (elim (cases_Bool (is_start cursor)) [ inl start ↦ rw start (behind-done refl) | inr later ↦ rw later (behind-done (anew later)) ])
+  entries id handle kind expression asked cursor found restart room named row anew =
+      behind-if (length found == 0) _ _
+      (elim (cases_Bool (is_start cursor)) [
+        | inl start ↦ rw start (behind-done (rw (named, row) (sym anew ∙ start)))
+        | inr later ↦ rw later (behind-done (rw (named, row) (ap not (sym anew ∙ later))))
+      ])
       (search behind depth 20)
 
   query_dir : (kind : DirKind) (expression : List ℕ) (restart : Bool) (room : ℕ) → IsSoundTree v
@@ -436,7 +441,7 @@ module _ (v : Volume) (client number : ℕ) where
   unfolding try_query_dir query_dir_at query_dir_by query_dir_in
   query_dir kind expression restart room sound = by-handle number _ _ (λ id handle named row. by-check (is_some handle.stream) _ _ _ refl (by-check (lacks handle READ_DATA) _ _ _ refl
       (by-check (is_refused expression) _ _ _ refl (by-check (nat_lt room (head_size (pack_kind kind))) _ None _ refl
-      (by-this _ (file_by v handle) _ _ _ (is-by v id handle sound row) (entries id kind _ expression _ _ restart room (starts-anew handle expression restart)))))))
+      (by-this _ (file_by v handle) _ _ _ (is-by v id handle sound row) (entries id handle kind _ expression _ _ restart room named row (starts-anew handle expression restart)))))))
 
   -- what is due is reported, or the directory is to be listed
   noticed : (w : Volume) (id filter : ℕ) (whole : Bool) (room : ℕ) → By v client (Ask (request.Notify number filter whole room)) None (notify_due w id room)

@@ -42,6 +42,7 @@ use Rattle.fsa_model.specs.History.{HistoryEntry}
 use Rattle.fsa_model.specs.Locked.{locks_on}
 use Rattle.fsa_model.specs.Lookups.{bytes_of, handle_of, has_left, has_row, is_directory, is_link_marked, linked_file, number_of, owner_of, sids_of}
 use Rattle.fsa_model.specs.Outcome.{Outcome, Done, Stay, Hold}
+use Rattle.fsa_model.specs.QueryDir.{is_start}
 use Rattle.fsa_model.specs.Setup.{Setup}
 use Rattle.fsa_model.specs.Tries.{Tried, tries_of}
 use Rattle.fsa_model.specs.Try.{try}
@@ -116,7 +117,7 @@ checks_of_unlock v id handle at count =
 
 -- ---- oplocks
 
--- the oplock's handle is on this stream; and it is of this handle, or of one with its key
+-- the oplock's handle is on this stream; and it is of this handle, or of one with its key, which isn't 0 then
 abbrev pub is_on_stream : Volume → ℕ → Oplock → Bool
 is_on_stream v stream oplock = option_map_or (λ row. option_map_or (λ on. on == stream) row.stream false) (row_of v.handles oplock.handle) false
 
@@ -332,6 +333,10 @@ abbrev pub is_growth_status : Volume → ℕ → ℕ → ℕ → Status → Bool
 is_growth_status v client number end status =
     by_number v client number (λ handle. option_map_or (λ stream. status_code (unwrap_or (growth_fault v stream end) Success) == status_code status) handle.stream false)
 
+-- a listing begins anew: it is asked to, or by the handle nothing was listed yet
+abbrev pub begins_anew : Handle → Bool → Bool
+begins_anew handle restart = restart || option_map_or (λ kept. is_start kept.1) handle.enumeration true
+
 -- with which statuses such a call may end behind its checks; one for an oplock never does, but stays pending
 abbrev pub may_end_behind : Volume → ℕ → What → Status → Bool
 may_end_behind v client (Ask (request.Read number at count)) EndOfFile = not (count == 0)
@@ -343,8 +348,8 @@ may_end_behind v client (Ask (request.SetEnd number end)) Success = is_growth_st
 may_end_behind v client (Ask (request.SetEnd number end)) QuotaExceeded = is_growth_status v client number end QuotaExceeded
 may_end_behind v client (Ask (request.SetEnd number end)) DiskFull = is_growth_status v client number end DiskFull
 may_end_behind v client (Ask (request.Lock number at count exclusive wait)) LockNotGranted = not wait
-may_end_behind v client (Ask (request.QueryDir number kind expression restart room)) NoSuchFile = true
-may_end_behind v client (Ask (request.QueryDir number kind expression restart room)) NoMoreFiles = not restart
+may_end_behind v client (Ask (request.QueryDir number kind expression restart room)) NoSuchFile = by_number v client number (λ handle. begins_anew handle restart)
+may_end_behind v client (Ask (request.QueryDir number kind expression restart room)) NoMoreFiles = by_number v client number (λ handle. not (begins_anew handle restart))
 may_end_behind v client (Ask (request.QueryDir number kind expression restart room)) BufferOverflow = true
 may_end_behind v client (Ask (request.QueryInfo number Streams room)) BufferOverflow = by_number v client number (λ handle. is_some handle.stream)
 may_end_behind v client (Ask (request.Notify number filter tree room)) NotifyEnumDir = true
