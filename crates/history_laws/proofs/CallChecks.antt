@@ -74,7 +74,7 @@ use Rattle.fsa_model.proofs.FaultStatuses.{Gives}
 use Rattle.fsa_model.proofs.RowLaws.{find-none, option_cases, row_of-all}
 use Rattle.fsa_model.proofs.SettleLaws.{some_equal}
 use Rattle.fsa_model.proofs.SoundWaits.{touched}
-use Rattle.history_laws.specs.CallChecks.{CallEndsByChecks, CallsEndByChecks, ComesToFirst, begins_anew, checks_asked, checks_by_handle, checks_of_ack, checks_of_call, checks_of_delete_reparse, checks_of_flush, checks_of_get_reparse, checks_of_lock, checks_of_notify, checks_of_oplock, checks_of_query_dir, checks_of_query_info, checks_of_read, checks_of_set_basic, checks_of_set_disposition, checks_of_set_end, checks_of_set_reparse, checks_of_set_security, checks_of_unlock, checks_of_write, fails_with, file_by, is_any_locked, is_change, is_other_open, is_own_oplock, is_time, lacks, lacks_both, least_room, may_be_held, may_end_behind, may_stay, needs_attributes_right, some_oplock}
+use Rattle.history_laws.specs.CallChecks.{CallEndsByChecks, CallsEndByChecks, ComesToFirst, is_at_start, checks_asked, checks_by_handle, checks_of_ack, checks_of_call, checks_of_delete_reparse, checks_of_flush, checks_of_get_reparse, checks_of_lock, checks_of_notify, checks_of_oplock, checks_of_query_dir, checks_of_query_info, checks_of_read, checks_of_set_basic, checks_of_set_disposition, checks_of_set_end, checks_of_set_reparse, checks_of_set_security, checks_of_unlock, checks_of_write, fails_with, file_by, is_any_locked, is_change, is_other_open, is_own_oplock, is_time, lacks, lacks_both, least_room, may_be_held, may_end_behind, may_stay, needs_attributes_right, some_oplock}
 use Rattle.history_laws.specs.OpenChecks.{Check, first_failing, with_status}
 use Rattle.history_laws.proofs.EndsAsFound.{growth-cases}
 use Rattle.history_laws.proofs.NoneBefore.{growth-such}
@@ -286,8 +286,8 @@ keeps-read : (level target : Level) → has_read (in_both level target) ≡ true
 keeps-read Nil target reads = cc
 keeps-read _ target reads = refl
 
--- the cursor is at the start exactly where the listing begins anew
-starts-anew : (handle : Handle) (expression : List ℕ) (restart : Bool) → is_start (begun_enumeration handle expression restart).1 ≡ begins_anew handle restart
+-- the cursor is at the start exactly where the listing is
+starts-anew : (handle : Handle) (expression : List ℕ) (restart : Bool) → is_start (begun_enumeration handle expression restart).1 ≡ is_at_start handle restart
 starts-anew handle expression true = refl
 starts-anew handle expression false = elim (option_cases handle.enumeration) [ inl none ↦ rw none refl | inr kept ↦ rw kept.1 refl ]
 
@@ -424,7 +424,7 @@ module _ (v : Volume) (client number : ℕ) where
 module _ (v : Volume) (client number : ℕ) where
   -- nothing is left, or the first entry doesn't fit, or some are given
   entries : (id : ℕ) (handle : Handle) (kind : DirKind) (expression asked : List ℕ) (cursor : Cursor) (found : List DirectoryEntry) (restart : Bool) (room : ℕ)
-      → handle_of v client number ≡ Some id → row_of v.handles id ≡ Some handle → is_start cursor ≡ begins_anew handle restart
+      → handle_of v client number ≡ Some id → row_of v.handles id ≡ Some handle → is_start cursor ≡ is_at_start handle restart
       → By v client (Ask (request.QueryDir number kind asked restart room)) None (list_entries v id kind expression cursor found room)
   unfolding list_entries
   entries id handle kind expression asked cursor found restart room named row anew =

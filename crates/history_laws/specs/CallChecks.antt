@@ -1,13 +1,13 @@
--- The checks of each call in order, but of opens, renames and links (`OpenChecks`, `NamingSteps`), and that each try comes to what they say:
--- the first that fails ends it, with its status and nothing changed; where none fails, it ends with another status, of those that there are
--- behind the checks of such a call, or is held or stays pending, as such a call may. Comments say what has to hold; a table has when it
--- doesn't, and the status then. What locks in the way and room for a write answer stands in `EndsAsFound`, breaks in `OplockChanges` and
--- `WhyPending`, changes of the tree in `TreeChanges`; what is listed, shown or doesn't fit, and the bodies of replies, are the definitions'
--- alone. From these it takes look-ups, masks, which expressions and buffers are right, how much room entries need, charges, growth, and
--- which calls have ended or are pending. After [MS-FSA], the section of each request. This project's own are the order of the checks, all
--- of a flush, the right of a lock, what a read or a write of a directory ends with, which attributes there are, that an owner has to be the
--- client's, that the root has no reparse point and that a point's tag has Microsoft's bit, that SID 0 sets limits, why an oplock isn't
--- granted, and waits, ticks and leaving.
+-- The checks of each call in order, but of opens, renames and links (`OpenChecks`, `NamingSteps`), and that each try comes to what they say: the
+-- first that fails ends it, with its status and nothing changed; where none fails, it ends with another status, of those that there are behind
+-- the checks of such a call, or is held or stays pending, as such a call may. Comments say what has to hold, tables when it fails, and with which
+-- status. Locks in the way and a write's room are in `EndsAsFound`, breaks in `OplockChanges` and `WhyPending`, changes of the tree in
+-- `TreeChanges`; what is listed, shown or doesn't fit, and the bodies of replies, are the definitions' alone. From them the tables take look-ups,
+-- masks, which expressions and buffers are right, how much room entries need, which keys are the same and how levels compare, charges and limits,
+-- growth, and which calls have ended or are pending. After [MS-FSA], the section of each request. This project's own are the order of the checks,
+-- all of a flush, the right of a lock, what a read or a write of a directory ends with, which attributes there are, that an owner has to be the
+-- client's, that the root has no reparse point and that a point's tag has Microsoft's bit, that SID 0 sets limits, why an oplock isn't granted,
+-- and `wait`, `tick` and `leave`, which the standard doesn't have.
 use Rattle.std.specs.List.{list_any}
 use Rattle.std.specs.Option.{option_map_or}
 use Rattle.std.specs.Prelude.{◌≡◌, ◌+◌, ◌-◌, ◌^◌, ◌==◌, ◌&&◌, ◌||◌, not, nat_lt, ℕ, Bool, true, false, List, [], ◌∷◌, length, All, Option, Some, None, is_some, unwrap_or, if◌then◌else◌}
@@ -58,7 +58,7 @@ use Rattle.history_laws.specs.OplockChanges.{handle_numbered}
 abbrev pub fails_with : Status → List Check
 fails_with status = (true, with_status status) ∷ []
 
--- the client has a handle of this number, and then those by that handle; each number that is found has a row
+-- the client has a handle of this number, and then those by that handle (each has a row, as the tree is sound)
 abbrev pub checks_by_handle : Volume → ℕ → ℕ → (ℕ → Handle → List Check) → List Check
 checks_by_handle v client number by_handle =
     option_map_or (λ id. option_map_or (λ handle. by_handle id handle) (row_of v.handles id) (fails_with InvalidHandle)) (handle_of v client number) (fails_with InvalidHandle)
@@ -74,7 +74,7 @@ lacks handle right = not (has_any handle.access right)
 abbrev pub lacks_both : Handle → ℕ → ℕ → Bool
 lacks_both handle one other = not (has_any handle.access one || has_any handle.access other)
 
--- the file by whose link it was opened; the root is file 1, and its link 0
+-- the file of the handle's link; link 0 is that of the root, file 1
 abbrev pub file_by : Volume → Handle → ℕ
 file_by v handle = if handle.link == 0 then 1 else linked_file v handle.link
 
@@ -136,8 +136,8 @@ abbrev pub is_other_open : Volume → ℕ → Handle → ℕ → Bool
 is_other_open v id handle stream =
     list_any (λ entry. option_map_or (λ on. on == stream) entry.1.stream false && not (is_same_key entry.0 entry.1.key (Some id) handle.key)) v.handles
 
--- no break of an oplock on the stream is in progress; where no write caching is asked for, no range is locked, and where it is, no handle of
--- another key is open; no oplock of another key has write caching; and none of the same key has something that isn't asked for
+-- no break of an oplock on the stream is in progress; for a level without W no range is locked, for one with W no handle of another key is open;
+-- no oplock of another key has W; and none of the same key has something that isn't asked for
 abbrev pub checks_of_oplock : Volume → ℕ → Handle → Level → List Check
 checks_of_oplock v id handle level =
     checks_on_stream handle InvalidParameter
@@ -217,7 +217,7 @@ checks_of_query_info handle kind room =
 abbrev pub is_time : ℕ → Bool
 is_time time = nat_lt time (2 ^ 63) || time == 2 ^ 64 - 1 || time == 2 ^ 64 - 2
 
--- WRITE_ATTRIBUTES; the times are such; attributes have no unknown bit; and DIRECTORY isn't asked of a file
+-- WRITE_ATTRIBUTES; each time passes `is_time`; attributes have no unknown bit; and DIRECTORY isn't asked of a file
 abbrev pub checks_of_set_basic : Volume → Handle → ℕ → ℕ → ℕ → ℕ → ℕ → List Check
 checks_of_set_basic v handle creation access write change attributes =
     (lacks handle WRITE_ATTRIBUTES, with_status AccessDenied)
@@ -284,7 +284,7 @@ checks_of_delete_reparse v handle tag =
 -- ---- all of them
 
 -- those of each request of a client; opens, renames and links have lists of their own. Only who has SID 0 sets a limit; what is cancelled is a
--- pending call of the client; and a query of a quota has none
+-- pending call of the client; and a query of a quota has none of its own
 abbrev pub checks_asked : Volume → ℕ → Request → Option (List Check)
 checks_asked v client (request.Create path wanted share disposition options attributes key) = None
 checks_asked v client (request.Close number) = Some (checks_by_handle v client number (λ id handle. []))
@@ -312,7 +312,7 @@ checks_asked v client (request.DeleteReparse number tag) = Some (checks_by_handl
 checks_asked v client (request.SetQuota sid limit) = Some ((not (has_sid (sids_of v client) 0), with_status AccessDenied) ∷ [])
 checks_asked v client (request.QueryQuota sid) = Some []
 
--- those of each call: what is waited for has ended or is pending; a tick and a leaving have none
+-- those of each call: what is waited for has ended or is pending; a tick and a leaving have none of their own
 abbrev pub checks_of_call : Volume → ℕ → What → Option (List Check)
 checks_of_call v client (Ask request) = checks_asked v client request
 checks_of_call v client (Tick ticks) = Some []
@@ -321,21 +321,21 @@ checks_of_call v client Leave = Some []
 
 -- ---- what there is behind them
 
--- the client's handle of this number passes; and so does the point of its file, if it has one
+-- the client's handle of this number passes; and its file has a point, which passes
 abbrev pub by_number : Volume → ℕ → ℕ → (Handle → Bool) → Bool
 by_number v client number test = option_map_or test (handle_numbered v client number) false
 
 abbrev pub by_point : Volume → ℕ → ℕ → (ℕ × List ℕ → Bool) → Bool
 by_point v client number test = by_number v client number (λ handle. option_map_or test (point_by v handle) false)
 
--- the stream of the client's handle of this number may be so long, or else why it can't
+-- the status is SUCCESS where the stream of the client's handle of this number may be so long, else why it may not
 abbrev pub is_growth_status : Volume → ℕ → ℕ → ℕ → Status → Bool
 is_growth_status v client number end status =
     by_number v client number (λ handle. option_map_or (λ stream. status_code (unwrap_or (growth_fault v stream end) Success) == status_code status) handle.stream false)
 
--- a listing begins anew: it is asked to, or by the handle nothing was listed yet
-abbrev pub begins_anew : Handle → Bool → Bool
-begins_anew handle restart = restart || option_map_or (λ kept. is_start kept.1) handle.enumeration true
+-- a listing is restarted, or the handle's enumeration stands at its start
+abbrev pub is_at_start : Handle → Bool → Bool
+is_at_start handle restart = restart || option_map_or (λ kept. is_start kept.1) handle.enumeration true
 
 -- with which statuses such a call may end behind its checks; one for an oplock never does, but stays pending
 abbrev pub may_end_behind : Volume → ℕ → What → Status → Bool
@@ -348,8 +348,8 @@ may_end_behind v client (Ask (request.SetEnd number end)) Success = is_growth_st
 may_end_behind v client (Ask (request.SetEnd number end)) QuotaExceeded = is_growth_status v client number end QuotaExceeded
 may_end_behind v client (Ask (request.SetEnd number end)) DiskFull = is_growth_status v client number end DiskFull
 may_end_behind v client (Ask (request.Lock number at count exclusive wait)) LockNotGranted = not wait
-may_end_behind v client (Ask (request.QueryDir number kind expression restart room)) NoSuchFile = by_number v client number (λ handle. begins_anew handle restart)
-may_end_behind v client (Ask (request.QueryDir number kind expression restart room)) NoMoreFiles = by_number v client number (λ handle. not (begins_anew handle restart))
+may_end_behind v client (Ask (request.QueryDir number kind expression restart room)) NoSuchFile = by_number v client number (λ handle. is_at_start handle restart)
+may_end_behind v client (Ask (request.QueryDir number kind expression restart room)) NoMoreFiles = by_number v client number (λ handle. not (is_at_start handle restart))
 may_end_behind v client (Ask (request.QueryDir number kind expression restart room)) BufferOverflow = true
 may_end_behind v client (Ask (request.QueryInfo number Streams room)) BufferOverflow = by_number v client number (λ handle. is_some handle.stream)
 may_end_behind v client (Ask (request.Notify number filter tree room)) NotifyEnumDir = true
@@ -368,7 +368,7 @@ may_be_held (Ask (request.Lock number at count exclusive wait)) = true
 may_be_held (Ask (request.SetDisposition number delete)) = delete
 may_be_held _ = false
 
--- which may stay pending otherwise: an oplock that is granted, or of which something with R is kept, a watch to which nothing is due, a wait
+-- which may stay pending otherwise: a request for an oplock, an acknowledgement of a level with R, a watch, a wait
 abbrev pub may_stay : What → Bool
 may_stay (Ask (request.Oplock number level)) = true
 may_stay (Ask (request.Ack number level)) = has_read level
@@ -384,14 +384,13 @@ ComesBehind v client what (Stay next interim) = may_stay what ≡ true
 
 -- ---- how a call ends
 
--- a call came to this, of which this is the reply of the first check that fails, if one does: it has ended with that, whose status there isn't
--- behind the checks, and the volume is as it was; or it came to what there is behind the checks
+-- what a call came to, by the reply of its first failing check: where there is one, it ended with that, its status is none of those behind the
+-- checks, and the volume is as it was; else it came to what there is behind them
 abbrev pub ComesToFirst : Volume → ℕ → What → Option Reply → Outcome → Type 0
 ComesToFirst v client what (Some reply) outcome = (outcome ≡ Done v reply) × (may_end_behind v client what reply.status ≡ false)
 ComesToFirst v client what None outcome = ComesBehind v client what outcome
 
--- a try of this call came to this; where the call has a list here, that is what its checks say, of which the first is that its client hasn't
--- left
+-- a try of this call came to this; where the call has a list here, that is what the list says, behind a first check that its client hasn't left
 abbrev pub CallEndsByChecks : Volume → Call → Outcome → Type 0
 CallEndsByChecks v call outcome =
     (checks : List Check) → checks_of_call v call.client call.what ≡ Some checks

@@ -1,11 +1,10 @@
--- The checks and breaks of a rename and of a link, in their order, and that each try of one comes to what they say. The first check that
--- fails ends it, with its reply and nothing changed; breaks for which it has to wait hold it; where no check fails, and nothing is to be
--- waited for, it succeeds. Where it isn't held it leaves all oplocks as it found them: a break by class NameChange that it needn't wait for
--- changes nothing. Comments say what has to hold; a table has when it doesn't. Paths, walks, access lists, sets of handles and their breaks
--- are as in `Paths`, `Walk`, `Open`, `Lookups`, `Waits` and `Breaks`; what one that succeeds does to the tree stands in `TreeChanges`. After
--- [MS-FSA] 'Server Requests Setting of File Information', FileRenameInformation and FileLinkInformation. This project's own are the order
--- of the checks, the rule by which oplocks are broken and waited for, that a client leaves, that a directory replaces nothing, and that
--- 1,024 links are the most.
+-- The checks and breaks of a rename and of a link, in their order, and that each try of one comes to what they say. The first step that fails or
+-- has to wait decides: a check that fails ends it, with its reply and nothing changed; breaks that it has to wait for hold it; where there is
+-- neither, it succeeds. Where it isn't held it leaves all oplocks as it found them: a break by class NameChange that it needn't wait for changes
+-- nothing. Comments say what has to hold, tables when it fails. Paths, walks, access lists, sets of handles and their breaks are as in `Paths`,
+-- `Walk`, `Open`, `Lookups`, `Waits` and `Breaks`; what one that succeeds does to the tree stands in `TreeChanges`. After [MS-FSA] 'Server
+-- Requests Setting of File Information', FileRenameInformation and FileLinkInformation. This project's own are the order of the checks, the rule
+-- by which oplocks are broken and waited for, that a directory replaces nothing, that 1,024 links are the most, and `leave`.
 use Rattle.std.specs.Option.{option_map_or}
 use Rattle.std.specs.Prelude.{◌≡◌, ◌==◌, ◌&&◌, ◌||◌, not, ℕ, Bool, true, false, List, [], ◌∷◌, ◌++◌, length, All, Option, Some, None, is_some, nat_le, option_and_then, if◌then◌else◌}
 use Rattle.fsa_types.specs.Access.{has_any}
@@ -37,7 +36,7 @@ use Rattle.history_laws.specs.OplockChanges.{handle_numbered}
 
 -- ---- steps
 
--- a check, whether it fails, and the reply then; or the breaks, by class NameChange, of the oplocks of other keys on such handles
+-- a check: whether it fails, and its reply then; or breaks, by class NameChange, of oplocks of other keys on these handles
 pub data Step : Type 0 where
   Fails : Bool → Reply → Step
   Breaks : HandleSet → Step
@@ -47,8 +46,8 @@ abbrev pub SucceedsWithoutBreaks : Volume → Outcome → Type 0
 SucceedsWithoutBreaks v (Done next reply) = (reply ≡ with_status Success) × (next.oplocks ≡ v.oplocks)
 SucceedsWithoutBreaks v _ = ⊥
 
--- a request by this handle, if it is found, and with its key, of these steps, came to this: it is ended by the first check that fails, with
--- the volume as it was, or held by the first breaks for which it has to wait; or it has succeeded
+-- what a request of these steps, by this handle (if there is one) and its key, came to, by the first of these: a check that fails ended it, with
+-- the volume as it was; breaks that it has to wait for hold it; or else it has succeeded
 abbrev pub EndsBySteps : Volume → Option ℕ → ℕ → List Step → Outcome → Type 0
 EndsBySteps v acting key [] outcome = SucceedsWithoutBreaks v outcome
 EndsBySteps v acting key (Fails fails reply ∷ more) outcome = (fails ≡ true → outcome ≡ Done v reply) × (fails ≡ false → EndsBySteps v acting key more outcome)
@@ -129,8 +128,8 @@ steps_of_rename v handle path replace =
 
 -- ---- a link
 
--- In this directory: it grants WRITE_DATA; a link there of the file itself needs that a replacement is asked for, and stays; another file's
--- may go
+-- In this directory: it grants WRITE_DATA; where the name is a link of the same file, a replacement is asked for (the link stays); another file's
+-- link may go
 abbrev pub steps_of_linking : Volume → Handle → Bool → List ℕ → ℕ → List Step
 steps_of_linking v handle replace name dir =
     Fails (not (grants v dir handle.client WRITE_DATA)) (with_status AccessDenied)

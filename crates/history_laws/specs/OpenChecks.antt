@@ -1,11 +1,11 @@
 -- The checks of an open, in their order, and that each try of an open ends as they say: by the first that fails, with its reply and nothing
--- changed; where none fails, with SUCCESS, OPLOCK_BREAK_IN_PROGRESS or SHARING_VIOLATION, or held. Comments say what has to hold; a table
--- has when it doesn't, and how the open ends then. What a path has as its components and stream part, which names are the same, how a path
--- is walked, and what an access list grants is as in `Paths`, `Lookups`, `Walk` and `Open`. Handles and breaks in the way of an open aren't
--- spoken of here, but in `EndsAsFound`, `OplockChanges` and `WhyPending`. After [MS-FSA] 'Server Requests an Open of a File', 'Creation of a
--- New File', 'Open of an Existing File' and 'Algorithm to Check Access to an Existing File'. This project's own are the order of the
--- checks, which options and attributes there are, that a client leaves, that a stream part excludes DIRECTORY_FILE, that a stream part or
--- an overwrite is of a file alone, that a new named stream asks for WRITE_DATA, and that the root can't be deleted.
+-- changed; where none fails, with SUCCESS, OPLOCK_BREAK_IN_PROGRESS or SHARING_VIOLATION, or held. Comments say what has to hold, tables when it
+-- fails, and how the open ends then. What a path has as its faults, components, rest and stream part, what generic rights stand for, which names
+-- are the same, how a path is walked, and what an access list grants is as in `Paths`, `Access`, `Lookups`, `Walk` and `Open`. Handles and breaks
+-- in the way of an open aren't spoken of here, but in `EndsAsFound`, `OplockChanges` and `WhyPending`. After [MS-FSA] 'Server Requests an Open of
+-- a File', 'Creation of a New File', 'Open of an Existing File' and 'Algorithm to Check Access to an Existing File'. This project's own are the
+-- order of the checks, which options and attributes there are, that a stream part excludes DIRECTORY_FILE, that a stream part or an overwrite is
+-- of a file alone, that a new named stream asks for WRITE_DATA, that the root can't be deleted, and `leave`, which the standard doesn't have.
 use Rattle.std.specs.Int.RustNames.{bit_or}
 use Rattle.std.specs.Option.{option_map_or}
 use Rattle.std.specs.Prelude.{◌≡◌, ◌==◌, ◌&&◌, ◌||◌, not, ℕ, Bool, true, false, List, [], ◌∷◌, ◌++◌, length, All, Option, Some, None, is_some, unwrap_or, if◌then◌else◌}
@@ -47,8 +47,8 @@ abbrev pub first_failing : List Check → Option Reply
 first_failing [] = None
 first_failing (check ∷ more) = if check.0 then Some check.1 else first_failing more
 
--- a reparse point stops an open, as a symbolic link or as another, and is told with what is left of the path; a file without one has no
--- such reply
+-- a reparse point stops an open, as a symbolic link or as another, and is told with what is left of the path; without one it would be
+-- OBJECT_PATH_NOT_FOUND, but no check asks that
 abbrev pub stopped_by : Option (ℕ × List ℕ) → List ℕ → Reply
 stopped_by point rest =
     option_map_or (λ told. record { status = if told.0 == IO_REPARSE_TAG_SYMLINK then StoppedOnSymlink else Reparse; body = Stopped told.0 told.1 rest }) point
@@ -56,7 +56,7 @@ stopped_by point rest =
 
 -- ---- what is asked for
 
--- the right to what a disposition does to a stream that is there
+-- the right that a disposition needs to overwrite a stream
 abbrev pub overwriting_right : Disposition → ℕ
 overwriting_right Supersede = DELETE
 overwriting_right OpenExisting = 0
@@ -93,7 +93,7 @@ has_stream_part asked = is_some (stream_part asked.path)
 abbrev pub is_for_named : Asked → Bool
 is_for_named asked = option_map_or (λ name. not (length name == 0)) (stream_part asked.path) false
 
--- HIDDEN or SYSTEM, one that the file has, isn't asked for
+-- the file has HIDDEN or SYSTEM, and that one isn't asked for
 abbrev pub lacks_hiding : ℕ → ℕ → Bool
 lacks_hiding kept asked = (has_any kept HIDDEN && not (has_any asked HIDDEN)) || (has_any kept SYSTEM && not (has_any asked SYSTEM))
 
@@ -103,8 +103,8 @@ is_read_only v file = has_any (attributes_of v file) READONLY
 
 -- ---- the checks of each place
 
--- Before the walk: the client hasn't left; share, options and attributes have no unknown bit, and options exclude neither each other nor
--- the disposition; some right is wanted, and none that is unknown; DELETE, with DELETE_ON_CLOSE; the path has no fault and, with
+-- Before the walk: the client hasn't left; share, options and attributes have no unknown bit, and options exclude neither each other nor the
+-- disposition; some right is wanted, and none that is unknown; DELETE is wanted where DELETE_ON_CLOSE is asked; the path has no fault and, with
 -- DIRECTORY_FILE, no stream part, not even `::$DATA`
 abbrev pub checks_of_request : Volume → Asked → List Check
 checks_of_request v asked =
@@ -174,7 +174,7 @@ checks_of_found v asked link file =
     ∷ (if is_directory v.files file then checks_of_directory v asked link file
     else option_map_or (λ stream. checks_of_stream v asked file stream) (stream_of v file (unwrap_or (stream_part asked.path) [])) (checks_of_new_stream v asked file))
 
--- A name that is there: it isn't marked, and then those of what it names; a link that is found has a row
+-- A name that is there: it isn't marked, and then those of what it names (each has a row, as the tree is sound)
 abbrev pub checks_of_link : Volume → Asked → ℕ → List Check
 checks_of_link v asked link =
     option_map_or (λ row. (row.deleted, with_status DeletePending) ∷ checks_of_found v asked link row.file) (row_of v.links link)
@@ -208,8 +208,8 @@ IsBehindThem (Done next reply) = is_behind_checks reply.status ≡ true
 IsBehindThem (Hold next blockers interim) = Unit {0}
 IsBehindThem (Stay next interim) = ⊥
 
--- an open came to this, of which this is the reply of the first check that fails, if one does: it has ended with that, which has none of
--- the statuses behind the checks, and the volume is as it was; or it came to what there is behind them
+-- what an open came to, by the reply of its first failing check: where there is one, it ended with that, its status is none of those behind the
+-- checks, and the volume is as it was; else it came to what there is behind them
 abbrev pub EndsBy : Volume → Option Reply → Outcome → Type 0
 EndsBy v (Some reply) outcome = (outcome ≡ Done v reply) × (is_behind_checks reply.status ≡ false)
 EndsBy v None outcome = IsBehindThem outcome

@@ -279,45 +279,47 @@ pub fn opens_tell_what_they_did()
     ensures told { (setup : Setup) (history : List HistoryEntry) → OpensTellWhatTheyDid setup history }
 {}
 
-/// In each try of every history a call but an open, a rename and a link, which have laws of their own, is ended by the first of its checks
-/// that fails (`checks_of_call`, in their order), with its status and nothing changed. Where none fails it ends with another status, of
-/// those that there are behind the checks of such a call (`may_end_behind`), or is held or stays pending, as such a call may (`may_be_held`,
-/// `may_stay`). Behind its checks a new length ends by whether the stream may be so long, and a query of a reparse point by whether its
-/// buffer has room; of most others, without a break or a lock in their way, there is only SUCCESS. The checks are of the client, that it
-/// hasn't left, and of the handle, that it is there; then, as the request has it, of what the handle is on, the rights that it was granted,
-/// the ranges, buffers, masks and times that are asked, marks, links and points that are there, and limits.
+/// In each try of every history a call but an open, a rename and a link, which have laws of their own, is ended by the first of its
+/// checks that fails (`checks_of_call`, in their order), with its status and nothing changed. Where none fails it ends with another
+/// status, of those that there are behind the checks of such a call (`may_end_behind`), or is held or stays pending, as such a call may
+/// (`may_be_held`, `may_stay`). Behind its checks a new length ends by whether the stream may be so long, and a query of a reparse point
+/// by whether its buffer has room; most others, with no break or lock in the way, can only end SUCCESS. The checks are of the client,
+/// that it hasn't left, and of the handle, where the call names one, that it is there; then, as the request has it, of what the handle is
+/// on, the rights that it was granted, the ranges, buffers, masks and times that are asked, marks, links, points, locks, oplocks and
+/// calls that are there, attributes, SIDs, and limits.
 pub fn calls_end_as_their_checks_say()
     ensures checked { (setup : Setup) (history : List HistoryEntry) → CallsEndByChecks setup history }
 {}
 
 /// In each try of every history an open is ended by the first of its checks that fails (`checks_of`, in their order), with its reply and
-/// nothing changed; where none fails it ends SUCCESS, OPLOCK_BREAK_IN_PROGRESS or SHARING_VIOLATION, or is held. The checks are: the client
-/// hasn't left; share, options and attributes have no unknown bit, and options exclude neither each other nor the disposition; some right
-/// is wanted, and none that is unknown; DELETE, with DELETE_ON_CLOSE; the path has no fault, nor a stream part with DIRECTORY_FILE, and is
-/// neither barred nor stopped by a reparse point on the way. Of a last name that is missing: the disposition makes it; READONLY isn't asked
-/// for with DELETE_ON_CLOSE; its directory grants WRITE_DATA for a file, APPEND_DATA for a directory. Of one that is there, or the root: it
-/// isn't marked; it has no reparse point, or OPEN_REPARSE_POINT is asked for; the disposition isn't `create`, but for a named stream;
-/// DIRECTORY_FILE asks for no file, and NON_DIRECTORY_FILE, a stream part or an overwrite for no directory; a named stream isn't marked, and
-/// is there or missing as the disposition has it; owner and access list grant what is wanted, with DELETE where `supersede` meets a stream
-/// that is there, and WRITE_DATA for another overwrite or a named stream that is made; a READONLY file isn't opened with WRITE_DATA or
-/// APPEND_DATA, overwritten, or given a named stream; DELETE_ON_CLOSE is asked neither of the root nor of what is READONLY; and an overwrite
-/// asks for each of HIDDEN and SYSTEM that the file has. Of handles and breaks in its way nothing is said here.
+/// nothing changed; where none fails it ends SUCCESS, OPLOCK_BREAK_IN_PROGRESS or SHARING_VIOLATION, or is held. The checks are: the
+/// client hasn't left; share, options and attributes have no unknown bit, and options exclude neither each other nor the disposition;
+/// some right is wanted, and none that is unknown; DELETE is wanted where DELETE_ON_CLOSE is asked; the path has no fault, nor a stream
+/// part with DIRECTORY_FILE, and is neither barred nor stopped by a reparse point on the way. Of a last name that is missing: the
+/// disposition makes it; READONLY isn't asked for with DELETE_ON_CLOSE; its directory grants WRITE_DATA for a file, APPEND_DATA for a
+/// directory. Of one that is there, or the root: it isn't marked; it has no reparse point, or OPEN_REPARSE_POINT is asked for; the
+/// disposition isn't `create`, but for a named stream; it is no file with DIRECTORY_FILE, and no directory with NON_DIRECTORY_FILE, a
+/// stream part or an overwrite; a named stream isn't marked, and is there or missing as the disposition has it; owner and access list
+/// grant what is wanted, with DELETE where `supersede` meets a stream that is there, and WRITE_DATA for another overwrite or a named
+/// stream that is made; a READONLY file isn't opened with WRITE_DATA or APPEND_DATA, overwritten, or given a named stream;
+/// DELETE_ON_CLOSE is asked neither of the root nor of what is READONLY; and an overwrite asks for each of HIDDEN and SYSTEM that the
+/// file has. Of handles and breaks in its way nothing is said here.
 pub fn opens_end_as_their_checks_say()
     ensures checked { (setup : Setup) (history : List HistoryEntry) → OpensEndByChecks setup history }
 {}
 
-/// In each try of every history a rename and a link come to what their steps say (`steps_of_rename`, `steps_of_link`, in their order): the
-/// first check that fails ends them, with its reply and nothing changed; the first breaks for which they have to wait hold them; and where
-/// there are neither, they end SUCCESS and leave oplocks as they were. The checks of both are that the client hasn't left and has the
-/// handle; that the handle's link isn't marked; that the path has no fault, isn't the root's, has no stream part, and is neither barred nor
-/// stopped by a reparse point on the way; and where another file's link has the name or, of a rename, another link, that it isn't marked,
-/// that a replacement is asked for, that neither its file nor the handle's is a directory, that its file isn't READONLY and grants DELETE,
-/// and behind the breaks of oplocks on handles opened by it, that none of these is open. A rename asks too that the handle is neither the
-/// root's nor on a named stream, and has DELETE; that a directory goes neither into itself nor below itself and, behind the breaks below it,
-/// that no handle below it is open; and that another directory grants WRITE_DATA for a file and APPEND_DATA for a directory; last come the
-/// breaks of oplocks on handles opened by the renamed link. A link asks too that the handle is on the default stream of a file, which has
-/// fewer than 1,024 links, and that the directory grants WRITE_DATA; of a link of the file itself that has the name, only that a replacement
-/// is asked for.
+/// In each try of every history a rename and a link come to what their steps say (`steps_of_rename`, `steps_of_link`, in their order),
+/// whichever comes first: a check that fails ends them, with its reply and nothing changed; breaks for which they have to wait hold them;
+/// and where there are neither, they end SUCCESS and leave oplocks as they were. The checks of both are that the client hasn't left and
+/// has the handle; that the handle's link isn't marked; that the path has no fault, isn't the root's, has no stream part, and is neither
+/// barred nor stopped by a reparse point on the way; and of another link with the name (for a link, another file's): that it isn't
+/// marked, that a replacement is asked for, that neither its file nor the handle's is a directory, that its file isn't READONLY and
+/// grants DELETE, and behind the breaks of oplocks on handles opened by it, that none of these is open. A rename asks too that the handle
+/// is neither the root's nor on a named stream, and has DELETE; that a directory goes neither into itself nor below itself and, behind
+/// the breaks below it, that no handle below it is open; and that another directory grants WRITE_DATA for a file and APPEND_DATA for a
+/// directory; last come the breaks of oplocks on handles opened by the renamed link. A link asks too that the handle is on the default
+/// stream of a file, which has fewer than 1,024 links, and that the directory grants WRITE_DATA; of a link of the file itself that has
+/// the name, only that a replacement is asked for.
 pub fn renames_and_links_end_as_their_steps_say()
     ensures ended { (setup : Setup) (history : List HistoryEntry) → NamingsEndBySteps setup history }
 {}
