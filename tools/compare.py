@@ -14,7 +14,8 @@ Not compared are times, numbers of files, allocated bytes, the length of a direc
 point prints. Waits, ticks and leavings are the program's own, and aren't put to the server. Over SMB2 an open asks for its
 level itself, so an `oplock` is put with its `create`, and only where nothing but waits and ticks stands between the end of that
 and it. A key is another lease for each path, and FILE_CLOSED and UNSUCCESSFUL stand for INVALID_HANDLE and, of an `ack`,
-INVALID_OPLOCK_PROTOCOL, as docs/SCRIPTS.md has it. Owners, access lists, quotas and a case table of one's own can't be put.
+INVALID_OPLOCK_PROTOCOL, as docs/SCRIPTS.md has it. A client's first SID is that of its user, so users have to differ where a
+script sets owners or access lists; another SID is one that no user has. Quotas and a case table of one's own can't be put.
 
 It needs impacket, which speaks SMB2 and NTLM (in Debian the package python3-impacket). FILE is the program, build/fsa where it
 isn't given. A request without an answer after S seconds, 0.3 where it isn't given, counts as pending.
@@ -42,7 +43,7 @@ TOP = os.path.dirname(os.path.dirname(os.path.realpath(__file__)))
 CREATE, CLOSE, FLUSH, READ, WRITE, LOCK, IOCTL, CANCEL = 5, 6, 7, 8, 9, 10, 11, 12
 QUERY_DIRECTORY, CHANGE_NOTIFY, QUERY_INFO, SET_INFO, OPLOCK_BREAK = 14, 15, 16, 17, 18
 ASYNC, SIGNED = 0x2, 0x8
-PENDING, SUCCESS, BUFFER_OVERFLOW, NOTIFY_ENUM_DIR = 0x103, 0, 0x80000005, 0x10C
+PENDING, SUCCESS, BUFFER_OVERFLOW = 0x103, 0, 0x80000005
 DIALECT = 0x210
 # [MS-SMB2] 2.2.13
 DISPOSITIONS = "supersede open create open_if overwrite overwrite_if".split()
@@ -62,7 +63,7 @@ POINTS = {"setreparse": 0x900A4, "getreparse": 0x900A8, "deletereparse": 0x900AC
 OF_SMB2 = {"FILE_CLOSED": "INVALID_HANDLE"}
 OF_AN_ACK = {"UNSUCCESSFUL": "INVALID_OPLOCK_PROTOCOL"}
 OWN = ("wait", "tick", "leave")
-NEVER = ("setsecurity", "setquota", "queryquota")
+NEVER = ("setquota", "queryquota")
 
 
 class CantPut(Exception):
@@ -160,6 +161,17 @@ class Connection:
                     break
                 message = message[following:]
 
+    def ask(self, command, body):
+        """Sends a request, and returns the status and the message of its answer."""
+        number = self.send(command, body)
+        until = time.monotonic() + 10
+        while time.monotonic() < until:
+            for it in self.receive():
+                if it[0] == number and it[3] != PENDING:
+                    return it[3], it[4]
+            time.sleep(0.001)
+        raise CantPut("the server doesn't answer")
+
 
 def create_body(path, wanted, share, disposition, options, attributes, lease=None):
     """[MS-SMB2] 2.2.13; a lease is its key and its level's bits."""
@@ -178,6 +190,25 @@ def set_body(kind, handle, data):
 def name_information(path, replaces):
     """[MS-FSCC] 2.4.21.2 and 2.4.42.2, as SMB2 has them."""
     return struct.pack("<B7xQI", replaces, 0, len(path)) + path
+
+
+def sid_bytes(authority, *values):
+    """[MS-DTYP] 2.4.2.2"""
+    return struct.pack(">BBHI", 1, len(values), 0, authority) + struct.pack(f"<{len(values)}I", *values)
+
+
+def descriptor(owner, entries_of_list):
+    """[MS-DTYP] 2.4.6: an owner, or none, and what is said of the list: nothing, that there is none, or its entries."""
+    control, owner_at, list_at, rest = 0x8000, 0, 0, b""
+    if owner is not None:
+        owner_at, rest = 20, owner
+    if entries_of_list is not None:
+        # it is said, and nothing is inherited beside it
+        control |= 0x1004
+        if entries_of_list is not False:
+            list_at = 20 + len(rest)
+            rest += struct.pack("<BBHHH", 2, 0, 8 + sum(map(len, entries_of_list)), len(entries_of_list), 0) + b"".join(entries_of_list)
+    return struct.pack("<BBHIIII", 1, 0, control, owner_at, 0, 0, list_at) + rest
 
 
 class Call:
@@ -201,6 +232,29 @@ class Server:
         # the key of the lease of each handle that has one, and the call whose end is its break
         self.keys, self.granted = {}, {}
         self.pending, self.calls, self.paths = [], {}, []
+        # the number of each client's first SID, and the user's SID as bytes
+        self.sids = {}
+
+    def learn(self, sids):
+        """Asks whose a file is that each client makes; returns nothing."""
+        for client, numbers in sids.items():
+            it = self.at[client]
+            name = f"{self.folder}\\owner".encode("utf-16-le")
+            _, message = it.ask(CREATE, create_body(name, 0x30000, 0x7, 3, 0x1000, 0))
+            handle = message[128:144]
+            _, message = it.ask(QUERY_INFO, struct.pack("<HBBIHHIII16s", 41, 3, 0, 1024, 104, 0, 0, 1, 0, handle))
+            it.ask(CLOSE, struct.pack("<HHI16s", 24, 0, 0, handle))
+            at, length = struct.unpack_from("<HI", message, 66)
+            data = message[at : at + length]
+            (owner,) = struct.unpack_from("<I", data, 4)
+            self.sids.setdefault(numbers[0], data[owner : owner + 8 + 4 * data[owner + 1]])
+            self.others = {it for numbers in sids.values() for it in numbers[1:]}
+
+    def sid(self, number):
+        """The SID of this number; one of those that a client has besides its first is no user's."""
+        if number in self.others:
+            raise CantPut("a user has one SID, and groups aren't put to a server")
+        return self.sids.get(number) or sid_bytes(5, 21, 1, 2, 3, number)
 
     # ---- what is sent
 
@@ -288,6 +342,18 @@ class Server:
             return QUERY_DIRECTORY, struct.pack("<HBBI16sHHI", 33, LAYOUTS[fields[1]][0], flags, 0, handle, 96, len(name), int(fields[4])) + name
         if verb == "notify":
             return CHANGE_NOTIFY, struct.pack("<HHI16sII", 32, fields[2] == "tree", int(fields[3]), handle, int(fields[1], 16), 0)
+        if verb == "setsecurity":
+            owner = None if fields[1] == "keep" else self.sid(int(fields[1]))
+            entries_of_list = None if fields[2] == "keep" else False
+            if fields[2].startswith("acl"):
+                entries_of_list = []
+                for it in fields[2].split(",")[1:]:
+                    sid, mask = it[1:].split(":")
+                    sid = self.sid(int(sid))
+                    entries_of_list.append(struct.pack("<BBHI", it[0] == "-", 0, 8 + len(sid), int(mask, 16)) + sid)
+            said = (0x1 if owner is not None else 0) | (0x4 if entries_of_list is not None else 0)
+            data = descriptor(owner, entries_of_list)
+            return SET_INFO, struct.pack("<HBBIHHI16s", 33, 3, 0, len(data), 96, 0, said, handle) + data
         if verb in POINTS:
             data, room = b"", 0
             if verb == "setreparse":
@@ -435,11 +501,12 @@ class Script:
         text = ran.stdout.decode("ascii", "replace").splitlines()
         if ran.returncode != 0:
             give_up(f"the program ended with status {ran.returncode}: {' '.join(text[:1])}")
-        self.clients, self.calls, self.turns = [], {}, []
+        self.clients, self.calls, self.turns, self.sids = [], {}, [], {}
         for line in data.decode("ascii").splitlines()[1:]:
             words = line.split(" ")
             if words[0] == "client" and len(words) > 2:
                 self.clients.append(words[1])
+                self.sids[words[1]] = list(map(int, words[2:]))
             elif words[0] == "table" and words[1:] != ["default"] or words[0] == "up":
                 give_up("a case table of one's own can't be put to a server")
             elif len(words) > 2:
@@ -593,6 +660,8 @@ def main():
         own = Connection(given.host, given.port, given.share, given.user)
         own.smb.mkdir(given.share, folder)
         server = Server(given, script.clients, folder)
+        if any(verb == "setsecurity" for verb, _ in script.calls.values()):
+            server.learn(script.sids)
     except (OSError, SessionError, CantPut) as why:
         give_up(why)
     try:
