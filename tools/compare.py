@@ -187,6 +187,13 @@ def set_body(kind, handle, data):
     return struct.pack("<HBBIHHI16s", 33, 1, kind, len(data), 96, 0, 0, handle) + data
 
 
+def security_body(handle, owner, entries_of_list):
+    """[MS-SMB2] 2.2.39, of an owner and an access list."""
+    said = (0x1 if owner is not None else 0) | (0x4 if entries_of_list is not None else 0)
+    data = descriptor(owner, entries_of_list)
+    return struct.pack("<HBBIHHI16s", 33, 3, 0, len(data), 96, 0, said, handle) + data
+
+
 def name_information(path, replaces):
     """[MS-FSCC] 2.4.21.2 and 2.4.42.2, as SMB2 has them."""
     return struct.pack("<B7xQI", replaces, 0, len(path)) + path
@@ -351,9 +358,7 @@ class Server:
                     sid, mask = it[1:].split(":")
                     sid = self.sid(int(sid))
                     entries_of_list.append(struct.pack("<BBHI", it[0] == "-", 0, 8 + len(sid), int(mask, 16)) + sid)
-            said = (0x1 if owner is not None else 0) | (0x4 if entries_of_list is not None else 0)
-            data = descriptor(owner, entries_of_list)
-            return SET_INFO, struct.pack("<HBBIHHI16s", 33, 3, 0, len(data), 96, 0, said, handle) + data
+            return SET_INFO, security_body(handle, owner, entries_of_list)
         if verb in POINTS:
             data, room = b"", 0
             if verb == "setreparse":
@@ -622,18 +627,29 @@ class Comparison:
         return status or (1 if self.differ else 0)
 
 
-def remove(smb, share, tree, folder):
-    """Removes a folder of the share with all that is in it."""
+def free(owners, path):
+    """Takes the access list of what is there away, by whichever user may."""
+    for it in owners:
+        status, message = it.ask(CREATE, create_body(path.encode("utf-16-le"), 0x40000, 0x7, 1, 0, 0))
+        if status == SUCCESS:
+            it.ask(SET_INFO, security_body(message[128:144], None, False))
+            it.ask(CLOSE, struct.pack("<HHI16s", 24, 0, 0, message[128:144]))
+            return
+
+
+def remove(smb, share, tree, folder, owners):
+    """Removes a folder of the share with all that is in it, by the help of those that may own something in it."""
     for it in smb.listPath(share, f"{folder}\\*"):
         name = f"{folder}\\{it.get_longname()}"
         if it.get_longname() in (".", ".."):
             continue
+        free(owners, name)
         if it.is_readonly():
             handle = smb.create(tree, name, 0x100, 0x7, 0, 1, 0)
             smb.setInfo(tree, handle, struct.pack("<QQQQII", 0, 0, 0, 0, 0x80, 0), fileInfoClass=BASIC)
             smb.close(tree, handle)
         if it.is_directory():
-            remove(smb, share, tree, name)
+            remove(smb, share, tree, name, owners)
         else:
             smb.remove(share, name)
     smb.rmdir(share, folder)
@@ -660,7 +676,8 @@ def main():
         own = Connection(given.host, given.port, given.share, given.user)
         own.smb.mkdir(given.share, folder)
         server = Server(given, script.clients, folder)
-        if any(verb == "setsecurity" for verb, _ in script.calls.values()):
+        sets_security = any(verb == "setsecurity" for verb, _ in script.calls.values())
+        if sets_security:
             server.learn(script.sids)
     except (OSError, SessionError, CantPut) as why:
         give_up(why)
@@ -672,8 +689,9 @@ def main():
         # the server closes what its connections had open
         time.sleep(0.1)
         try:
-            remove(own.smb, given.share, own.tree, folder)
-        except (OSError, SessionError) as why:
+            users = {given.user, *(it.split("=", 1)[1] for it in given.users)} if sets_security else ()
+            remove(own.smb, given.share, own.tree, folder, [Connection(given.host, given.port, given.share, it) for it in users])
+        except (OSError, SessionError, CantPut) as why:
             print(f"compare: the folder {folder} couldn't be removed: {why}", file=sys.stderr)
     sys.exit(status)
 
