@@ -469,10 +469,17 @@ class Server:
     def level(self, client, handle, number):
         """What the server says to the `oplock` of a handle whose open asked for the level."""
         call = self.calls[client, handle]
+        if (client, handle) not in self.handles:
+            return "INVALID_HANDLE"
         if not call.level:
             return "OPLOCK_NOT_GRANTED"
         self.granted[client, call.lease[0]] = number
         return f"PENDING granted {level_of(call.level)}"
+
+
+def is_held(answer):
+    """Whether a call is pending whose end is its own answer, and not the notice of a break."""
+    return answer.startswith("PENDING") and "granted" not in answer
 
 
 def comparable(verb, fields, answer):
@@ -509,13 +516,13 @@ class Script:
         self.clients, self.calls, self.turns, self.sids = [], {}, [], {}
         for line in data.decode("ascii").splitlines()[1:]:
             words = line.split(" ")
-            if words[0] == "client" and len(words) > 2:
+            if words[0] == "client":
                 self.clients.append(words[1])
                 self.sids[words[1]] = list(map(int, words[2:]))
-            elif words[0] == "table" and words[1:] != ["default"] or words[0] == "up":
-                give_up("a case table of one's own can't be put to a server")
-            elif len(words) > 2:
+            elif self.clients:
                 self.calls[words[0], int(words[1])] = words[2], words[3:]
+            elif words != ["table", "default"]:
+                give_up("a case table of one's own can't be put to a server")
         for line in text[:-1]:
             words = line.split(" ", 2)
             if words[0] == ">":
@@ -560,51 +567,61 @@ class Comparison:
             self.differ += 1
             print(f"{line}\n  server: {there or 'nothing'}")
 
-    def turn(self, place):
-        """One turn; what can't be put is an error."""
-        client, number, lines = self.script.turns[place]
-        verb, fields = self.script.call(client, number)
-        wanted = {}
-        for who, at, answer in lines:
-            its = self.script.call(who, at)
-            if its[0] not in OWN and not (its[0] == "cancel" and (who, at) == (client, number)):
-                wanted.setdefault((who, at), []).append(comparable(*its, answer))
+    def expected(self, client, number, lines):
+        """What the program answered in this turn, as far as it can be compared, by the client and the number of each call."""
         found = {}
-        awaited = None
+        for who, at, answer in lines:
+            verb, fields = self.script.call(who, at)
+            # a CANCEL has no answer of its own
+            if verb not in OWN and (verb, who, at) != ("cancel", client, number):
+                found.setdefault((who, at), []).append(comparable(verb, fields, answer))
+        return found
+
+    def put(self, place, client, number, verb, fields):
+        """Puts a turn's call to the server: what is answered at once, by client and number, and the request that is awaited."""
+        if verb in OWN:
+            return {}, None
         if verb == "oplock" and (client, int(fields[0])) in self.levels:
             self.levels.remove((client, int(fields[0])))
-            found[client, number] = [self.server.level(client, int(fields[0]), number)]
-        elif verb not in OWN:
-            level = self.script.level_behind(place) if verb == "create" else None
-            if level:
-                self.levels.add((client, number))
-            awaited = self.server.put(client, number, verb, fields, level)
-        until = time.monotonic() + self.arguments.patience
-        quiet = False
+            return {(client, number): [self.server.level(client, int(fields[0]), number)]}, None
+        level = self.script.level_behind(place) if verb == "create" else None
+        if level:
+            self.levels.add((client, number))
+        return {}, self.server.put(client, number, verb, fields, level)
+
+    def listen(self, wanted, found, awaited):
+        """Adds to what is found what the server answers until all that is wanted has come, or for as long as it has patience."""
+        patience = self.arguments.patience
+        until = time.monotonic() + patience
+        ends = {it: len([answer for answer in answers if not is_held(answer)]) for it, answers in wanted.items()}
+        may_pend = awaited is not None and any(map(is_held, wanted.get((awaited.client, awaited.number), [])))
+        has_all = False
         while True:
             for who, at, answer in self.server.collect():
                 found.setdefault((who, at), []).append(answer)
-            is_over = all(len(found.get(it, [])) >= len([x for x in wanted[it] if not x.startswith("PENDING") or "granted" in x]) for it in wanted)
-            is_pending = any(x.startswith("PENDING") and "granted" not in x for x in wanted.get((client, number), []))
-            is_answered = awaited is None or awaited not in self.server.pending
             now = time.monotonic()
             if now >= until:
-                break
-            if is_over and (is_answered or is_pending) and not quiet:
-                # nothing more is awaited; what the server does besides comes soon
-                until, quiet = min(until, now + (self.arguments.patience / 3 if self.server.pending or self.server.granted else 0)), True
-                continue
-            time.sleep(0.001)
+                return
+            is_answered = awaited is None or awaited not in self.server.pending
+            if not has_all and (is_answered or may_pend) and all(len(found.get(it, [])) >= ends[it] for it in ends):
+                # what the server does besides comes soon, if anything can
+                has_all, until = True, min(until, now + (patience / 3 if self.server.pending or self.server.granted else 0))
+            else:
+                time.sleep(0.001)
+
+    def turn(self, place):
+        """One turn. A call that can't be put is an error."""
+        client, number, lines = self.script.turns[place]
+        verb, fields = self.script.call(client, number)
+        wanted = self.expected(client, number, lines)
+        found, awaited = self.put(place, client, number, verb, fields)
+        self.listen(wanted, found, awaited)
         if awaited is not None and awaited in self.server.pending:
             found.setdefault((client, number), []).append("PENDING")
         for it in dict.fromkeys([*wanted, *found]):
             here, there = " and ".join(wanted.get(it, [])), " and ".join(found.get(it, []))
-            its = self.script.call(*it)[0]
-            if its in OWN:
-                continue
-            if there == "PENDING" and here.startswith("PENDING"):
-                there = here
-            self.say(*it, its, here, there)
+            # how a call waits the server doesn't say
+            self.say(*it, self.script.call(*it)[0], here, here if there == "PENDING" and is_held(here) else there)
 
     def run(self):
         """All turns, as far as they can be put; returns the status."""
