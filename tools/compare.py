@@ -70,6 +70,10 @@ class CantPut(Exception):
     """A call can't be put to the server as it stands."""
 
 
+class Silent(Exception):
+    """The server has closed a connection, or gives no answer to what the comparison itself asks."""
+
+
 def give_up(why):
     print(f"compare: {why}", file=sys.stderr)
     sys.exit(2)
@@ -147,7 +151,7 @@ class Connection:
         while select.select([self.socket], [], [], 0)[0]:
             got = self.socket.recv(1 << 20)
             if not got:
-                raise CantPut("the server has closed the connection")
+                raise Silent("the server has closed the connection")
             self.bytes += got
         while len(self.bytes) >= 4:
             (length,) = struct.unpack(">I", self.bytes[:4])
@@ -170,7 +174,7 @@ class Connection:
                 if it[0] == number and it[3] != PENDING:
                     return it[3], it[4]
             time.sleep(0.001)
-        raise CantPut("the server doesn't answer")
+        raise Silent("the server doesn't answer")
 
 
 def create_body(path, wanted, share, disposition, options, attributes, lease=None):
@@ -640,6 +644,10 @@ class Comparison:
                 if answer.startswith(("SUCCESS", "PENDING")):
                     print("  nothing behind it can be compared")
                     break
+            except Silent as why:
+                print(f"{client} {number} {verb}: {lines[0][2] if lines else ''}\n  {why}, and nothing behind it can be compared")
+                self.differ += 1
+                break
         print(f"{self.same} answers are the same, {self.differ} differ, {self.left} requests were not put to the server")
         return status or (1 if self.differ else 0)
 
@@ -696,7 +704,7 @@ def main():
         sets_security = any(verb == "setsecurity" for verb, _ in script.calls.values())
         if sets_security:
             server.learn(script.sids)
-    except (OSError, SessionError, CantPut) as why:
+    except (OSError, SessionError, Silent) as why:
         give_up(why)
     try:
         status = Comparison(given, script, server).run()
@@ -708,7 +716,7 @@ def main():
         try:
             users = {given.user, *(it.split("=", 1)[1] for it in given.users)} if sets_security else ()
             remove(own.smb, given.share, own.tree, folder, [Connection(given.host, given.port, given.share, it) for it in users])
-        except (OSError, SessionError, CantPut) as why:
+        except (OSError, SessionError, Silent) as why:
             print(f"compare: the folder {folder} couldn't be removed: {why}", file=sys.stderr)
     sys.exit(status)
 
