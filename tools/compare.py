@@ -141,7 +141,8 @@ class Server:
             path, wanted, share, disposition, options, attributes, key = fields
             if level or int(key):
                 call.lease = self.key(number, int(key), path), caching_of(level or "none")
-            request = smb2.create(self.path(path), int(wanted, 16), int(share, 16), DISPOSITIONS.index(disposition), int(options, 16), int(attributes, 16), call.lease)
+            masks = int(wanted, 16), int(share, 16), DISPOSITIONS.index(disposition), int(options, 16), int(attributes, 16)
+            request = smb2.create(self.path(path), *masks, call.lease)
         elif hasattr(self, f"put_{verb}"):
             handle, *rest = fields
             call.handle = client, int(handle)
@@ -340,10 +341,10 @@ def comparable(verb, fields, answer):
         return " ".join([words[0], *(re.sub(r"(,0x[0-9a-f]*[13579bdf][0-9a-f]),\d+$", r"\1,..", it) for it in found)])
     if verb == "query" and len(words) > 1:
         data = bytes.fromhex(words[1][1:])
-        if fields[1] == "basic":
-            return f"{words[0]} attributes {data[32:36].hex()}"
-        if fields[1] == "standard":
-            return f"{words[0]} length {data[8:16].hex()} links {data[16:20].hex()} marked {data[20:21].hex()} directory {data[21:22].hex()}"
+        if fields[1] == "basic" and len(data) >= 36:
+            return "{} attributes 0x{:x}".format(words[0], *struct.unpack_from("<I", data, 32))
+        if fields[1] == "standard" and len(data) >= 22:
+            return "{} length {}, links {}, marked {}, directory {}".format(words[0], *struct.unpack_from("<QIBB", data, 8))
         if fields[1] == "internal":
             return words[0]
         return f"{words[0]} {words[1]}"
