@@ -526,23 +526,34 @@ def remove(own, folder, owners):
 
 
 def arguments():
-    it = argparse.ArgumentParser(usage=__doc__.replace("%", "%%"), add_help=False)
+    """The words of the command, with the user of each client that one names in `of`."""
+    usage = __doc__.partition("\n")[0].replace("%", "%%")
+    it = argparse.ArgumentParser(usage=usage, add_help=False)
+    it.add_argument("--help", action="store_true")
     it.add_argument("--port", type=int, default=445)
     it.add_argument("--program", default=os.environ.get("FSA", f"{TOP}/build/fsa"))
     it.add_argument("--patience", type=float, default=0.3)
     it.add_argument("--all", action="store_true")
-    it.add_argument("host")
-    it.add_argument("share")
-    it.add_argument("user")
-    it.add_argument("users", nargs="*")
-    return it.parse_args()
+    it.add_argument("words", nargs="*")
+    given = it.parse_args()
+    if given.help:
+        print(__doc__, end="")
+        sys.exit(0)
+    if len(given.words) < 3:
+        it.error("a host, a share and a user have to be named; --help tells more")
+    given.host, given.share, given.user, *named = given.words
+    if any("=" not in word for word in named):
+        it.error("behind the first user each word is NAME=USER%PASSWORD")
+    given.of = dict(word.split("=", 1) for word in named)
+    return given
 
 
 def main():
     given = arguments()
     script = Script(given.program, sys.stdin.buffer.read())
     folder = f"fsa-{os.getpid()}-{time.time_ns()}"
-    users = dict(it.split("=", 1) for it in given.users)
+    if not set(given.of) <= set(script.clients):
+        give_up(f"the script has no client {', '.join(sorted(set(given.of) - set(script.clients)))}")
 
     def connect(user):
         return smb2.Connection(given.host, given.port, given.share, user)
@@ -550,7 +561,7 @@ def main():
     try:
         own = connect(given.user)
         own.smb.mkdir(given.share, folder)
-        server = Server({it: connect(users.get(it, given.user)) for it in script.clients}, folder)
+        server = Server({it: connect(given.of.get(it, given.user)) for it in script.clients}, folder)
         sets_security = any(verb == "setsecurity" for verb, _ in script.calls.values())
         if sets_security:
             server.learn(script.sids)
@@ -564,7 +575,7 @@ def main():
         # the server closes what its connections had open
         time.sleep(0.1)
         try:
-            remove(own, folder, [connect(it) for it in {given.user, *users.values()}] if sets_security else ())
+            remove(own, folder, [connect(it) for it in {given.user, *given.of.values()}] if sets_security else ())
         except (OSError, SessionError, smb2.Silent) as why:
             print(f"compare: the folder {folder} couldn't be removed: {why}", file=sys.stderr)
     sys.exit(status)
