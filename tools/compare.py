@@ -11,9 +11,10 @@ differs, 1 where something does, 2 where nothing could be compared, and 3 where 
 its line says why, and where the program went on from what it did, nothing behind it is compared.
 
 Not compared are times, numbers of files, allocated bytes, the length of a directory, entries `.` and `..`, and what a reparse
-point prints. Waits, ticks and leavings are the program's own, and aren't put to the server. Over SMB2 an open asks for its
-level itself, so an `oplock` is put with its `create`, and only where nothing but waits and ticks stands between the end of that
-and it. A key is another lease for each path, and FILE_CLOSED and UNSUCCESSFUL stand for INVALID_HANDLE and, of an `ack`,
+point prints. Waits, ticks and leavings are the program's own, and aren't put to the server; nor is it compared that an oplock
+ends by a close, a switch or a cancellation, for which SMB2 has no message. Over SMB2 an open asks for its level itself, so an
+`oplock` is put with its `create`, and only where nothing but waits and ticks stands between the end of that and it. A key is
+another lease for each path, and FILE_CLOSED and UNSUCCESSFUL stand for INVALID_HANDLE and, of an `ack`,
 INVALID_OPLOCK_PROTOCOL, as docs/SCRIPTS.md has it. A client's first SID is that of its user, so users have to differ where a
 script sets owners or access lists; another SID is one that no user has. Quotas and a case table of one's own can't be put.
 
@@ -53,6 +54,8 @@ OF_AN_ACK = {"UNSUCCESSFUL": "INVALID_OPLOCK_PROTOCOL"}
 OWN = ("wait", "tick", "leave")
 WITH_BYTES = ("SUCCESS", "BUFFER_OVERFLOW")
 SEPARATOR = "\\".encode("utf-16-le")
+# ends of an oplock for which SMB2 has no message
+UNTOLD = ("OPLOCK_HANDLE_CLOSED", "OPLOCK_SWITCHED_TO_NEW_HANDLE", "CANCELLED")
 # a handle that no server gives
 NO_HANDLE = struct.pack("<QQ", 2**64 - 3, 2**64 - 3)
 
@@ -109,8 +112,9 @@ class Server:
     def __init__(self, clients, folder):
         # the connection of each client, and the folder that is the script's volume
         self.clients, self.folder = clients, folder
-        # by client and number of the create: the handle, and the key of its lease where it has one
-        self.handles, self.keys = {}, {}
+        # by client and number of the create: the handle, and the key of its lease where it has one; and by handle the expression
+        # that its listing goes by
+        self.handles, self.keys, self.patterns = {}, {}, {}
         # by client and key: the call whose end tells that the lease is broken
         self.granted = {}
         self.pending, self.calls, self.paths = [], {}, []
@@ -238,7 +242,10 @@ class Server:
     def put_querydir(self, handle, layout, expression, how, room):
         pattern = units(expression)
         flags = 0 if how == "go" else smb2.REOPEN if pattern else smb2.RESTART_SCANS
-        return smb2.query_directory(handle, LAYOUTS[layout][0], flags, pattern or "*".encode("utf-16-le"), int(room))
+        kept = self.patterns.get(handle, "*".encode("utf-16-le"))
+        if pattern and (how == "restart" or handle not in self.patterns):
+            self.patterns[handle] = pattern
+        return smb2.query_directory(handle, LAYOUTS[layout][0], flags, pattern or kept, int(room))
 
     def put_notify(self, handle, mask, scope, room):
         return smb2.change_notify(handle, scope == "tree", int(mask, 16), int(room))
@@ -420,8 +427,9 @@ class Comparison:
         found = {}
         for who, at, answer in lines:
             verb, fields = self.script.call(who, at)
-            # a CANCEL has no answer of its own
-            if verb not in OWN and (verb, who, at) != ("cancel", client, number):
+            # a CANCEL has no answer of its own, and of a lease SMB2 tells breaks alone
+            is_untold = (verb, who, at) == ("cancel", client, number) or verb in ("oplock", "ack") and answer in UNTOLD
+            if verb not in OWN and not is_untold:
                 found.setdefault((who, at), []).append(comparable(verb, fields, answer))
         return found
 
@@ -525,6 +533,18 @@ def remove(own, folder, owners):
     own.smb.rmdir(own.share, folder)
 
 
+def clear(own, folder, owners):
+    """Removes the folder as soon as the server has closed what its connections had open, and says so where it can't be."""
+    for tried in range(20):
+        time.sleep(0.1)
+        try:
+            remove(own, folder, owners())
+            return
+        except (OSError, SessionError, smb2.Silent) as why:
+            if tried == 19:
+                print(f"compare: the folder {folder} couldn't be removed: {why}", file=sys.stderr)
+
+
 def arguments():
     """The words of the command, with the user of each client that one names in `of`."""
     usage = __doc__.partition("\n")[0].replace("%", "%%")
@@ -572,12 +592,7 @@ def main():
     finally:
         for it in server.clients.values():
             it.socket.close()
-        # the server closes what its connections had open
-        time.sleep(0.1)
-        try:
-            remove(own, folder, [connect(it) for it in {given.user, *given.of.values()}] if sets_security else ())
-        except (OSError, SessionError, smb2.Silent) as why:
-            print(f"compare: the folder {folder} couldn't be removed: {why}", file=sys.stderr)
+        clear(own, folder, lambda: [connect(it) for it in {given.user, *given.of.values()}] if sets_security else ())
     sys.exit(status)
 
 
