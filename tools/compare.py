@@ -10,16 +10,19 @@ line stands there. A last line counts. What comes behind a difference may differ
 differs, 1 where something does, 2 where nothing could be compared, and 3 where a request couldn't be put to the server: then
 its line says why, and where the program went on from what it did, nothing behind it is compared.
 
-Not compared are times, numbers of files, allocated bytes, the length of a directory, entries `.` and `..`, and what a reparse
-point prints. Waits, ticks and leavings are the program's own, and aren't put to the server; nor is it compared that an oplock
-ends by a close, a switch or a cancellation, for which SMB2 has no message. Over SMB2 an open asks for its level itself, so an
-`oplock` is put with its `create`, and only where nothing but waits and ticks stands between the end of that and it. A key is
-another lease for each path, and FILE_CLOSED and UNSUCCESSFUL stand for INVALID_HANDLE and, of an `ack`,
-INVALID_OPLOCK_PROTOCOL, as docs/SCRIPTS.md has it. A client's first SID is that of its user, so users have to differ where a
-script sets owners or access lists; another SID is one that no user has. Quotas and a case table of one's own can't be put.
+Not compared are times, numbers of files, allocated bytes, the length of a directory, entries `.` and `..`, and what a create
+prints that a reparse point stops. Waits, ticks and leavings are the program's own, and aren't put to the server; nor is it
+compared that an oplock ends by a close, a switch or a cancellation, for which SMB2 has no message. Over SMB2 an open asks for
+its level itself, so an `oplock` is put with its `create`, and only where nothing but waits and ticks stands between the end of
+that and it. A key is another lease for each path, and FILE_CLOSED and UNSUCCESSFUL stand for INVALID_HANDLE and, of an `ack`,
+INVALID_OPLOCK_PROTOCOL, as docs/SCRIPTS.md has it. OPLOCK_NOT_GRANTED stands for an open to which no lease was granted. A
+client's first SID is that of its user, so users have to differ where a script sets owners or access lists; a SID that no
+client has is one that no user has, and one that a client has besides its first can't be put, nor can quotas. A script with a
+case table of its own isn't put at all.
 
 It needs impacket, which speaks SMB2 and NTLM (in Debian the package python3-impacket). FILE is the program, build/fsa where it
-isn't given. A request without an answer after S seconds, 0.3 where it isn't given, counts as pending.
+isn't given. A request without an answer after S seconds, 0.3 where it isn't given, counts as pending; where the program has it
+pending, a third of that is enough.
 """
 import argparse
 import os
@@ -28,6 +31,7 @@ import struct
 import subprocess
 import sys
 import time
+import traceback
 
 try:
     from impacket.nt_errors import ERROR_MESSAGES
@@ -126,9 +130,14 @@ class Server:
         for client, (first, *others) in sids.items():
             it = self.clients[client]
             name = f"{self.folder}\\owner".encode("utf-16-le")
-            _, message = it.ask(smb2.create(name, 0x30000, 0x7, DISPOSITIONS.index("open_if"), 0x1000, 0))
+            status, message = it.ask(smb2.create(name, 0x30000, 0x7, DISPOSITIONS.index("open_if"), 0x1000, 0))
+            if status != smb2.SUCCESS:
+                raise smb2.Silent(f"the user of {client} can't make a file: {status_name(status)}")
             _, handle = smb2.created(message)
-            self.sids.setdefault(first, smb2.owner_of(it.ask(smb2.query_owner(handle))[1]))
+            status, message = it.ask(smb2.query_owner(handle))
+            if status != smb2.SUCCESS:
+                raise smb2.Silent(f"the owner of a file of {client} isn't told: {status_name(status)}")
+            self.sids.setdefault(first, smb2.owner_of(message))
             self.others.update(others)
             it.ask(smb2.close(handle))
 
@@ -157,7 +166,7 @@ class Server:
                 raise CantPut("the handle has no lease")
             request = smb2.acknowledge(self.keys[call.handle], caching_of(fields[1]))
         elif verb == "oplock":
-            raise CantPut("over SMB2 a level is asked for by the open that it is for")
+            raise CantPut("over SMB2 an open asks for its level; put the `oplock` behind its `create`, with only `wait` and `tick` between")
         else:
             raise CantPut("what it asks for isn't put to a server")
         call.sent = self.clients[client].send(request)
@@ -362,7 +371,7 @@ class Script:
     """A script's clients and calls, and the turns of its text."""
 
     def __init__(self, program, data):
-        if not os.access(program, os.X_OK):
+        if not os.path.isfile(program) or not os.access(program, os.X_OK):
             give_up(f"{program} is not there; ./fsa run < examples/first.fsa builds it, or name another one by --program")
         ran = subprocess.run([program, "run"], input=data, stdout=subprocess.PIPE)
         text = ran.stdout.decode("ascii", "replace").splitlines()
@@ -526,7 +535,10 @@ def remove(own, folder, owners):
             handle = own.smb.create(own.tree, name, 0x100, 0x7, 0, DISPOSITIONS.index("open"), 0)
             own.smb.setInfo(own.tree, handle, struct.pack("<QQQQII", 0, 0, 0, 0, 0x80, 0), fileInfoClass=smb2.BASIC)
             own.smb.close(own.tree, handle)
-        if it.is_directory():
+        # what has a reparse point may lead elsewhere
+        if it.is_directory() and it.get_attributes() & 0x400:
+            own.smb.rmdir(own.share, name)
+        elif it.is_directory():
             remove(own, name, owners)
         else:
             own.smb.remove(own.share, name)
@@ -565,36 +577,56 @@ def arguments():
     if any("=" not in word for word in named):
         it.error("behind the first user each word is NAME=USER%PASSWORD")
     given.of = dict(word.split("=", 1) for word in named)
+    if given.patience <= 0:
+        it.error("the patience is above 0")
     return given
+
+
+def connections(given, script):
+    """The comparison's own connection, and that of each client."""
+    users = [given.user, *(given.of.get(it, given.user) for it in script.clients)]
+    found = []
+    for user in users:
+        try:
+            found.append(smb2.Connection(given.host, given.port, given.share, user))
+        except (OSError, SessionError, smb2.Silent) as why:
+            give_up(f"the user {user.partition('%')[0]}: {why}")
+    return found[0], dict(zip(script.clients, found[1:]))
 
 
 def main():
     given = arguments()
     script = Script(given.program, sys.stdin.buffer.read())
-    folder = f"fsa-{os.getpid()}-{time.time_ns()}"
     if not set(given.of) <= set(script.clients):
         give_up(f"the script has no client {', '.join(sorted(set(given.of) - set(script.clients)))}")
-
-    def connect(user):
-        return smb2.Connection(given.host, given.port, given.share, user)
-
+    users = {given.of.get(it, given.user) for it in script.clients}
+    sets_security = any(verb == "setsecurity" for verb, _ in script.calls.values())
+    if sets_security and len(users) < len({sids[0] for sids in script.sids.values()}):
+        give_up("the script sets owners or access lists, so name a user for each client, NAME=USER%PASSWORD")
+    own, clients = connections(given, script)
+    folder = f"fsa-{os.getpid()}-{time.time_ns()}"
     try:
-        own = connect(given.user)
         own.smb.mkdir(given.share, folder)
-        server = Server({it: connect(given.of.get(it, given.user)) for it in script.clients}, folder)
-        sets_security = any(verb == "setsecurity" for verb, _ in script.calls.values())
+    except SessionError as why:
+        give_up(f"the folder {folder} can't be made: {why}")
+    try:
+        server = Server(clients, folder)
         if sets_security:
             server.learn(script.sids)
-    except (OSError, SessionError, smb2.Silent) as why:
-        give_up(why)
-    try:
         status = Comparison(given, script, server).run()
+    except (OSError, smb2.Silent) as why:
+        print(f"compare: {why}", file=sys.stderr)
+        status = 2
     finally:
-        for it in server.clients.values():
+        for it in clients.values():
             it.socket.close()
-        clear(own, folder, lambda: [connect(it) for it in {given.user, *given.of.values()}] if sets_security else ())
+        clear(own, folder, lambda: [smb2.Connection(given.host, given.port, given.share, it) for it in users] if sets_security else ())
     sys.exit(status)
 
 
 if __name__ == "__main__":
-    main()
+    try:
+        main()
+    except Exception:  # its own fault, which is no difference
+        traceback.print_exc()
+        sys.exit(2)
